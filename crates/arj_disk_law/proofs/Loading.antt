@@ -5,7 +5,7 @@ use Rattle.arj_disk_law.specs.Effects
 use Rattle.arj_disk_law.specs.Named.{Named}
 use Rattle.arj_disk_law.specs.Names
 use Rattle.arj_disk_law.specs.Names.{Office}
-use Rattle.arj_disk_law.specs.NamingLaws.{EntryStays, LoadsTheLast}
+use Rattle.arj_disk_law.specs.NamingLaws.{EntryStays, HoldsWrite, LoadsTheLast}
 use Rattle.arj_disk_law.specs.State.{State, Packed, Hold, decided, undecided, last, last_entry, IsExcused}
 use Rattle.arj_disk_law.specs.Words.{has}
 use Rattle.arj_disk_law.proofs.Base.{never_some, some_is}
@@ -47,6 +47,17 @@ entry_stays A (Names.Hear t i b l) w x c holds = refl
 entry_stays A (Names.KeepList h t i l) w x c holds = refl
 entry_stays A (Names.AnswerLoad t i s l g) w x c holds = refl
 
+-- and then it is the last one
+pub entry_is_last : (A : Office) → Named A → (t : ℕ) → HoldsWrite A t → A.world.disk.entry ≡ last_entry A.world.disk
+entry_is_last A c t holds = by S.entry_pend refl
+  where
+    S : State
+    S = A.world.disk
+
+    by : (o : Option Hold) → S.entry_pend ≡ o → S.entry ≡ last_entry S
+    by None e = sym (effective_none (decided S) (λ (x : Packed). x) S.entry_pend S.entry e) ∙ (let core = c.whole.core in core.effective.entry)
+    by (Some h) e = absurd (write_clears A c t holds.0 holds.1 holds.2 h e)
+
 pub loads_the_last : (A : Office) → Named A → LoadsTheLast A
 loads_the_last A c t s g holds i free held = (is_last, alone)
   where
@@ -59,12 +70,8 @@ loads_the_last A c t s g holds i free held = (is_last, alone)
     clear : (h : Hold) → S.entry_pend ≡ Some h → ⊥
     clear = write_clears A c t holds.0 holds.1 holds.2
 
-    entry : (o : Option Hold) → S.entry_pend ≡ o → S.entry ≡ last_entry S
-    entry None e = sym (effective_none (decided S) (λ (x : Packed). x) S.entry_pend S.entry e) ∙ core.effective.entry
-    entry (Some h) e = absurd (clear h e)
-
     listed : has s (last_entry S).content ≡ true
-    listed = subst (λ (e : Packed). has s e.content ≡ true) (entry S.entry_pend refl) i
+    listed = subst (λ (e : Packed). has s e.content ≡ true) (entry_is_last A c t holds) i
 
     is_last : g ≡ last S
     is_last = some_is held (sym (effective_none (decided S) Some (S.pend s) (S.held s) free) ∙ core.effective.store s listed)

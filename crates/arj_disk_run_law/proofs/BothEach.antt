@@ -129,14 +129,15 @@ with_entries hd x R S P parts kept = kept_both hd R (HaveEntries x) kept (keeps_
 
 -- ---- copies agree
 
--- both halves of the object's machine are carried through a run beside a relation that is kept, and copies agree in it
-agree_beside : (hd : Header) (x : ℕ) (R : Seen → Type 0) (P : Kinds → Office → Seen → Type 0) → Keeps hd R → KeepsPart hd x (λ M. R M × KnowsFew M) P → (es : List Asked) → length es ≤ most_events → Holds hd (CopiesAgree x) (run_all es (format hd))
-agree_beside hd x R P kept parts es short =
+-- Both halves of the object's machine are carried through a run beside a relation that is kept: so it is with whatever follows where nodes
+-- have their numbers.
+pub runs_beside : (hd : Header) (x : ℕ) (R : Seen → Type 0) (P : Kinds → Office → Seen → Type 0) → Keeps hd R → KeepsPart hd x (λ M. R M × KnowsFew M) P → (G : Seen → Type 0)
+    → ((M : Seen) → ((k : ℕ) (n : Node) → M.nodes k ≡ Some n → n.number ≡ k) → KnowsFew M → IsKeptInRun (λ N. R N × HaveEntries x N) (IsCarried P x) M → G M) → (es : List Asked) → length es ≤ most_events → Holds hd G (run_all es (format hd))
+runs_beside hd x R P kept parts G gives es short =
     let r = runs_hold hd (WhileFew (IsKeptInRun Known Q)) (few_go hd (IsKeptInRun Known Q) (all_keep hd x Known KnowsFew Q known_everywhere (gives_votes Known) (both_each hd x R KnowsFew P parts))) es in
-    let h = (r.holds.1 (scripts_few hd es short)).1 in
-    let g = h.1 in
-    let s = g.5 (kinds_of h.0) (kinds_agree h.0 g.0.begun g.1) in
-    record { sent = r.sent; stands = r.stands; holds = copies_agree x (kinds_of h.0) s.0.world (see r.sent (run_all es (format hd))) s.1.disks }
+    let few = scripts_few hd es short in
+    let w = r.holds.1 few in
+    record { sent = r.sent; stands = r.stands; holds = gives (see r.sent (run_all es (format hd))) (let s = r.stands in s.numbers) (few, w.0) w.1 }
   where
     Q : Kinds → Seen → Type 0
     Q = IsCarried P x
@@ -146,6 +147,14 @@ agree_beside hd x R P kept parts es short =
 
     known_everywhere : Keeps hd Known
     known_everywhere = with_entries hd x R (λ M. R M × KnowsFew M) P parts kept
+
+-- of these actions the kinds agree
+pub kinds_there : (R : Seen → Type 0) (Q : Kinds → Seen → Type 0) (M : Seen) (h : IsKeptInRun R Q M) → Agrees (kinds_of h.0) h.0
+kinds_there R Q M h = let g = h.1 in kinds_agree h.0 (let k = g.0 in k.begun) g.1
+
+agree_beside : (hd : Header) (x : ℕ) (R : Seen → Type 0) (P : Kinds → Office → Seen → Type 0) → Keeps hd R → KeepsPart hd x (λ M. R M × KnowsFew M) P → (es : List Asked) → length es ≤ most_events → Holds hd (CopiesAgree x) (run_all es (format hd))
+agree_beside hd x R P kept parts = runs_beside hd x R P kept parts (CopiesAgree x)
+    (λ M numbers few h. let s = h.1.5 (kinds_of h.0) (kinds_there (λ N. R N × HaveEntries x N) (IsCarried P x) M h) in copies_agree x (kinds_of h.0) s.0.world M s.1.disks)
 
 pub runs_agree : RunsAgree
 runs_agree hd x part parts es short = agree_beside hd x IsGood (λ tops A M. part tops A M ≡ true) (parts_good hd) parts es short

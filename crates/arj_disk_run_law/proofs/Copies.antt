@@ -21,7 +21,7 @@ use Rattle.arj_disk_view_law.specs.Sees.{Kinds, SeesDisks}
 use Rattle.arj_disk_view_law.specs.Stores.{SeesStore}
 use Rattle.arj_disk_view_law.proofs.ConfirmWalks.{has_listed}
 use Rattle.arj_disk_view_law.proofs.StoreSteps.{place_free}
-use Rattle.arj_disk_run_law.specs.Runs.{CopiesAgree, HasNext, HasPrepared, HasState}
+use Rattle.arj_disk_run_law.specs.Runs.{AgreesOn, CopiesAgree, HasNext, HasPrepared, HasState}
 
 -- two states that were last once, in one version, are one
 known_one : (first : Packed) (ds : List Done) (g h : Packed) → Chain first ds → KnownIn first ds g → KnownIn first ds h → g.version ≡ h.version → g ≡ h
@@ -39,12 +39,12 @@ known_one first (d ∷ ds) g h chain (inr a) (inl b) same = absurd (newer (known
     newer (inl less) = omega (arith, less, same, chain.0 h b)
     newer (inr is) = omega (arith, ap (λ (z : Packed). z.version) is, same, chain.0 h b)
 
-has_state : (x : ℕ) (last : Packed) (m : Node) (o : Option ObjectState) → held_at (object x) m.disk.store ≡ o → option_map packed o ≡ Some last → HasState x last m
+pub has_state : (x : ℕ) (last : Packed) (m : Node) (o : Option ObjectState) → held_at (object x) m.disk.store ≡ o → option_map packed o ≡ Some last → HasState x last m
 has_state x last m None is h = absurd (cc h)
 has_state x last m (Some st) is h = (st, is, (let same : packed st ≡ last = cc h in same))
 
-pub copies_agree : (x : ℕ) (tops : Kinds) (W : World) (M : Seen) → SeesDisks x tops W M → CopiesAgree x M
-copies_agree x tops W M s = (disk.last W.disk, record { listed = each; kept = kept; stored = stored; below = below; one = one; alone = alone; changer = changer; rises = rises })
+pub agrees_on : (x : ℕ) (tops : Kinds) (W : World) (M : Seen) → SeesDisks x tops W M → AgreesOn x (disk.last W.disk) M
+agrees_on x tops W M s = record { listed = each; kept = kept; stored = stored; below = below; one = one; alone = alone; changer = changer; rises = rises }
   where
     each : (n m : Node) (q : ObjectState) (j : ℕ) → M.nodes 1 ≡ Some n → holder_of (entry x) n.disk.names ≡ None → held_at (entry x) n.disk.names ≡ Some q → is_listed j (state_entry q).stores ≡ true → M.nodes j ≡ Some m → holder_of (object x) m.disk.store ≡ None → HasState x (disk.last W.disk) m
     each n m q j is free held on there clear =
@@ -107,3 +107,6 @@ copies_agree x tops W M s = (disk.last W.disk, record { listed = each; kept = ke
     rises : (m : Node) (j : ℕ) (a : Uid) (st su : ObjectState) → M.nodes j ≡ Some m → held_at (object x) m.disk.store ≡ Some st → HasPrepared a (object x) su m.disk.store → Below (packed st) (packed su)
     rises m j a st su there held p = let o : SeesStore x j m.disk.store W.disk = s.stores j m there in
         s.whole.core.forms.below j (hold_of packed a su) (packed st) (o.pair.held_by a p.0 su p.1 p.2) (sym o.pair.held_is ∙ ap (option_map packed) held)
+
+pub copies_agree : (x : ℕ) (tops : Kinds) (W : World) (M : Seen) → SeesDisks x tops W M → CopiesAgree x M
+copies_agree x tops W M s = (disk.last W.disk, agrees_on x tops W M s)

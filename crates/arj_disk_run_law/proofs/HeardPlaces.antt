@@ -12,17 +12,17 @@ use Rattle.arj_protocol.specs.Coord as coord
 use Rattle.arj_protocol.specs.Coord.{Calling, Committing, Coord, Doing, Idle, Now, doing_of, is_constituent_branch, is_kept_top, retained_in, second_uid, survives}
 use Rattle.arj_protocol.specs.Effect.{Intent}
 use Rattle.arj_protocol.specs.Order.{uid_number}
-use Rattle.arj_protocol.specs.Tree.{Branch, branch_of, ended_so, has_end, at_place, is_aborted, is_own, root_of}
+use Rattle.arj_protocol.specs.Tree.{Branch, branch_of, ended_so, has_end, at_place, is_aborted, is_constituent, is_own, root_of}
 use Rattle.arj_part_law.specs.Actions.{Action, AreBegun, Stands, act_of, action_of, paths_of}
 use Rattle.arj_part_law.specs.Coords.{IsBusy, IsGoodCoord, IsVoting}
 use Rattle.arj_part_law.proofs.Begun.{begun_tree, on_more, on_own, one_action, path_length, path_some, serial_alone}
 use Rattle.arj_part_law.proofs.GoodTrees.{above_of, over_below, shorter}
 use Rattle.arj_call_law.proofs.CoordKnown.{root_own}
 use Rattle.arj_disk_law.specs.State as disk
-use Rattle.arj_disk_law.specs.State.{State}
+use Rattle.arj_disk_law.specs.State.{State, is_gone}
 use Rattle.arj_disk_law.proofs.Base.{falls_to, never, or_cases, or_left, or_right, some_is}
 use Rattle.arj_disk_view_law.specs.Knows.{IsOfKind, KnowsCoord, KnowsKinds}
-use Rattle.arj_disk_view_law.specs.Sees.{Kinds, SeesCoord, Works, WorksBy}
+use Rattle.arj_disk_view_law.specs.Sees.{IsFixed, Kinds, SeesCoord, Works, WorksBy}
 use Rattle.arj_names_view_law.specs.Lists.{IsTopOf}
 use Rattle.arj_disk_run_law.specs.Kinds.{is_top_kind}
 use Rattle.arj_disk_run_law.specs.Heard.{IsWorkingRoot}
@@ -281,3 +281,27 @@ module _ (acts : List Action) (begun : AreBegun acts) (tops : Kinds) (kinds : Kn
       by kind.Constituent n on h = h.1
       by kind.Top n on h = h.1
       by kind.Independent n on h = h.1
+
+  -- its root is there
+  pub top_rooted : (x k inc : ℕ) (S : State) → IsFixed tops S → SeesCoord x k inc tops c S → S.stage (uid_number (top_of b.path)) ≡ disk.Idle → is_gone (S.stage (S.root (uid_number (top_of b.path)))) ≡ false
+  top_rooted x k inc S fixed sees idle =
+      let y = top_branch in
+      ap (λ n. is_gone (S.stage n)) (ap (λ f. f (uid_number (top_of b.path))) fixed.root ∙ ap (λ w. tops.root (uid_number w)) top_is ∙ its_root) ∙ by (let e = y.0 in e.kind) refl (ap is_top_kind y.2 ∙ t.2) (knows.kind (act_of t.0) y.0 y.1)
+    where
+      its_first : (let y = top_branch.0 in root_of y.path) ≡ root_of p
+      its_first = ap root_of (let y = top_branch in y.3) ∙ sym first_is
+
+      own : (let y = top_branch.0 in uids_of y.path) ≡ act_of t.0 ∷ [] → is_gone (S.stage (uid_number (root_of p))) ≡ false
+      own is = ap (λ w. is_gone (S.stage (uid_number w))) (sym its_first ∙ ap first_uid is ∙ sym top_is) ∙ ap is_gone idle
+
+      by : (kd : Kind) → (let y = top_branch.0 in y.kind) ≡ kd → is_top_kind kd ≡ true → IsOfKind tops (act_of t.0) kd (let y = top_branch.0 in y.path) → is_gone (S.stage (uid_number (root_of p))) ≡ false
+      by kind.Nested is on h = absurd (cc on)
+      by kind.Serial is on h = absurd (cc on)
+      by kind.Top is on h = own h.2
+      by kind.Independent is on h = own h.2
+      by kind.Constituent is on h =
+          let y = top_branch in
+          let r = knows.above (act_of t.0) y.0 y.1 (none_so (let e = y.0 in e.ended) (not_over (act_of t.0) top_there y.0 y.1)) (ap is_constituent is) in
+          let w = knows.at_work (root_of (let e = y.0 in e.path)) r.branch r.found in
+          let z : Works x tops S (uid_number (root_of (let e = y.0 in e.path))) kind.Serial (let a = w.0 in a.now) = subst (λ kd. Works x tops S (uid_number (root_of (let e = y.0 in e.path))) kd (let a = w.0 in a.now)) r.serial (sees.working (root_of (let e = y.0 in e.path)) r.branch w.0 r.found r.unended w.1) in
+          ap (λ v. is_gone (S.stage (uid_number v))) (sym its_first) ∙ ap is_gone z.1

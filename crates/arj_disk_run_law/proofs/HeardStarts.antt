@@ -39,7 +39,7 @@ use Rattle.arj_names_view_law.specs.Lists.{HasCallList, HasList, SeesLists}
 use Rattle.arj_disk_run_law.specs.Heard.{SeesHeardAt, is_bound}
 use Rattle.arj_disk_run_law.proofs.HeardCalls.{HasItsList, KeepsForOthers, goes_kept, root_put}
 use Rattle.arj_disk_run_law.proofs.HeardGiveups.{put_keeps}
-use Rattle.arj_disk_run_law.proofs.HeardPlaces.{StandsIn, stands_in, top_idle, top_waits}
+use Rattle.arj_disk_run_law.proofs.HeardPlaces.{StandsIn, stands_in, top_idle, top_rooted, top_waits}
 use Rattle.arj_disk_run_law.proofs.HeardServe.{coord as good_coord}
 
 -- ---- where an action stands
@@ -66,6 +66,15 @@ module _ (tops : Kinds) (k : ℕ) (d : Disk) (t : Parts) (M : Seen) (good : IsGo
       subst (λ p. A.world.disk.stage (uid_number (top_of p)) ≡ disk.Idle) a.path
       (top_idle few.1.1.0 few.1.1.1.begun tops knows.kinds d.intents t.coord (good_coord (up k d t M) good few k Here t (node_here M k Here) refl) knows.coord u a.branch a.found a.opened a.unserial x k d.inc A.world.disk
       (let s = both.disks in s.coords k Here t (node_here M k Here) refl) q does (λ m at. let n : Calling s ≡ Committing m = sym now ∙ at in cc))
+
+  -- and its root is there
+  pub step_rooted : (x : ℕ) (A : Office) → SeesBoth x tops A (up k d t M) → (u : Uid) (q : Doing) (s : Steps) → doing_of u t.coord ≡ Some q → q.now ≡ Calling s → disk.is_gone (A.world.disk.stage (A.world.disk.root (uid_number (top_of s.path)))) ≡ false
+  step_rooted x A both u q s does now =
+      let a = asking u q s does now in
+      let sees = both.disks in
+      subst (λ p. disk.is_gone (A.world.disk.stage (A.world.disk.root (uid_number (top_of p)))) ≡ false) a.path
+      (top_rooted few.1.1.0 few.1.1.1.begun tops knows.kinds d.intents t.coord (good_coord (up k d t M) good few k Here t (node_here M k Here) refl) knows.coord u a.branch a.found a.opened a.unserial x k d.inc A.world.disk sees.fixed
+      (sees.coords k Here t (node_here M k Here) refl) (subst (λ p. A.world.disk.stage (uid_number (top_of p)) ≡ disk.Idle) (sym a.path) (step_idle x A both u q s does now)))
 
   -- which has no commit under way
   pub top_apart : (u : Uid) (q : Doing) (s : Steps) → doing_of u t.coord ≡ Some q → q.now ≡ Calling s → (z : Doing) (m : Machine) → doing_of (top_of s.path) t.coord ≡ Some z → z.now ≡ Committing m → ⊥

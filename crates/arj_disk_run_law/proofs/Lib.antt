@@ -57,6 +57,10 @@ pub mod Kept
 pub mod Known
 pub mod Included
 pub mod IncludedParts
+pub mod ListedBack
+pub mod ListedKept
+pub mod ListedRuns
+pub mod ListedSteps
 pub mod Lists
 pub mod Means
 pub mod Plain

@@ -3,6 +3,7 @@ pub mod Entries
 pub mod Facts
 pub mod Heard
 pub mod Kinds
+pub mod Listed
 pub mod Part
 pub mod Places
 pub mod Records

@@ -142,14 +142,14 @@ module _ (T : Tests) (zero_made : T.made 0 ≡ true) (sent : List Post) (k : ℕ
 
     pub call_goes : Good (call b.path x o c).part
     call_goes = steps_on T zero_made sent k c place knows (call_steps b.path x o (next_req (actor b.path) c) R c q) (on_root (root_of b.path) (with_keeping x q) e)
-        (subst (λ (l : Keeping). CallStands T l.kept l.avoid (start_at (known_at_start (top_of b.path) x R c q.kept) q.avoid)) (sym (ap (keeping_of x) (at_root (root_of b.path) (with_keeping x q R) e) ∙ put_here x q R)) (stands q.kept refl))
+        (subst (λ (l : Keeping). CallStands T x l.kept l.avoid (start_at (known_at_start (top_of b.path) x R c q.kept) q.avoid)) (sym (ap (keeping_of x) (at_root (root_of b.path) (with_keeping x q R) e) ∙ put_here x q R)) (stands q.kept refl))
         (root_goes c T sent (root_of b.path) (with_keeping x q) e renewed_so (uses_goes c T sent b.path x c (start T zero_made sent k c place knows)))
       where
-        stands : (p : Option Known) → q.kept ≡ p → CallStands T q.kept q.avoid (start_at (known_at_start (top_of b.path) x R c p) q.avoid)
+        stands : (p : Option Known) → q.kept ≡ p → CallStands T x q.kept q.avoid (start_at (known_at_start (top_of b.path) x R c p) q.avoid)
         stands None is = refl
         stands (Some z) is = by (z.recorded && (was_named (top_of b.path) x z.binding R || retains x R c)) refl
           where
-            by : (w : Bool) → (z.recorded && (was_named (top_of b.path) x z.binding R || retains x R c)) ≡ w → CallStands T q.kept q.avoid (start_at (cond w (Some z) None) q.avoid)
+            by : (w : Bool) → (z.recorded && (was_named (top_of b.path) x z.binding R || retains x R c)) ≡ w → CallStands T x q.kept q.avoid (start_at (cond w (Some z) None) q.avoid)
             by true on = subst IsRecorded (sym is) (and_parts z.recorded (was_named (top_of b.path) x z.binding R || retains x R c) on).0
             by false isnt = refl
 

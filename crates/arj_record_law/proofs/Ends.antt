@@ -15,7 +15,7 @@ use Rattle.arj_protocol.specs.Words.what
 use Rattle.arj_protocol.specs.Ask.{top_of}
 use Rattle.arj_protocol.specs.Confirm.{Grants, Marks, checked, confirm, confirm_entries, confirm_new, confirms, entries_after, entry_after, entry_state, first_of_each, has_all, is_bare, is_there, lock_all, lock_in, marked, named_back, other_grant, prepared_by, recovered_naming, refused_exclude, same_nodes, stores_after, wanted, with_stores, without_stores}
 use Rattle.arj_protocol.specs.Effect.{Already, Did, Do, Effect, InDoubt, Look, Old, Pair, Prep, Prepare, Ready, Say, Served, did_nothing, either, held_at, is_prepared, prepare_answer, reply, void}
-use Rattle.arj_protocol.specs.Named.{Named, end_named, hello_named, locked}
+use Rattle.arj_protocol.specs.Named.{Made, Named, end_named, hello_named, locked}
 use Rattle.arj_protocol.specs.Naming as naming
 use Rattle.arj_protocol.specs.Naming.{Naming, end_entries, end_lines, end_orphans, is_over, own_entries, taken_end, told_new}
 use Rattle.arj_protocol.specs.Order.{at_number, at_uid, binding_number, drop_uid, each, with_uid, without_uid}
@@ -33,11 +33,11 @@ use Rattle.arj_record_law.proofs.Namings.{AllBelow, Grows, none_not, put_below, 
 
 -- ---- ends, and a server that comes back
 
-each_grows : (f : ℕ → Named → Named) (told confirmed : List Uid) (n : Naming) → ((x : ℕ) (o : Named) → ((f x o).recorded ≡ o.recorded) × ((u : Uid) → (is_on o.asked u || is_on n.told u) ≡ true → (is_on (f x o).asked u || is_on told u) ≡ true)) → Grows n (record n { objects = each f n.objects; confirmed = confirmed; told = told })
+each_grows : (f : ℕ → Named → Named) (told confirmed : List Uid) (n : Naming) → ((x : ℕ) (o : Named) → at_number x n.objects ≡ Some o → ((f x o).recorded ≡ o.recorded) × ((u : Uid) → (is_on o.asked u || is_on n.told u) ≡ true → (is_on (f x o).asked u || is_on told u) ≡ true) × ((u : Uid) (m : Made) → at_uid u (f x o).made ≡ Some m → at_uid u o.made ≡ Some m)) → Grows n (record n { objects = each f n.objects; confirmed = confirmed; told = told })
 each_grows f told confirmed n so = record {
   inc = refl;
   count = omega arith;
-  objects = λ x o is. (f x o, each_at f x n.objects o is, record { recorded = λ b at. (b, (so x o).0 ∙ at, omega arith); asked = (so x o).1 });
+  objects = λ x o is. (f x o, each_at f x n.objects o is, record { recorded = λ b at. (b, (so x o is).0 ∙ at, omega arith); asked = (so x o is).1; made = λ u m at un old. (so x o is).2 u m at });
 }
 
 each_below : (f : ℕ → Named → Named) (n : Naming) → ((x : ℕ) (o : Named) → at_number x n.objects ≡ Some o → AreBelowLast o → AreBelowLast (f x o)) → AllBelow n → (x : ℕ) (q : Named) → at_number x (each f n.objects) ≡ Some q → AreBelowLast q
@@ -77,15 +77,19 @@ told_grows acts u how d n holds = by (is_on n.told u)
     named x o ending.Commit = (refl, refl)
     named x o ending.Abort = (refl, refl)
 
+    left : (x : ℕ) (o : Named) (h : End) → (end_named u h o).made ≡ without_uid u o.made
+    left x o ending.Commit = refl
+    left x o ending.Abort = refl
+
     by : (b : Bool) → (let t = cond {A = Did Naming} b (did_nothing n) (told_new u (taken_end u how n) d n) in Grows n t.part × (AllBelow n → AllBelow t.part))
     by true = (same_grows n, λ all. all)
     by false = (
-      each_grows (λ x. end_named u (taken_end u how n)) (with_uid u n.told) (drop_uid u n.confirmed) n (λ x o. ((named x o (taken_end u how n)).0, λ w on. ap (λ us. is_on us w || is_on (with_uid u n.told) w) (named x o (taken_end u how n)).1 ∙ still_asked u w o.asked n.told on)),
+      each_grows (λ x. end_named u (taken_end u how n)) (with_uid u n.told) (drop_uid u n.confirmed) n (λ x o is. ((named x o (taken_end u how n)).0, λ w on. ap (λ us. is_on us w || is_on (with_uid u n.told) w) (named x o (taken_end u how n)).1 ∙ still_asked u w o.asked n.told on, λ w m at. (keys.without_cases w u m o.made (let g = holds.objects x o is in g.sorted) (sym (ap (at_uid w) (left x o (taken_end u how n))) ∙ at)).1)),
       λ all. each_below (λ x. end_named u (taken_end u how n)) n (λ x o is below. end_below u (taken_end u how n) o (let g = holds.objects x o is in g.sorted) below) all,
     )
 
 pub hello_grows : (node inc : ℕ) (n : Naming) → Grows n (naming.hello node inc n) × (AllBelow n → AllBelow (naming.hello node inc n))
-hello_grows node inc n = (each_grows (λ x. hello_named node inc) n.told n.confirmed n (λ x o. (refl, λ w on. on)), λ all. each_below (λ x. hello_named node inc) n (λ x o is below. below) all)
+hello_grows node inc n = (each_grows (λ x. hello_named node inc) n.told n.confirmed n (λ x o is. (refl, λ w on. on, λ u m at. at)), λ all. each_below (λ x. hello_named node inc) n (λ x o is below. below) all)
 
 -- ---- a Confirm
 
@@ -98,10 +102,10 @@ locks_grow p (x ∷ xs) n =
   where
     one : (o : Option Named) → at_number x n.objects ≡ o → Grows n (lock_in x p n o).part × (AllBelow n → AllBelow (lock_in x p n o).part)
     one None is = (same_grows n, λ all. all)
-    one (Some o) is = (put_grows x o (locked x p mode.Exclude o) n.count n is (omega arith) (λ b at. (b, at, omega arith)) (λ u on. on), λ all. put_below x (locked x p mode.Exclude o) n.count n (all x o is) all)
+    one (Some o) is = (put_grows x o (locked x p mode.Exclude o) n.count n is (omega arith) (λ b at. (b, at, omega arith)) (λ u on. on) (λ u m at un old. at), λ all. put_below x (locked x p mode.Exclude o) n.count n (all x o is) all)
 
 confirmed_grows : (n p : Naming) (us : List Uid) → Grows n p → Grows n (record p { confirmed = us })
-confirmed_grows n p us g = record { inc = g.inc; count = g.count; objects = λ x o is. let f = g.objects x o is in (f.0, f.1, record { recorded = f.2.recorded; asked = f.2.asked }) }
+confirmed_grows n p us g = record { inc = g.inc; count = g.count; objects = λ x o is. let f = g.objects x o is in (f.0, f.1, record { recorded = f.2.recorded; asked = f.2.asked; made = f.2.made }) }
 
 -- each prepared entry is of an object that is marked, with a grant of this incarnation
 pub record IsPrepared (inc : ℕ) (grants : Grants) (excluded included : Marks) (s : ObjectState) : Type 0 where

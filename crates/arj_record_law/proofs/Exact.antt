@@ -41,6 +41,7 @@ exact inc n = record {
   past = λ x v. nat_lt v (n.inc * 4294967296) || past_in v (at_number x n.objects);
   asked = λ x u i. nat_lt i n.inc || ((i == n.inc) && asked_in u n (at_number x n.objects));
   low = λ i. nat_lt i (inc + 1);
+  listed = λ x v s. true;
 }
 
 pub exact_zero : (inc : ℕ) (n : Naming) → (let T = exact inc n in T.made 0) ≡ true
@@ -82,8 +83,10 @@ exact_passes k d t n at same = record {
     made = λ v lt. lt_is v (n.inc * 4294967296 + n.count + 1) (below v d.inc n.inc n.count lt same);
     past = λ x v lt. first (past_in v (at_number x n.objects)) (lt_is v (n.inc * 4294967296) (subst (λ i. v < i * 4294967296) (sym same) lt));
     asked = λ x u i lt. first ((i == n.inc) && asked_in u n (at_number x n.objects)) (lt_is i n.inc (subst (λ j. i < j) (sym same) lt));
+    listed = λ x v s lt. refl;
   };
   live = λ m is. subst (PassesNaming (exact d.inc n)) (some_is (sym at ∙ is)) (exact_naming d.inc n);
+  lists = λ x v s. refl;
 }
   where
     up : (a b : ℕ) → a ≤ b → a < b + 1

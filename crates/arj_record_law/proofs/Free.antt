@@ -85,7 +85,7 @@ module _ (M : Seen) (few : KnowsFew M) (known : RecordsKnown M) (q : Node) (t : 
       its = exact_passes q.number q.disk t n at inc_is
 
       whole : PassesNode T q
-      whole = record { low = its.low; before = its.before; live = subst (PassesLive T (let d = q.disk in d.inc)) (sym live) its.live }
+      whole = record { lists = its.lists; low = its.low; before = its.before; live = subst (PassesLive T (let d = q.disk in d.inc)) (sym live) its.live }
 
   fit : AreFitting T M.sent
   fit = record { zero = exact_zero (let d = q.disk in d.inc) n; down = λ x v w. exact_down (let d = q.disk in d.inc) n x v w; answered = known.1.0 T passes }

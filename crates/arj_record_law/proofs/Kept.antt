@@ -54,7 +54,7 @@ module _ (T : Tests) where
 
   -- a step stands still where grants stay, and the object's keeping
   pub step_on : (r q : Root) → GrantsStay r q → (g : Goal) (x : ℕ) (top : Uid) (at : At) → ((let k = keeping_of x r in let l = keeping_of x q in StaysKept k.kept l.kept × (binding_number l.avoid ≡ binding_number k.avoid))) → StepStands T g x top r at → StepStands T g x top q at
-  step_on r q stay (Run o) x top at keeping s = call_stays T (keeping_of x r).kept (keeping_of x q).kept (keeping_of x r).avoid (keeping_of x q).avoid at keeping.0 keeping.1 s
+  step_on r q stay (Run o) x top at keeping s = call_stays T x (keeping_of x r).kept (keeping_of x q).kept (keeping_of x r).avoid (keeping_of x q).avoid at keeping.0 keeping.1 s
   step_on r q stay (Include n) x top at keeping s = include_on r q stay x top at s
 
 module _ (c : Coord) (T : Tests) (sent : List Post) where

@@ -63,12 +63,12 @@ held_below = record {
 }
   where
     any_tests : Tests
-    any_tests = record { made = λ v. true; past = λ x v. true; asked = λ x u i. true; low = λ i. true }
+    any_tests = record { made = λ v. true; past = λ x v. true; asked = λ x u i. true; low = λ i. true; listed = λ x v s. true }
 
 -- ---- a node
 
 before_less : (T : Tests) (i j : ℕ) → i ≤ j → PassesBefore T j → PassesBefore T i
-before_less T i j le before = record { made = λ v lt. before.made v (up v i j lt le); past = λ x v lt. before.past x v (up v i j lt le); asked = λ x u n lt. before.asked x u n (under n i j lt le) }
+before_less T i j le before = record { listed = λ x v s lt. before.listed x v s (up v i j lt le); made = λ v lt. before.made v (up v i j lt le); past = λ x v lt. before.past x v (up v i j lt le); asked = λ x u n lt. before.asked x u n (under n i j lt le) }
   where
     up : (v a b : ℕ) → v < a * 4294967296 → a ≤ b → v < b * 4294967296
     up v a b lt l = omega (arith, lt, l)
@@ -162,7 +162,7 @@ module _ (e k : ℕ) (d : Disk) (t : Parts) (M : Seen) (settle : RecordsSettle (
 
       stops : (c : Disk) → d.inc ≤ c.inc → (T : Tests) → Passes T (at k c None M) → Ok T
       stops c le T passes = (
-        knows.0 T (one_here T k c d None (Some t) M (λ is p. record { low = λ i l. p.low i (up_to i d.inc c.inc l le); before = before_less T d.inc (c.inc + 1) (next_up d.inc c.inc le) p.live; live = λ n at_n. down_passes T below.0 n d.inc (inc_is n at_n) (fewer n.count (fits n at_n)) (holds n at_n).0 (before_less T (d.inc + 1) (c.inc + 1) (up_one d.inc c.inc le) p.live) }) passes),
+        knows.0 T (one_here T k c d None (Some t) M (λ is p. record { low = λ i l. p.low i (up_to i d.inc c.inc l le); before = before_less T d.inc (c.inc + 1) (next_up d.inc c.inc le) p.live; live = λ n at_n. down_passes T below.0 n d.inc (inc_is n at_n) (fewer n.count (fits n at_n)) (holds n at_n).0 (before_less T (d.inc + 1) (c.inc + 1) (up_one d.inc c.inc le) p.live); lists = p.lists }) passes),
         left.down T (λ n at_n. (own_passes T k c None M (here n at_n) passes).low d.inc le) (λ n at_n. before_less T (d.inc + 1) (c.inc + 1) (up_one d.inc c.inc le) (own_passes T k c None M (here n at_n) passes).live),
       )
         where
@@ -171,8 +171,8 @@ module _ (e k : ℕ) (d : Disk) (t : Parts) (M : Seen) (settle : RecordsSettle (
 
       ends : (c : Disk) → d.inc ≤ c.inc → (T : Tests) → Passes T (up k c v M) → Ok T
       ends c le T passes = (
-        knows.0 T (one_here T k c d (Some v) (Some t) M (λ is p. record { low = λ i l. p.low i (up_to i d.inc c.inc l le); before = before_less T d.inc c.inc le p.before; live = start_passes T t.naming v.naming left.naming p.live }) passes),
-        left.up T (λ n at_n. (own_passes T k c (Some v) M (here n at_n) passes).low d.inc le) (λ n at_n. let m = there_still t.naming v.naming left.naming n at_n in (own_passes T k c (Some v) M (here m.0 m.1) passes).live n at_n),
+        knows.0 T (one_here T k c d (Some v) (Some t) M (λ is p. record { low = λ i l. p.low i (up_to i d.inc c.inc l le); before = before_less T d.inc c.inc le p.before; live = start_passes T t.naming v.naming left.naming p.live; lists = p.lists }) passes),
+        left.up T (λ n at_n. (own_passes T k c (Some v) M (here n at_n) passes).low d.inc le) (λ n at_n. let m = there_still t.naming v.naming left.naming n at_n in ((own_passes T k c (Some v) M (here m.0 m.1) passes).live n at_n, λ idle x w s le on. (own_passes T k c (Some v) M (here m.0 m.1) passes).lists x w s)),
       )
 
   -- ---- inputs
@@ -186,8 +186,8 @@ module _ (e k : ℕ) (d : Disk) (t : Parts) (M : Seen) (settle : RecordsSettle (
   its_coord : IsGoodCoord below.0 (paths_of below.0) t.coord
   its_coord = let u = its_up in let g = u.good (paths_of below.0) tree (path_found below.0 begun) in g.coord
 
-  message_walk : (v : Parts) (from : ℕ) (m : Message) (outs : List Effect) → In (record { from = from; to = k; message = m }) M.sent → handle k d t from m ≡ Took v outs → Walks NamingKnows e k outs (Up NamingKnows k v) d M
-  message_walk v from m outs there is = left_walk v outs (subst By is its)
+  pub message_left : (v : Parts) (from : ℕ) (m : Message) (outs : List Effect) → In (record { from = from; to = k; message = m }) M.sent → handle k d t from m ≡ Took v outs → Left M.sent k d t v outs
+  message_left v from m outs there is = subst By is its
     where
       By : Handled → Type 0
       By (Took w es) = Left M.sent k d t w es
@@ -202,38 +202,36 @@ module _ (e k : ℕ) (d : Disk) (t : Parts) (M : Seen) (settle : RecordsSettle (
           (λ u. coord_quiet t.coord (answer_query from u d.intents t.coord) (true_query below.0 (paths_of below.0) tree from u d.intents t.coord (tops_of_disk e k d t M (below.0, below.1)) (own_of_disk e k d t M (below.0, below.1)) its_coord) (query_own from u d.intents t.coord))
           (let g = below.1 in g.fits (record { from = from; to = k; message = m }) there)
 
-  act_walk : (hd : Header) (i : Input) → is_act i ≡ true → refusal_up hd i t.coord ≡ None → Walks NamingKnows e k (let r = acts_of i d.intents t.coord in r.outs) (Up NamingKnows k (with_coord t (acts_of i d.intents t.coord).part)) d M
-  act_walk hd i is free =
+  pub act_left : (hd : Header) (i : Input) → is_act i ≡ true → refusal_up hd i t.coord ≡ None → (let r = acts_of i d.intents t.coord in Left M.sent k d t (with_coord t r.part) r.outs)
+  act_left hd i is free =
       let r = acts_of i d.intents t.coord in
       let u = its_up in
-      left_walk (with_coord t r.part) r.outs (quiet_left M.sent k d t (with_coord t r.part) r.outs (same_goes t.naming) (coord_quiet r.part r.outs (well_acts below.0 (paths_of below.0) tree d.intents t.coord its_coord (let f = u.faithful in f.works) hd i free other).1 (acts_own i d.intents t.coord)))
+      (quiet_left M.sent k d t (with_coord t r.part) r.outs (same_goes t.naming) (coord_quiet r.part r.outs (well_acts below.0 (paths_of below.0) tree d.intents t.coord its_coord (let f = u.faithful in f.works) hd i free other).1 (acts_own i d.intents t.coord)))
     where
       other : (l : Label) (how : Kind) (parent : Option Label) → i ≢ input.Begin l how parent
       other l how parent same = let no_way : false ≡ true = sym (ap is_act same) ∙ is in cc no_way
 
-  tick_walk : Walks NamingKnows e k (tick_outs (record { number = k; disk = d; live = Some t }) t) (Up NamingKnows k (with_coord t (again_all t.coord.doings t.coord).part)) d M
-  tick_walk =
+  pub tick_left : Left M.sent k d t (with_coord t (again_all t.coord.doings t.coord).part) (tick_outs (record { number = k; disk = d; live = Some t }) t)
+  tick_left =
       let r = again_all t.coord.doings t.coord in
       let u = its_up in
       let tolds = tolds_again t.coord.telling in
-      left_walk (with_coord t r.part) (tick_outs (record { number = k; disk = d; live = Some t }) t) (quiet_left M.sent k d t (with_coord t r.part) (tick_outs (record { number = k; disk = d; live = Some t }) t) (same_goes t.naming)
+      (quiet_left M.sent k d t (with_coord t r.part) (tick_outs (record { number = k; disk = d; live = Some t }) t) (same_goes t.naming)
       (quiet_both (r.outs ++ tolds) (map query_about (holders d t)) (quiet_both r.outs tolds (coord_quiet r.part r.outs (well_again below.0 (paths_of below.0) tree t.coord its_coord).1 (again_own t.coord.doings t.coord)) (coord_quiet t.coord tolds (true_records t.coord u.faithful) (tolds_again_own t.coord.telling))) (queries (holders d t))))
 
   begin_walk : (l : Label) (how : Kind) (parent : Option Label) (g : Labelled) → Walks NamingKnows e k (let r = begin_action l how parent (parent_of parent t.coord) t.coord in r.outs) (Up NamingKnows k (with_coord t (begin_action l how parent (parent_of parent t.coord) t.coord).part)) d (given l g M)
   begin_walk l how parent g =
       let v = with_coord t (begin_action l how parent (parent_of parent t.coord) t.coord).part in
-      ((λ T passes. knows.0 T (one_here T k d d (Some v) (Some t) M (λ is p. record { low = p.low; before = p.before; live = p.live }) passes)), entries_back k d (Some v) M (entries_here k d (Some t) M knows.1))
+      ((λ T passes. knows.0 T (one_here T k d d (Some v) (Some t) M (λ is p. record { low = p.low; before = p.before; live = p.live; lists = p.lists }) passes)), entries_back k d (Some v) M (entries_here k d (Some t) M knows.1))
 
 -- ---- restarts, and at first
 
-module _ (hd : Header) (e k : ℕ) (d : Disk) (M : Seen) (knows : NamingKnows (down k d M)) where
-  abbrev v : Parts
-  v = parts_in k (d.inc + 1) d
-
-  abbrev rest : List Effect
+-- what a restart does behind its incarnation
+module _ (hd : Header) (k : ℕ) (d : Disk) where
+  abbrev pub rest : List Effect
   rest = ((((Say (body.Up k (d.inc + 1)) ∷ Do Look ∷ naming_back (naming_at k (d.inc + 1) d.names)) ++ (Do Look ∷ recovered_records k d.intents)) ++ tolds_again d.intents) ++ map query_about (uid_set (prepared_actions d.store ++ prepared_actions d.names))) ++ map (hello_to k (d.inc + 1)) (without_number k (numbers_to hd.nodes))
 
-  rest_quiet : AllQuiet rest
+  pub rest_quiet : AllQuiet rest
   rest_quiet = quiet_both four hellos (quiet_both three asking (quiet_both two tolds (quiet_both one records (tt, (tt, back_so (naming_at k (d.inc + 1) d.names))) (tt, all_map IsQuiet (λ (z : Uid × Intent). Say (body.Recovered k z.0)) d.intents (λ z. tt))) (all_flat IsQuiet (λ (z : Uid × Intent). tell_all z.1.root true ((z.0, ending.Commit) ∷ []) z.1.nodes) d.intents (λ z. all_map IsQuiet (tell z.1.root true ((z.0, ending.Commit) ∷ [])) z.1.nodes (λ n. refl)))) (queries (uid_set (prepared_actions d.store ++ prepared_actions d.names))))
       (all_map IsQuiet (hello_to k (d.inc + 1)) (without_number k (numbers_to hd.nodes)) (λ w. refl))
     where
@@ -265,14 +263,18 @@ module _ (hd : Header) (e k : ℕ) (d : Disk) (M : Seen) (knows : NamingKnows (d
       hellos : List Effect
       hellos = map (hello_to k (d.inc + 1)) (without_number k (numbers_to hd.nodes))
 
+module _ (hd : Header) (e k : ℕ) (d : Disk) (M : Seen) (knows : NamingKnows (down k d M)) where
+  abbrev v : Parts
+  v = parts_in k (d.inc + 1) d
+
   it_is : AreHere k d M
   it_is = entries_here k d None M knows.1
 
   stops : (c : Disk) → d.inc ≤ c.inc → (T : Tests) → Passes T (at k c None M) → AreAnswered T M.sent
-  stops c le T passes = knows.0 T (one_here T k c d None None M (λ is p. record { low = λ i l. p.low i (up_to i d.inc c.inc l le); before = before_less T d.inc (c.inc + 1) (next_up d.inc c.inc le) p.live; live = before_less T (d.inc + 1) (c.inc + 1) (up_one d.inc c.inc le) p.live }) passes)
+  stops c le T passes = knows.0 T (one_here T k c d None None M (λ is p. record { low = λ i l. p.low i (up_to i d.inc c.inc l le); before = before_less T d.inc (c.inc + 1) (next_up d.inc c.inc le) p.live; live = before_less T (d.inc + 1) (c.inc + 1) (up_one d.inc c.inc le) p.live; lists = p.lists }) passes)
 
   ends : (c : Disk) → d.inc + 1 ≤ c.inc → (T : Tests) → Passes T (up k c v M) → AreAnswered T M.sent
-  ends c le T passes = knows.0 T (one_here T k c d (Some v) None M (λ is p. record { low = λ i l. p.low i (far i d.inc c.inc l le); before = before_less T d.inc c.inc (near d.inc c.inc le) p.before; live = before_less T (d.inc + 1) c.inc le p.before }) passes)
+  ends c le T passes = knows.0 T (one_here T k c d (Some v) None M (λ is p. record { low = λ i l. p.low i (far i d.inc c.inc l le); before = before_less T d.inc c.inc (near d.inc c.inc le) p.before; live = before_less T (d.inc + 1) c.inc le p.before; lists = p.lists }) passes)
     where
       far : (i a b : ℕ) → i ≤ a → a + 1 ≤ b → i ≤ b
       far i a b x y = omega (arith, x, y)
@@ -288,9 +290,9 @@ module _ (hd : Header) (e k : ℕ) (d : Disk) (M : Seen) (knows : NamingKnows (d
     λ how. stopped_so how Look tt tt,
     (
       λ how. stopped_so how (PutInc (d.inc + 1)) (omega arith) tt,
-      walks_both AnswersClaim EntriesConfirmed e k rest (Up AnswersClaim k v) (Up EntriesConfirmed k v) (record d { inc = d.inc + 1 }) M
-          (answer_walk M.sent (λ T. AreAnswered T M.sent) e k v rest (record d { inc = d.inc + 1 }) M (d.inc + 1) (λ T ok. quiet_claims M.sent k T rest rest_quiet) (λ p i. i) (λ T ok. ok) (quiet_incs (d.inc + 1) rest rest_quiet) (omega arith) (λ c le T passes. stops c (nearer d.inc c.inc le) T passes) ends)
-          (entry_walk M.sent e k v rest (record d { inc = d.inc + 1 }) M (quiet_confirms M.sent k rest rest_quiet) (λ first top x w. w) (record { own = it_is.own; others = it_is.others })),
+      walks_both AnswersClaim EntriesConfirmed e k (rest hd k d) (Up AnswersClaim k v) (Up EntriesConfirmed k v) (record d { inc = d.inc + 1 }) M
+          (answer_walk M.sent (λ T. AreAnswered T M.sent) e k v (rest hd k d) (record d { inc = d.inc + 1 }) M (d.inc + 1) (λ T ok. quiet_claims M.sent k T (rest hd k d) (rest_quiet hd k d)) (λ p i. i) (λ T ok. ok) (quiet_incs (d.inc + 1) (rest hd k d) (rest_quiet hd k d)) (omega arith) (λ c le T passes. stops c (nearer d.inc c.inc le) T passes) ends)
+          (entry_walk M.sent e k v (rest hd k d) (record d { inc = d.inc + 1 }) M (quiet_confirms M.sent k (rest hd k d) (rest_quiet hd k d)) (λ first top x w. w) (record { own = it_is.own; others = it_is.others })),
     ),
   )
     where
@@ -309,10 +311,10 @@ pub naming_given : (hd : Header) → KeepsGiven hd NamingBase NamingKnows
 naming_given hd = record {
   quiet = λ e bs M quiet_lines g p. p;
   stop = λ e k d live M g p. halts e k d live M g p;
-  message = λ e k d t v from m outs M g p there meant is. message_walk e k d t M g.0.0 g.0.1 g.1.0 g.1.1 p v from m outs there is;
-  act = λ e k d t i M is free g p. act_walk e k d t M g.0.0 g.0.1 g.1.0 g.1.1 p hd i is free;
+  message = λ e k d t v from m outs M g p there meant is. left_walk e k d t M g.0.0 g.0.1 g.1.0 g.1.1 p v outs (message_left e k d t M g.0.0 g.0.1 g.1.0 g.1.1 p v from m outs there is);
+  act = λ e k d t i M is free g p. (let r = acts_of i d.intents t.coord in left_walk e k d t M g.0.0 g.0.1 g.1.0 g.1.1 p (with_coord t r.part) r.outs (act_left e k d t M g.0.0 g.0.1 g.1.0 g.1.1 p hd i is free));
   begin = λ e k d t l how parent M new may free g p. begin_walk e k d t M g.0.0 g.0.1 g.1.0 g.1.1 p l how parent (record { node = k; serial = is_serial_kind how });
-  tick = λ e k d t M g p. tick_walk e k d t M g.0.0 g.0.1 g.1.0 g.1.1 p;
+  tick = λ e k d t M g p. left_walk e k d t M g.0.0 g.0.1 g.1.0 g.1.1 p (with_coord t (again_all t.coord.doings t.coord).part) (tick_outs (record { number = k; disk = d; live = Some t }) t) (tick_left e k d t M g.0.0 g.0.1 g.1.0 g.1.1 p);
   restart = λ e k d M g p. restart_walk hd e k d M p;
   first = first_knows hd;
 }

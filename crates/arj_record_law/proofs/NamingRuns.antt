@@ -26,7 +26,7 @@ use Rattle.arj_record_law.proofs.Quiet.{IncUp, IncsUp}
 
 -- ---- the disk's incarnation
 
-inc_worked : (least : ℕ) (w : Work) (d : Disk) → IncUp least (Do w) → least ≤ d.inc → least ≤ (worked w d).inc
+pub inc_worked : (least : ℕ) (w : Work) (d : Disk) → IncUp least (Do w) → least ≤ d.inc → least ≤ (worked w d).inc
 inc_worked least Look d fine le = le
 inc_worked least (PutInc i) d fine le = fine
 inc_worked least (Prepare role.Store u states) d fine le = le

@@ -18,7 +18,7 @@ use Rattle.arj_protocol.specs.Ask.{Reply, actor, answers, asked_by, last_end, re
 use Rattle.arj_protocol.specs.Asking.{heard}
 use Rattle.arj_protocol.specs.Confirm.{Grants, Marks, confirm}
 use Rattle.arj_protocol.specs.Coord.{Coord}
-use Rattle.arj_protocol.specs.Effect.{Abort, Already, Commit, Disk, Do, Effect, InDoubt, Look, Old, Prep, Prepare, PutInc, PutIntent, Ready, RemoveIntent, Say, Send, Served, held_at, holder_of, is_prepared, prepare_answer, reply, void}
+use Rattle.arj_protocol.specs.Effect.{Abort, Already, Commit, Disk, Do, Effect, InDoubt, Look, Old, Pair, Prep, Prepare, PutInc, PutIntent, Ready, RemoveIntent, Say, Send, Served, held_at, holder_of, is_prepared, prepare_answer, reply, void}
 use Rattle.arj_protocol.specs.Ending.{acked, answer_query}
 use Rattle.arj_protocol.specs.Named.{Named, note_named}
 use Rattle.arj_protocol.specs.Naming as naming
@@ -38,8 +38,8 @@ use Rattle.arj_lock_fact_law.proofs.GoodNaming.{held_objects}
 use Rattle.arj_record_law.specs.Claims.{IsAnswer, IsRecord, SaysBound, SaysNoted, SaysReply, WasConfirmed}
 use Rattle.arj_record_law.specs.Tests.{PassesBefore, PassesNaming, Tests}
 use Rattle.arj_record_law.proofs.Ends.{AllPrepare, IsPrepared, confirm_so, hello_grows, told_grows}
-use Rattle.arj_record_law.proofs.Quiet.{AllQuiet, IncsUp, bind_quiet, note_quiet, queries, quiet_both, quiet_incs, server_quiet, told_quiet}
-use Rattle.arj_record_law.proofs.Namings.{AllBelow, Grows, bind_counts, bind_grows, bind_says, none_not, note_grows, same_grows}
+use Rattle.arj_record_law.proofs.Quiet.{AllQuiet, AllSaid, IncsUp, NoWorks, bind_quiet, bind_said, note_quiet, queries, quiet_both, quiet_incs, said_sent, server_quiet, told_quiet}
+use Rattle.arj_record_law.proofs.Namings.{AllBelow, Grows, ListsPass, bind_counts, bind_grows, bind_says, none_not, note_grows, same_grows}
 
 -- ---- down
 
@@ -73,6 +73,13 @@ note_counts p x b i g n = by (is_over p n || not (is_some (at_number x n.objects
     by true c = refl
     by false true = there (at_number x n.objects)
     by false false = refl
+
+-- and so for what entries list
+pub before_lists : (T : Tests) (d : Pair) (n : Naming) (inc : ℕ) → n.inc ≡ inc → n.count < 4294967296 → PassesBefore T (inc + 1) → ListsPass T d n
+before_lists T d n inc same few before x v s le on = before.listed x v s (below v n.inc inc n.count same few le)
+  where
+    below : (v i j c : ℕ) → i ≡ j → c < 4294967296 → v ≤ i * 4294967296 + c → v < (j + 1) * 4294967296
+    below v i j c e lt le = omega (arith, e, lt, le)
 
 -- ---- one message
 
@@ -129,10 +136,10 @@ module _ (sent : List Post) (k : ℕ) where
   quiet_confirms (Do (PutIntent u i) ∷ es) q = (tt, quiet_confirms es q.1)
   quiet_confirms (Do (RemoveIntent u) ∷ es) q = (tt, quiet_confirms es q.1)
 
--- what a handler leaves
+-- What a handler leaves. Where it does nothing on the disk, its answers claim what passes for the entries there.
 pub record Left (sent : List Post) (k : ℕ) (d : Disk) (t v : Parts) (outs : List Effect) : Type 0 where
   pub naming : NamingGoes t.naming v.naming
-  pub up : (T : Tests) → ((n : Naming) → t.naming ≡ Some n → T.low d.inc ≡ true) → ((n : Naming) → v.naming ≡ Some n → PassesNaming T n) → AllClaim sent k T outs
+  pub up : (T : Tests) → ((n : Naming) → t.naming ≡ Some n → T.low d.inc ≡ true) → ((n : Naming) → v.naming ≡ Some n → PassesNaming T n × (NoWorks outs → ListsPass T d.names n)) → AllClaim sent k T outs
   pub down : (T : Tests) → ((n : Naming) → t.naming ≡ Some n → T.low d.inc ≡ true) → ((n : Naming) → t.naming ≡ Some n → PassesBefore T (d.inc + 1)) → AllClaim sent k T outs
   pub entries : AllConfirm sent k outs
   pub incs : IncsUp d.inc outs
@@ -163,12 +170,12 @@ module _ (acts : List Action) (begun : AreBegun acts) (sent : List Post) (k : �
         record { post = record { from = from; to = k; message = m }; head = h; ask = a; posted = there; from = refl; asking = asking; asker = ap (λ (z : Asked × Reply). z.0) same; so = subst (SaysReply T (top_of h.path) a) (ap (λ (z : Asked × Reply). z.1) same) says }
 
     answered : (v : Parts) (outs : List Effect) (o : Option Reply) → NamingGoes t.naming v.naming → ((T : Tests) → AllClaim sent k T outs) → AllConfirm sent k outs → IncsUp d.inc outs
-        → ((T : Tests) → ((n : Naming) → t.naming ≡ Some n → T.low d.inc ≡ true) → ((n : Naming) → v.naming ≡ Some n → PassesNaming T n) → (r : Reply) → o ≡ Some r → SaysReply T (top_of h.path) a r)
+        → ((T : Tests) → ((n : Naming) → t.naming ≡ Some n → T.low d.inc ≡ true) → ((n : Naming) → v.naming ≡ Some n → PassesNaming T n × (AllSaid outs → ListsPass T d.names n)) → (r : Reply) → o ≡ Some r → SaysReply T (top_of h.path) a r)
         → ((T : Tests) → ((n : Naming) → t.naming ≡ Some n → T.low d.inc ≡ true) → ((n : Naming) → t.naming ≡ Some n → PassesBefore T (d.inc + 1)) → (r : Reply) → o ≡ Some r → SaysReply T (top_of h.path) a r) → By (sends_answer from h v outs o)
     answered v outs None goes claims entries incs up down = tt
     answered v outs (Some r) goes claims entries incs up down = record {
       naming = goes;
-      up = λ T low passes. claim_both sent k T outs (Send from (response (asked_by h) r) ∷ []) (claims T) (one_claim T r (up T low passes r refl), tt);
+      up = λ T low passes. claim_both sent k T outs (Send from (response (asked_by h) r) ∷ []) (claims T) (one_claim T r (up T low (λ n at. ((passes n at).0, λ said. (passes n at).1 (said_sent outs from (response (asked_by h) r) said))) r refl), tt);
       down = λ T low before. claim_both sent k T outs (Send from (response (asked_by h) r) ∷ []) (claims T) (one_claim T r (down T low before r refl), tt);
       entries = confirm_both sent k outs (Send from (response (asked_by h) r) ∷ []) entries (tt, tt);
       incs = incs_both d.inc outs (Send from (response (asked_by h) r) ∷ []) incs (tt, tt);
@@ -201,8 +208,8 @@ module _ (acts : List Action) (begun : AreBegun acts) (sent : List Post) (k : �
       let quiet = bind_quiet h.path x include avoid d.names n in
       let its = (held_objects.binds acts begun h.path who x include avoid d.names n (holds n at)).0 in
       answered h (ask.Bind x include avoid) is (with_naming t s.part) s.outs (option_map Reply.Bound s.reply) (goes_to n s.part at g.0) (λ T. quiet_claims sent k T s.outs quiet) (quiet_confirms sent k s.outs quiet) (quiet_incs d.inc s.outs quiet)
-      (λ T low passes r of. bound T s.reply (bind_says T acts h.path x include avoid d.names n (holds n at) (subst (λ i. T.low i ≡ true) (sym (inc_is n at)) (low n at)) (avoids h x include avoid is n at) (passes s.part refl)) r of)
-      (λ T low before r of. bound T s.reply (bind_says T acts h.path x include avoid d.names n (holds n at) (subst (λ i. T.low i ≡ true) (sym (inc_is n at)) (low n at)) (avoids h x include avoid is n at) (down_passes T acts s.part d.inc (g.0.inc ∙ inc_is n at) (less s.part.count (n.count + 1) (bind_counts h.path x include avoid d.names n) (few n at)) its (before n at))) r of))
+      (λ T low passes r of. bound T s.reply (bind_says T acts h.path x include avoid d.names n (holds n at) (subst (λ i. T.low i ≡ true) (sym (inc_is n at)) (low n at)) (avoids h x include avoid is n at) (passes s.part refl).0 ((passes s.part refl).1 (bind_said h.path x include avoid d.names n))) r of)
+      (λ T low before r of. bound T s.reply (bind_says T acts h.path x include avoid d.names n (holds n at) (subst (λ i. T.low i ≡ true) (sym (inc_is n at)) (low n at)) (avoids h x include avoid is n at) (down_passes T acts s.part d.inc (g.0.inc ∙ inc_is n at) (less s.part.count (n.count + 1) (bind_counts h.path x include avoid d.names n) (few n at)) its (before n at)) (before_lists T d.names s.part d.inc (g.0.inc ∙ inc_is n at) (less s.part.count (n.count + 1) (bind_counts h.path x include avoid d.names n) (few n at)) (before n at))) r of))
     where
       bound : (T : Tests) (o : Option BoundReply) → IfSome o (SaysBound T x avoid (top_of h.path)) → (r : Reply) → option_map Reply.Bound o ≡ Some r → SaysReply T (top_of h.path) (ask.Bind x include avoid) r
       bound T None so r of = none_not of
@@ -223,11 +230,11 @@ module _ (acts : List Action) (begun : AreBegun acts) (sent : List Post) (k : �
       let grows = (note_grows none_tests acts begun h.path who x b i g n (holds n at) (below n at)).0 in
       let its = (held_objects.notes acts begun h.path who x b i g n (holds n at)).0 in
       answered h (ask.Record x b i g) is (with_naming t s.part) s.outs (option_map Reply.Noted s.reply) (goes_to n s.part at grows) (λ T. quiet_claims sent k T s.outs quiet) (quiet_confirms sent k s.outs quiet) (quiet_incs d.inc s.outs quiet)
-      (λ T low passes r of. noted T s.reply ((note_grows T acts begun h.path who x b i g n (holds n at) (below n at)).2 (passes s.part refl)) r of)
+      (λ T low passes r of. noted T s.reply ((note_grows T acts begun h.path who x b i g n (holds n at) (below n at)).2 (passes s.part refl).0) r of)
       (λ T low before r of. noted T s.reply ((note_grows T acts begun h.path who x b i g n (holds n at) (below n at)).2 (down_passes T acts s.part d.inc (grows.inc ∙ inc_is n at) (fewer s.part.count n.count (note_counts h.path x b i g n) (few n at)) its (before n at))) r of))
     where
       none_tests : Tests
-      none_tests = record { made = λ v. true; past = λ x v. true; asked = λ x u i. true; low = λ i. true }
+      none_tests = record { made = λ v. true; past = λ x v. true; asked = λ x u i. true; low = λ i. true; listed = λ x v s. true }
 
       noted : (T : Tests) (o : Option RecordedReply) → IfSome o (SaysNoted T x b) → (r : Reply) → option_map Reply.Noted o ≡ Some r → SaysReply T (top_of h.path) (ask.Record x b i g) r
       noted T None so r of = none_not of

@@ -3,7 +3,7 @@ use Rattle.std.proofs.Common.{◌≡◌, ◌==◌, ◌||◌, ◌+◌, ◌≤◌,
 use Rattle.std.specs.Prelude.{⊤, is_some}
 use Rattle.std.specs.List.{AllByRecursion, flat_map, list_all}
 use Rattle.std.proofs.lemmas.Bool.{and_parts}
-use Rattle.arj_protocol.specs.Words.{Binding, BoundReply, End, Entry, Mode, Path, RecordedReply, Row, Uid, entry, is_on, last_uid}
+use Rattle.arj_protocol.specs.Words.{Binding, BoundReply, End, Entry, Message, Mode, Path, RecordedReply, Row, Uid, entry, is_on, last_uid}
 use Rattle.arj_protocol.specs.Words.body
 use Rattle.arj_protocol.specs.Words.ending
 use Rattle.arj_protocol.specs.Words.mode
@@ -77,60 +77,95 @@ server_quiet n (Say b ∷ es) own = (tt, server_quiet n es (and_parts (is_server
 server_quiet n (Send to m ∷ es) own = absurd (cc own)
 server_quiet n (Do w ∷ es) own = absurd (cc own)
 
+-- a line, and what isn't done on the disk
+abbrev pub IsSaid : Effect → Type 0
+IsSaid (Say b) = ⊤
+IsSaid _ = ⊥
+
+abbrev pub AllSaid : List Effect → Type 0
+AllSaid outs = AllByRecursion IsSaid outs
+
+abbrev pub IsNoWork : Effect → Type 0
+IsNoWork (Do w) = ⊥
+IsNoWork _ = ⊤
+
+abbrev pub NoWorks : List Effect → Type 0
+NoWorks outs = AllByRecursion IsNoWork outs
+
+said_both : (es fs : List Effect) → AllSaid es → AllSaid fs → AllSaid (es ++ fs)
+said_both [] fs a b = b
+said_both (e ∷ es) fs a b = (a.0, said_both es fs a.1 b)
+
+said_quiet : (es : List Effect) → AllSaid es → AllQuiet es
+said_quiet [] a = tt
+said_quiet (Say b ∷ es) a = (tt, said_quiet es a.1)
+said_quiet (Send to m ∷ es) a = absurd a.0
+said_quiet (Do w ∷ es) a = absurd a.0
+
+pub said_sent : (es : List Effect) (to : ℕ) (m : Message) → AllSaid es → NoWorks (es ++ Send to m ∷ [])
+said_sent [] to m a = (tt, tt)
+said_sent (Say b ∷ es) to m a = (tt, said_sent es to m a.1)
+said_sent (Send t n ∷ es) to m a = absurd a.0
+said_sent (Do w ∷ es) to m a = absurd a.0
+
 pub queries : (us : List Uid) → AllQuiet (map query_about us)
 queries [] = tt
 queries (u ∷ us) = (refl, queries us)
 
 -- ---- naming
 
-grant_quiet : (n : ℕ) (new : Row) (rows : List Row) → AllQuiet (grant_lines n new rows)
-grant_quiet n new rows = by (is_granted new.object (last_uid new.holder) new.mode rows)
+-- a Bind says lines alone
+grant_said : (n : ℕ) (new : Row) (rows : List Row) → AllSaid (grant_lines n new rows)
+grant_said n new rows = by (is_granted new.object (last_uid new.holder) new.mode rows)
   where
-    by : (b : Bool) → AllQuiet (cond b [] (Say (body.Granted n (last_uid new.holder) new.object new.mode) ∷ []))
+    by : (b : Bool) → AllSaid (cond b [] (Say (body.Granted n (last_uid new.holder) new.object new.mode) ∷ []))
     by true = tt
     by false = (tt, tt)
 
 module _ (x : ℕ) (p : Path) (inc : ℕ) (e : Entry) (c : Counted) (avoid : Binding) where
   abbrev Fine : Served Counted BoundReply → Type 0
-  Fine r = AllQuiet r.outs
+  Fine r = AllSaid r.outs
 
-  lock_quiet : (m : Mode) → AllQuiet (lock_lines x p m c.named)
-  lock_quiet m = grant_quiet 1 (entry_row x p m) c.named.rows
+  lock_said : (m : Mode) → AllSaid (lock_lines x p m c.named)
+  lock_said m = grant_said 1 (entry_row x p m) c.named.rows
 
-  live_quiet : (l : Live) (r : Option Row) → Fine (live_asked inc x p e c l r)
-  live_quiet l (Some r) = tt
-  live_quiet l None = lock_quiet mode.Read
+  live_said : (l : Live) (r : Option Row) → Fine (live_asked inc x p e c l r)
+  live_said l (Some r) = tt
+  live_said l None = lock_said mode.Read
 
-  made_quiet : (m : Option Made) → Fine (bind_made inc x p e c m)
-  made_quiet (Some m) = lock_quiet mode.Write
-  made_quiet None = quiet_both (lock_lines x p mode.Write c.named) (Say (body.Bound x (record { inc = inc; count = c.count + 1 }) (next_server c.named.turn e.servers)) ∷ []) (lock_quiet mode.Write) (tt, tt)
+  made_said : (m : Option Made) → Fine (bind_made inc x p e c m)
+  made_said (Some m) = lock_said mode.Write
+  made_said None = said_both (lock_lines x p mode.Write c.named) (Say (body.Bound x (record { inc = inc; count = c.count + 1 }) (next_server c.named.turn e.servers)) ∷ []) (lock_said mode.Write) (tt, tt)
 
-  make_quiet : (r : Option Row) → Fine (make_asked inc x p avoid e c r)
-  make_quiet (Some r) = tt
-  make_quiet None = made_quiet (made_above avoid (at_uid (top_of p) c.named.made))
+  make_said : (r : Option Row) → Fine (make_asked inc x p avoid e c r)
+  make_said (Some r) = tt
+  make_said None = made_said (made_above avoid (at_uid (top_of p) c.named.made))
 
-  call_quiet : (l : Option Live) → Fine (bind_call inc x p avoid e c l)
-  call_quiet (Some l) = live_quiet l (conflict_on x p mode.Read c.named)
-  call_quiet None = make_quiet (conflict_on x p mode.Write c.named)
+  call_said : (l : Option Live) → Fine (bind_call inc x p avoid e c l)
+  call_said (Some l) = live_said l (conflict_on x p mode.Read c.named)
+  call_said None = make_said (conflict_on x p mode.Write c.named)
 
-  include_quiet : (r : Option Row) → Fine (include_asked inc x p e c r)
-  include_quiet (Some r) = tt
-  include_quiet None = lock_quiet mode.Write
+  include_said : (r : Option Row) → Fine (include_asked inc x p e c r)
+  include_said (Some r) = tt
+  include_said None = lock_said mode.Write
 
-  named_quiet : (include : Bool) → Fine (bind_named inc x p include avoid e c)
-  named_quiet true = include_quiet (conflict_on x p mode.Write c.named)
-  named_quiet false = call_quiet (live_above avoid c.named.live)
+  named_said : (include : Bool) → Fine (bind_named inc x p include avoid e c)
+  named_said true = include_said (conflict_on x p mode.Write c.named)
+  named_said false = call_said (live_above avoid c.named.live)
 
-pub bind_quiet : (p : Path) (x : ℕ) (include : Bool) (avoid : Binding) (d : Pair) (n : Naming) → AllQuiet (let s = naming.bind p x include avoid d n in s.outs)
-bind_quiet p x include avoid d n = by (is_over p n)
+pub bind_said : (p : Path) (x : ℕ) (include : Bool) (avoid : Binding) (d : Pair) (n : Naming) → AllSaid (let s = naming.bind p x include avoid d n in s.outs)
+bind_said p x include avoid d n = by (is_over p n)
   where
-    there : (q : Option Named) → AllQuiet (let s = on_counted x (bind_named n.inc x p include avoid (listed_entry x d)) n q in s.outs)
+    there : (q : Option Named) → AllSaid (let s = on_counted x (bind_named n.inc x p include avoid (listed_entry x d)) n q in s.outs)
     there None = tt
-    there (Some o) = named_quiet x p n.inc (listed_entry x d) (record { named = o; count = n.count }) avoid include
+    there (Some o) = named_said x p n.inc (listed_entry x d) (record { named = o; count = n.count }) avoid include
 
-    by : (b : Bool) → AllQuiet (let s = cond b (void n) (on_counted x (bind_named n.inc x p include avoid (listed_entry x d)) n (at_number x n.objects)) in s.outs)
+    by : (b : Bool) → AllSaid (let s = cond b (void n) (on_counted x (bind_named n.inc x p include avoid (listed_entry x d)) n (at_number x n.objects)) in s.outs)
     by true = tt
     by false = there (at_number x n.objects)
+
+pub bind_quiet : (p : Path) (x : ℕ) (include : Bool) (avoid : Binding) (d : Pair) (n : Naming) → AllQuiet (let s = naming.bind p x include avoid d n in s.outs)
+bind_quiet p x include avoid d n = said_quiet (let s = naming.bind p x include avoid d n in s.outs) (bind_said p x include avoid d n)
 
 lower_quiet : (x : ℕ) (top : Uid) (o : Named) → AllQuiet (lower_lines x top o)
 lower_quiet x top o = by (is_lowered x top o)

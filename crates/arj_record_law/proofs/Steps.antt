@@ -254,7 +254,7 @@ module _ (T : Tests) (zero_made : T.made 0 ≡ true) (sent : List Post) (k : ℕ
           kept_on same k = step_on T R Q stay z.goal z.x (top_of z.path) z.at (subst (λ y. (let o = keeping_of y R in let l = keeping_of y Q in StaysKept o.kept l.kept × (binding_number l.avoid ≡ binding_number o.avoid))) same (subst (λ (l : Keeping). StaysKept K.kept l.kept × (binding_number l.avoid ≡ binding_number K.avoid)) (sym at_x) (k, avoids))) old
 
           -- at its Bind a call stands on what is avoided alone
-          bind_on : (w : At) → is_bind w ≡ true → CallStands T K.kept K.avoid w → CallStands T q.kept q.avoid w
+          bind_on : (w : At) → is_bind w ≡ true → CallStands T s.x K.kept K.avoid w → CallStands T s.x q.kept q.avoid w
           bind_on (AtBind b) bind stands = stands ∙ sym avoids
           bind_on (AtLoad y n rest) bind stands = absurd (cc bind)
           bind_on (AtActivate y st) bind stands = absurd (cc bind)
@@ -265,7 +265,7 @@ module _ (T : Tests) (zero_made : T.made 0 ≡ true) (sent : List Post) (k : ℕ
           free_on same free (Run o) goal stands =
               let its : s ≡ z = alone_free free.1 u e z at is (sym same) (ap is_call goal) num in
               let bind : is_bind z.at ≡ true = ap (λ (y : Steps). is_bind y.at) (sym its) ∙ free.0 in
-              subst (λ y. (let l = keeping_of y Q in CallStands T l.kept l.avoid z.at)) same (subst (λ (l : Keeping). CallStands T l.kept l.avoid z.at) (sym at_x) (bind_on z.at bind (subst (λ y. (let l = keeping_of y R in CallStands T l.kept l.avoid z.at)) (sym same) stands)))
+              subst (λ y. (let l = keeping_of y Q in CallStands T y l.kept l.avoid z.at)) same (subst (λ (l : Keeping). CallStands T s.x l.kept l.avoid z.at) (sym at_x) (bind_on z.at bind (subst (λ y. (let l = keeping_of y R in CallStands T y l.kept l.avoid z.at)) (sym same) stands)))
           free_on same free (Include n) goal stands = include_only z.at stands
             where
               include_only : (w : At) → IncludeStands T z.x (top_of z.path) R w → IncludeStands T z.x (top_of z.path) Q w
@@ -355,7 +355,7 @@ module _ (T : Tests) (zero_made : T.made 0 ≡ true) (sent : List Post) (k : ℕ
           by : (o : Goal) → s.goal ≡ o → Good (heard_call s r c).part
           by (Run o) goal = subst (λ z. Good (step_call s (answered free (kept_at s c) z s.at r).step (on_root (root_of s.path) (λ q. with_keeping s.x (keeps_after z (has_changed (answered free (kept_at s c) z s.at r).step) (answered free (kept_at s c) z s.at r).kept (keeping_of s.x q)) (notes_grant (granted_by (top_of s.path) s.x r) q)) c)).part) (sym goal) call
             where
-              stands : CallStands T K.kept K.avoid s.at
+              stands : CallStands T s.x K.kept K.avoid s.at
               stands = subst (λ z. StepStands T z s.x (top_of s.path) R s.at) goal its_stand
 
               w : IsMoved T s.x (top_of s.path) o K.kept K.avoid (knows.keeps (root_of s.path) s.x).kept free s.at (answered free (kept_at s c) (Run o) s.at r)
@@ -366,7 +366,7 @@ module _ (T : Tests) (zero_made : T.made 0 ≡ true) (sent : List Post) (k : ℕ
 
               call : Good (step_call s (answered free (kept_at s c) (Run o) s.at r).step (on_root (root_of s.path) (λ z. with_keeping s.x (keeps_after (Run o) (has_changed (answered free (kept_at s c) (Run o) s.at r).step) (answered free (kept_at s c) (Run o) s.at r).kept (keeping_of s.x z)) (notes_grant (granted_by (top_of s.path) s.x r) z)) c)).part
               call = put_goes g q (record { avoid = (knows.keeps (root_of s.path) s.x).avoid; kept = w.kept_so }) w.height refl w.stays (answered free (kept_at s c) (Run o) s.at r).step
-                  (λ at is. subst (λ z. StepStands T z s.x (top_of s.path) (with_keeping s.x q (notes_grant g R)) at) (sym goal) (subst (λ (l : Keeping). CallStands T l.kept l.avoid at) (sym (put_here s.x q (notes_grant g R))) (w.next at is)))
+                  (λ at is. subst (λ z. StepStands T z s.x (top_of s.path) (with_keeping s.x q (notes_grant g R)) at) (sym goal) (subst (λ (l : Keeping). CallStands T s.x l.kept l.avoid at) (sym (put_here s.x q (notes_grant g R))) (w.next at is)))
                   (λ a is. w.ends (calls.Answered a) is)
                   (λ st is. absurd (w.ends (calls.Included st) is))
           by (Include n) goal = subst (λ z. Good (step_call s (answered free (kept_at s c) z s.at r).step (on_root (root_of s.path) (λ q. with_keeping s.x (keeps_after z (has_changed (answered free (kept_at s c) z s.at r).step) (answered free (kept_at s c) z s.at r).kept (keeping_of s.x q)) (notes_grant (granted_by (top_of s.path) s.x r) q)) c)).part) (sym goal)
@@ -418,7 +418,7 @@ module _ (T : Tests) (zero_made : T.made 0 ≡ true) (sent : List Post) (k : ℕ
         by : (o : Goal) → s.goal ≡ o → Good (give_up_call s c).part
         by (Run o) goal = subst (λ z. Good (step_call s (given_up s.at) (on_root (root_of s.path) (λ q. let k = keeping_of s.x q in with_keeping s.x (keeps_after z (is_ended (given_up s.at) && spoils s.at) k.kept k) q) c)).part) (sym goal)
             (put_goes None (keeps_after (Run o) (is_ended (given_up s.at) && spoils s.at) K.kept K) (record { avoid = (knows.keeps (root_of s.path) s.x).avoid; kept = (knows.keeps (root_of s.path) s.x).kept }) (omega arith) refl (inl (keeps_all K.kept)) (given_up s.at)
-            (λ at is. subst (λ z. StepStands T z s.x (top_of s.path) (with_keeping s.x (keeps_after (Run o) (is_ended (given_up s.at) && spoils s.at) K.kept K) R) at) (sym goal) (subst (λ (l : Keeping). CallStands T l.kept l.avoid at) (sym (put_here s.x (keeps_after (Run o) (is_ended (given_up s.at) && spoils s.at) K.kept K) R)) (lost_moved T K.kept K.avoid s.at at is (subst (λ z. StepStands T z s.x (top_of s.path) R s.at) goal its_stand))))
+            (λ at is. subst (λ z. StepStands T z s.x (top_of s.path) (with_keeping s.x (keeps_after (Run o) (is_ended (given_up s.at) && spoils s.at) K.kept K) R) at) (sym goal) (subst (λ (l : Keeping). CallStands T s.x l.kept l.avoid at) (sym (put_here s.x (keeps_after (Run o) (is_ended (given_up s.at) && spoils s.at) K.kept K) R)) (lost_moved T s.x K.kept K.avoid s.at at is (subst (λ z. StepStands T z s.x (top_of s.path) R s.at) goal its_stand))))
             (λ a is. absurd (unanswered s.at a is)) (λ st is. absurd (unincluded s.at st is)))
         by (Include n) goal = subst (λ z. Good (step_call s (given_up s.at) (on_root (root_of s.path) (λ q. let k = keeping_of s.x q in with_keeping s.x (keeps_after z (is_ended (given_up s.at) && spoils s.at) k.kept k) q) c)).part) (sym goal)
             (put_goes None K (knows.keeps (root_of s.path) s.x) (omega arith) refl (inl (keeps_all K.kept)) (given_up s.at)

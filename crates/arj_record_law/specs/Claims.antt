@@ -9,16 +9,17 @@ use Rattle.arj_protocol.specs.Words.recorded
 use Rattle.arj_protocol.specs.Ask.{Reply, actor, answers, asked_by, top_of}
 use Rattle.arj_protocol.specs.Confirm.{Grants, Marks}
 use Rattle.arj_protocol.specs.Effect.{Pair}
-use Rattle.arj_protocol.specs.Order.{binding_less, binding_number}
+use Rattle.arj_protocol.specs.Order.{binding_less, binding_number, has}
 use Rattle.arj_view_law.specs.Seen.{In, Post}
 use Rattle.arj_record_law.specs.Tests.{Tests}
 
 -- ---- answers
 
--- An answer to a Bind names a binding above the one to avoid; a live one was recorded; and an include asked the lock.
+-- An answer to a Bind names a binding above the one to avoid; a live one was recorded, and one that was made comes with stores of the entry;
+-- and an include asked the lock.
 abbrev pub SaysBound : Tests → ℕ → Binding → Uid → BoundReply → Type 0
 SaysBound T x avoid top (bound.Live b server i g stores) = (T.past x (binding_number b) ≡ true) × (T.made (binding_number b) ≡ true) × (binding_less avoid b ≡ true) × (T.low g ≡ true)
-SaysBound T x avoid top (bound.Make b server g stores) = (T.made (binding_number b) ≡ true) × (binding_less avoid b ≡ true) × (T.low g ≡ true)
+SaysBound T x avoid top (bound.Make b server g stores) = (T.made (binding_number b) ≡ true) × (binding_less avoid b ≡ true) × (T.low g ≡ true) × ((s : ℕ) → has stores s ≡ true → T.listed x (binding_number b) s ≡ true)
 SaysBound T x avoid top (bound.Write g stores) = (T.asked x top g ≡ true) × (T.low g ≡ true)
 SaysBound T x avoid top (bound.Conflict holder m) = ⊤
 

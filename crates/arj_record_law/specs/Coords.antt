@@ -1,5 +1,5 @@
 -- What a coordinator knows of the bindings that its roots keep, of those that it asked to record, and of its includes.
-use Rattle.std.specs.Prelude.{◌≡◌, ◌⊎◌, ◌≤◌, ◌<◌, ◌||◌, ℕ, Bool, true, List, Option, Some, None}
+use Rattle.std.specs.Prelude.{◌≡◌, ◌⊎◌, ◌≤◌, ◌<◌, ◌||◌, ℕ, Bool, true, List, ◌∷◌, Option, Some, None}
 use Rattle.arj_lock.proofs.Members as list
 use Rattle.arj_protocol.specs.Words.{Uid, Binding, Head, ObjectState, asks, last_uid, uids_of}
 use Rattle.arj_protocol.specs.Words.ask
@@ -56,13 +56,14 @@ pub record IsIncluded (T : Tests) (x : ℕ) (top : Uid) (g : ℕ) (r : Root) : T
 abbrev pub HasNumber : Option Known → Known → Type 0
 HasNumber kept k = (old : Known) × (kept ≡ Some old) × (binding_number old.binding ≡ binding_number k.binding)
 
--- What a call stands on: its Bind avoids what the root does; further on the root keeps its binding; and once it invokes that is recorded.
-abbrev pub CallStands : Tests → Option Known → Binding → At → Type 0
-CallStands T kept avoid (AtBind b) = binding_number b ≡ binding_number avoid
-CallStands T kept avoid (AtLoad z n rest) = HasNumber kept z × (T.low z.grant ≡ true)
-CallStands T kept avoid (AtActivate z st) = HasNumber kept z × (T.low z.grant ≡ true)
-CallStands T kept avoid (AtNote z i) = HasNumber kept z × (T.low z.grant ≡ true)
-CallStands T kept avoid (AtInvoke z i) = IsRecorded kept
+-- What a call stands on: its Bind avoids what the root does; further on the root keeps its binding, and the stores that it asks came with
+-- it; and once it invokes that is recorded.
+abbrev pub CallStands : Tests → ℕ → Option Known → Binding → At → Type 0
+CallStands T x kept avoid (AtBind b) = binding_number b ≡ binding_number avoid
+CallStands T x kept avoid (AtLoad z n rest) = HasNumber kept z × (T.low z.grant ≡ true) × ((s : ℕ) → has (n ∷ rest) s ≡ true → T.listed x (binding_number z.binding) s ≡ true)
+CallStands T x kept avoid (AtActivate z st) = HasNumber kept z × (T.low z.grant ≡ true)
+CallStands T x kept avoid (AtNote z i) = HasNumber kept z × (T.low z.grant ≡ true)
+CallStands T x kept avoid (AtInvoke z i) = IsRecorded kept
 
 -- an include loads with its grant
 abbrev pub IncludeStands : Tests → ℕ → Uid → Root → At → Type 0
@@ -71,7 +72,7 @@ IncludeStands T x top r (AtLoad z n rest) = IsIncluded T x top z.grant r
 IncludeStands T x top r _ = ⊥
 
 abbrev pub StepStands : Tests → Goal → ℕ → Uid → Root → At → Type 0
-StepStands T (Run o) x top r at = let k = keeping_of x r in CallStands T k.kept k.avoid at
+StepStands T (Run o) x top r at = let k = keeping_of x r in CallStands T x k.kept k.avoid at
 StepStands T (Include s) x top r at = IncludeStands T x top r at
 
 -- ---- commits

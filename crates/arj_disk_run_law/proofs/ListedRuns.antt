@@ -1,0 +1,180 @@
+-- Whoever waits to load the object for a current binding asks stores that its entry lists, which hold the last state; in every run.
+use Rattle.std.proofs.Common.{◌≡◌, ◌==◌, ◌&&◌, ℕ, Bool, true, false, List, ◌∷◌, Option, Some, None, refl, sym, ◌∙◌, ap, subst, eqb-true}
+use Rattle.std.specs.Prelude.{if◌then◌else◌}
+use Rattle.std.proofs.lemmas.Bool.{and_parts}
+use Rattle.arj_protocol.specs.Words.{Uid, object}
+use Rattle.arj_protocol.specs.Ask.{top_of}
+use Rattle.arj_protocol.specs.Call.{Run}
+use Rattle.arj_protocol.specs.Coord.{Root, root_at}
+use Rattle.arj_protocol.specs.Effect.{held_at, holder_of}
+use Rattle.arj_protocol.specs.Naming.{Naming, listed_entry}
+use Rattle.arj_protocol.specs.Order.{binding_number, has, uid_number}
+use Rattle.arj_protocol.specs.Step.{Node}
+use Rattle.arj_protocol.specs.Tree.{root_of}
+use Rattle.arj_part_law.specs.Actions.{Action}
+use Rattle.arj_run_law.specs.Worlds.{IsGoodOf}
+use Rattle.arj_disk_law.specs.Names.{Office}
+use Rattle.arj_disk_law.specs.State.{Hold, is_gone, is_idle, last}
+use Rattle.arj_disk_law.proofs.Base.{some_is, test_same}
+use Rattle.arj_disk_law.proofs.Restarts.{write_clears}
+use Rattle.arj_disk_law.proofs.Results.{clean}
+use Rattle.arj_view_law.specs.Keeps.{Keeps}
+use Rattle.arj_view_law.specs.Seen.{Seen, at, up}
+use Rattle.arj_call_law.specs.Runs.{KnowsFew}
+use Rattle.arj_disk_view_law.specs.Coordinating.{KnowsNode}
+use Rattle.arj_disk_view_law.specs.Knows.{KnowsKinds}
+use Rattle.arj_disk_view_law.specs.Pairs.{packed}
+use Rattle.arj_disk_view_law.specs.Sees.{Kinds}
+use Rattle.arj_disk_view_law.specs.Stores.{SeesStore}
+use Rattle.arj_disk_view_law.proofs.Planned.{has_same}
+use Rattle.arj_disk_view_law.proofs.StoreSteps.{place_free}
+use Rattle.arj_names_view_law.specs.Both.{SeesBoth}
+use Rattle.arj_names_view_law.specs.Memory.{SeesNaming}
+use Rattle.arj_record_law.specs.Claims.{AreFitting}
+use Rattle.arj_record_law.specs.Coords.{KnowsRecords, StepStands}
+use Rattle.arj_record_law.specs.Runs.{KnowsOfRecords, RecordsKnown}
+use Rattle.arj_record_law.specs.Tests.{Tests}
+use Rattle.arj_disk_run_law.specs.Bindings.{AreGoodCounted}
+use Rattle.arj_disk_run_law.specs.Entries.{HaveEntries}
+use Rattle.arj_disk_run_law.specs.Rest.{IsKnownWith, SeesCarried}
+use Rattle.arj_disk_run_law.specs.Kinds.{Agrees, kinds_of}
+use Rattle.arj_disk_run_law.specs.Listed.{AnswersList, HeardRunsLoad, IsCurrent, IsLoading, LoadsAgree, LoadsListed, PassesListed, PassesLists, TellsLists}
+use Rattle.arj_disk_run_law.specs.Part.{IsCarried, KeepsPart}
+use Rattle.arj_disk_run_law.specs.Places.{ArePlaced}
+use Rattle.arj_disk_run_law.specs.Records.{AreRecorded}
+use Rattle.arj_disk_run_law.specs.Runs.{HasState}
+use Rattle.arj_disk_run_law.proofs.BothEach.{counted_with, heard_part, kinds_there, runs_beside, with_entries}
+use Rattle.arj_disk_run_law.proofs.Copies.{agrees_on, has_state}
+use Rattle.arj_disk_run_law.proofs.HeardPlaces.{StandsIn}
+use Rattle.arj_disk_run_law.proofs.HeardStarts.{step_idle, step_rooted, step_stands}
+use Rattle.arj_disk_run_law.proofs.Known.{knows_node}
+use Rattle.arj_disk_run_law.proofs.ListedBack.{holds_write, stores_are}
+use Rattle.arj_disk_run_law.proofs.ListedKept.{WithLists, listed_part}
+
+-- ---- what a waiting call asks
+
+module _ (x : ℕ) (tops : Kinds) (kinds : KnowsKinds tops) (A : Office) (M : Seen) (both : SeesBoth x tops A M) (answers : AnswersList x tops A M) (known : RecordsKnown M) (l : IsLoading x M)
+    (top : tops.is_top (uid_number (top_of (let s = l.steps in s.path))) ≡ true) (works : is_idle (A.world.disk.stage (uid_number (top_of (let s = l.steps in s.path)))) ≡ true) (rooted : is_gone (A.world.disk.stage (A.world.disk.root (uid_number (top_of (let s = l.steps in s.path))))) ≡ false) where
+  abbrev its_top : Uid
+  its_top = top_of (let s = l.steps in s.path)
+
+  abbrev number : ℕ
+  number = binding_number (let k = l.known in k.binding)
+
+  abbrev stores : List ℕ
+  stores = (let n = l.first in let e = listed_entry x n.disk.names in e.stores)
+
+  current : (n : Naming) → n ≡ l.naming → (v : ℕ) → number ≡ v → IsCurrent x tops A.world.disk n (top_of (let s = l.steps in s.path)) v
+  current n is v same = subst (λ m. IsCurrent x tops A.world.disk m (top_of (let s = l.steps in s.path)) v) (sym is) (record { object = l.object; made = l.made; there = l.found; of = l.last; unrecorded = l.unrecorded; same = l.same ∙ same; is_top = top; works = works; rooted = rooted })
+
+  -- the test of one store
+  abbrev one_test : ℕ → ℕ → ℕ → ℕ → Bool
+  one_test s y v r = if (y == x) && ((v == number) && (r == s)) then has stores s else true
+
+  abbrev tests : ℕ → Tests
+  tests s = record { made = λ v. true; past = λ y v. true; asked = λ y u i. true; low = λ i. true; listed = one_test s }
+
+  tells : (s : ℕ) → TellsLists (tests s)
+  tells s = record { made = λ v. refl; past = λ y v. refl; asked = λ y u i. refl; low = λ i. refl }
+
+  passes : (s : ℕ) → PassesLists x tops A.world.disk (tests s) M
+  passes s n at_n = subst (λ (z : Node). PassesListed x tops A.world.disk (tests s) z.disk z.live) (some_is l.there at_n) (subst (PassesListed x tops A.world.disk (tests s) (let z = l.first in z.disk)) (sym l.first_live) own)
+    where
+      own : PassesListed x tops A.world.disk (tests s) (let z = l.first in z.disk) (Some l.names)
+      own m named y v r low listed = by ((y == x) && ((v == number) && (r == s))) refl
+        where
+          by : (b : Bool) → ((y == x) && ((v == number) && (r == s))) ≡ b → (if b then has (let z = l.first in let e = listed_entry x z.disk.names in e.stores) s else true) ≡ true
+          by false off = refl
+          by true on =
+              let a = and_parts (y == x) ((v == number) && (r == s)) on in
+              let c = and_parts (v == number) (r == s) a.1 in
+              subst (λ j. has (let z = l.first in let e = listed_entry x z.disk.names in e.stores) j ≡ true) (eqb-true r s c.1) (listed (eqb-true y x a.0) (top_of (let z = l.steps in z.path)) (current m (some_is named l.named) v (sym (eqb-true v number c.0))))
+
+  fitting : (s : ℕ) → AreFitting (tests s) M.sent
+  fitting s = record { zero = refl; down = λ y v w le on. refl; answered = answers (tests s) (tells s) (passes s) }
+
+  -- the stores that it asks passed for its binding
+  asked : (s : ℕ) → has (l.store ∷ l.rest) s ≡ true → one_test s x number s ≡ true
+  asked s on = (subst (λ at. StepStands (tests s) (Run l.op) x its_top root at) l.waits (subst (λ g. StepStands (tests s) g x its_top root (let z = l.steps in z.at)) l.goal (subst (λ y. StepStands (tests s) (let z = l.steps in z.goal) y its_top root (let z = l.steps in z.at)) l.of (records.kept.steps l.actor l.doing l.steps l.does l.now)))).2 s on
+    where
+      records : KnowsRecords (tests s) M.sent l.place (let t = l.parts in t.coord)
+      records = let c : KnowsOfRecords M.sent l.place (let t = l.parts in t.coord) = known.0.0.0.1.1 l.place l.node l.parts l.up l.live in c.records (tests s) (fitting s)
+
+      root : Root
+      root = root_at (root_of (let z = l.steps in z.path)) (let t = l.parts in t.coord)
+
+  same_test : (a : ℕ) → (a == a) ≡ true
+  same_test a = test_same a
+
+  pub loads_listed : LoadsListed x A M l
+  loads_listed = record {
+    holds = holds_write x tops A both.named kinds (let s = both.disks in s.fixed) l.naming seen its_top number (current l.naming refl number refl);
+    listed = λ s on. has_same s A.world.disk.entry.content ∙ (ap (λ ss. has ss s) (sym (stores_are x tops (let n = l.first in n.disk.names) A (let d = both.disks in d.entry l.first l.there))) ∙ there s on);
+  }
+    where
+      seen : SeesNaming x tops l.naming A.world.disk A.names
+      seen = let n = both.names in n.memory l.first l.names l.naming l.there l.first_live l.named
+
+      there : (s : ℕ) → has (l.store ∷ l.rest) s ≡ true → has stores s ≡ true
+      there s on = sym (λ i. if same_test x i && (same_test number i && same_test s i) then has stores s else true) ∙ asked s on
+
+-- ---- every run
+
+-- a node stands at its place
+seen_again : (k : ℕ) (n : Node) (M : Seen) → M.nodes k ≡ Some n → n.number ≡ k → M ≡ at k n.disk n.live M
+seen_again k n M there is = λ i. record M { nodes = λ m. by m (m == k) refl i }
+  where
+    by : (m : ℕ) (b : Bool) → (m == k) ≡ b → M.nodes m ≡ (if b then Some (record { number = k; disk = n.disk; live = n.live }) else M.nodes m)
+    by m true e = ap M.nodes (eqb-true m k e) ∙ there ∙ λ i. Some (record { number = is i; disk = n.disk; live = n.live })
+    by m false e = refl
+
+-- where both halves are carried, with the claims of naming's answers
+module _ (x : ℕ) (tops : Kinds) (begun : List Action) (A : Office) (M : Seen) (agree : Agrees tops begun) (good : IsGoodOf begun M) (recs : AreRecorded begun M) (placed : ArePlaced begun M) (few : KnowsFew M) (both : SeesBoth x tops A M) (numbers : (k : ℕ) (n : Node) → M.nodes k ≡ Some n → n.number ≡ k) (l : IsLoading x M) where
+  abbrev All : Seen → Type 0
+  All N = (IsGoodOf begun N × AreRecorded begun N) × (ArePlaced begun N × KnowsFew N) × SeesBoth x tops A N
+
+  here : All (up l.place (let n = l.node in n.disk) l.parts M)
+  here = subst (λ o. All (at l.place (let n = l.node in n.disk) o M)) l.live (subst All (seen_again l.place l.node M l.up (numbers l.place l.node l.up)) ((good, recs), (placed, few), both))
+
+  knows : KnowsNode tops l.place (let n = l.node in n.disk) l.parts M
+  knows = knows_node tops begun l.place (let n = l.node in n.disk) l.parts M here.0.0 agree here.0.1 here.1.0
+
+  pub loading_listed : AnswersList x tops A M → RecordsKnown M → LoadsListed x A M l
+  loading_listed answers known = loads_listed x tops agree.kinds A M both answers known l (let t = stands.top in t.top)
+      (ap is_idle (step_idle tops l.place (let n = l.node in n.disk) l.parts M (begun, here.0.0) here.1.1 knows x A here.2 l.actor l.doing l.steps l.does l.now))
+      (step_rooted tops l.place (let n = l.node in n.disk) l.parts M (begun, here.0.0) here.1.1 knows x A here.2 l.actor l.doing l.steps l.does l.now)
+    where
+      stands : StandsIn tops (let t = l.parts in t.coord) (let s = l.steps in s.path)
+      stands = step_stands tops l.place (let n = l.node in n.disk) l.parts M (begun, here.0.0) here.1.1 knows l.actor l.doing l.steps l.does l.now
+
+-- and what each store of those holds that it asks
+loads_agree : (x : ℕ) (tops : Kinds) (A : Office) (M : Seen) → SeesBoth x tops A M → ((l : IsLoading x M) → LoadsListed x A M l) → LoadsAgree x M
+loads_agree x tops A M both listed = (last A.world.disk, agrees_on x tops A.world M both.disks, each)
+  where
+    each : (l : IsLoading x M) (s : ℕ) (m : Node) → has (l.store ∷ l.rest) s ≡ true → M.nodes s ≡ Some m → holder_of (object x) m.disk.store ≡ None → HasState x (last A.world.disk) m
+    each l s m on there clear =
+        let z = listed l in
+        let o : SeesStore x s m.disk.store A.world.disk = (let d = both.disks in d.stores s m there) in
+        has_state x (last A.world.disk) m (held_at (object x) m.disk.store) refl (o.pair.held_is ∙ (clean A.world (let d = both.disks in d.whole)).stores (free A.world.disk.entry_pend refl) s (z.listed s on) (place_free (object x) m.disk.store packed (A.world.disk.held s) (A.world.disk.pend s) o.pair clear))
+      where
+        free : (o : Option Hold) → A.world.disk.entry_pend ≡ o → A.world.disk.entry_pend ≡ None
+        free None is = is
+        free (Some h) is = let w = listed l in let q = w.holds in absurd (write_clears A both.named (uid_number (top_of (let z = l.steps in z.path))) q.0 q.1 q.2 h is)
+
+pub heard_runs_load : HeardRunsLoad
+heard_runs_load hd x test has_it rest = runs_beside hd x Base (WithLists x (SeesCarried x)) base_everywhere listed (LoadsAgree x)
+    (λ M numbers few h.
+    let g = h.1 in
+    let agree = kinds_there (λ N. Base N × HaveEntries x N) (IsCarried (WithLists x (SeesCarried x)) x) M h in
+    let s = g.5 (kinds_of h.0) agree in
+    let known = (let b = g.4.0.0.0 in let z = b.0.1 in z.1 (let f = few in f.0)).1 in
+    loads_agree x (kinds_of h.0) s.0 M s.1 (λ l. loading_listed x (kinds_of h.0) h.0 s.0 M agree g.0 g.2 g.3 few s.1 numbers l s.2.1 known))
+  where
+    Base : Seen → Type 0
+    Base M = (AreGoodCounted M × (test M ≡ true)) × HaveEntries x M
+
+    base_everywhere : Keeps hd Base
+    base_everywhere = with_entries hd x (λ M. AreGoodCounted M × (test M ≡ true)) (IsKnownWith test) (SeesCarried x) (heard_part hd x test has_it rest) (counted_with hd x test rest)
+
+    listed : KeepsPart hd x (λ M. Base M × KnowsFew M) (WithLists x (SeesCarried x))
+    listed = listed_part hd x (IsKnownWith test) (λ M. Base M × KnowsFew M) (λ M r. (r.0.0, r.1)) (λ M r. ((r.0.0.0, r.0.1), r.1)) (SeesCarried x) (heard_part hd x test has_it rest)
