@@ -262,9 +262,9 @@ one_act (x ∷ xs) apart a b (inr i) (inl j) same = absurd (never (among xs a i)
 one_act (x ∷ xs) apart a b (inr i) (inr j) same = one_act xs apart.3 a b i j same
 
 -- beside a relation that is kept
--- and it holds of the same state of the machine
+-- and it holds of the same state of the machine, where few bindings were made
 abbrev pub IsJournalledBeside : (Kinds → Office → Seen → Type 0) → ℕ → Seen → Type 0
-IsJournalledBeside P x M = (j : IsJournalled x M) × (A : Office) × (A.world ≡ j.machine) × P j.tops A M
+IsJournalledBeside P x M = (j : IsJournalled x M) × (A : Office) × (A.world ≡ j.machine) × P j.tops A M × KnowsFew M
 
 pub journalled_beside : (hd : Header) (x : ℕ) (R : Seen → Type 0) (P : Kinds → Office → Seen → Type 0) → Keeps hd R → KeepsPart hd x (λ M. R M × KnowsFew M) P → (es : List Asked) → length es ≤ most_events → Holds hd (IsJournalledBeside P x) (run_all es (format hd))
 journalled_beside hd x R P kept parts es short =
@@ -296,6 +296,7 @@ journalled_beside hd x R P kept parts es short =
         s.0,
         refl,
         s.2.0,
+        (scripts_few hd es short, (r.holds.1 (scripts_few hd es short)).0),
       );
     }
   where

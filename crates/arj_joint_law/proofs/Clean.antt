@@ -2,7 +2,7 @@
 use Rattle.std.proofs.Common.{Contains, ◌≡◌, ◌⊎◌, ◌<◌, ◌≤◌, ◌==◌, ◌||◌, ℕ, Bool, cond, false, eqb-true, eq-eqb, List, [], ◌∷◌, ◌++◌, length, true, is_some, refl, subst, inl, inr, ⊎_elim, filter, ap, sym, ◌∙◌, Option, Some, None}
 use Rattle.std.specs.List.{AllByRecursion}
 use Rattle.arj_journal.specs.ScriptForm.{HeaderInForm}
-use Rattle.arj_lock.proofs.Members.{In, in_find, in_find_none, in_from, in_to}
+use Rattle.arj_lock.proofs.Members.{In, in_find_none, in_from, in_to}
 use Rattle.arj_model.specs.Actions.{Act, acts}
 use Rattle.arj_model.specs.Calls.{Top, tops}
 use Rattle.arj_model.specs.Last.{first_values, object_line}
@@ -45,6 +45,7 @@ use Rattle.arj_joint_law.specs.Shown.{IncludesAreThere}
 use Rattle.arj_joint_law.specs.Writers.{WritersAreNewestFirst}
 use Rattle.arj_joint_law.proofs.Called.{decided_writers_stand, decision_of, number_is, one_number, those_of, wrote_something}
 use Rattle.arj_joint_law.proofs.FormRuns.{runs_have_form}
+use Rattle.arj_joint_law.proofs.JoinedRuns.{header_has}
 use Rattle.arj_joint_law.proofs.OrderedRuns.{runs_are_ordered}
 use Rattle.arj_joint_law.proofs.Showing.{files_show_disks}
 
@@ -236,13 +237,6 @@ runs_are_clean hd es disks test form short heard tied decide files =
     r = runs_hold hd IsKept (lines_keep hd) es
 
 -- ---- with the lock half
-
-header_has : (hd : Header) (x : ℕ) → is_some (object_line hd x) ≡ true → HasObject hd x
-header_has hd x there = by (object_line hd x) refl there
-  where
-    by : (o : Option ObjectLine) → object_line hd x ≡ o → is_some o ≡ true → HasObject hd x
-    by None is some = absurd (cc some)
-    by (Some o) is some = let f = in_find (λ (p : ObjectLine). p.x == x) o hd.objects is in (o, in_to o hd.objects f.0, eqb-true o.x x f.1)
 
 pub lock_tied : (hd : Header) (es : List Asked) (test : ℕ → List Action → Seen → Bool) → length es ≤ most_events → AreRest hd test → AreLockTied hd (journal hd es)
 lock_tied hd es test short rest = record {

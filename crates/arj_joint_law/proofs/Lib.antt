@@ -17,3 +17,9 @@ pub mod InTime
 pub mod NewWriters
 pub mod RunsInTime
 pub mod Dropping
+pub mod Joining
+pub mod Recording
+pub mod Counting
+pub mod JoinedRuns
+pub mod Writing
+pub mod Written

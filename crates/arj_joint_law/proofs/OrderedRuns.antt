@@ -40,6 +40,7 @@ use Rattle.arj_joint_law.proofs.Beginning.{WithFirst, first_begins, first_part}
 use Rattle.arj_joint_law.proofs.Firsts.{line_there}
 use Rattle.arj_joint_law.proofs.Ordering.{ordered_part}
 use Rattle.arj_joint_law.proofs.Turns.{IdleThere}
+use Rattle.arj_joint_law.specs.Joined.{world_of}
 
 abbrev Idle : List Line → Uid → Type 0
 Idle ls u = IsIdle (book ls) u
@@ -57,7 +58,11 @@ turns_of lines right (d ∷ ds) turns = (λ e a b i in_a in_b ea db top apart. b
         let same = one_act (acts_of lines) s.distinct p b (subst (In p) (let r = s.reads in r.begun) (in_from p (let B = book lines in B.acts) its)) (in_from b (acts_of lines) in_b) uid in
         absurd (never (ap (λ (y : Act). is_top y.kind) same ∙ top) plain)
 
-ordered_beside : (hd : Header) (x : ℕ) (R : Seen → Type 0) (P : Kinds → Office → Seen → Type 0) → HeaderInForm hd → is_some (object_line hd x) ≡ true → Keeps hd R → KeepsPart hd x (λ M. R M × KnowsFew M) P → (es : List Asked) → length es ≤ most_events → Holds hd (IsOrderedSo hd x) (run_all es (format hd))
+-- beside a relation that holds of the same state of the machine, where few bindings were made
+abbrev pub IsOrderedBeside : (Kinds → Office → Seen → Type 0) → Header → ℕ → Seen → Type 0
+IsOrderedBeside P hd x M = (o : IsOrderedSo hd x M) × (tops : Kinds) × (A : Office) × (A.world ≡ world_of o) × P tops A M × KnowsFew M
+
+pub ordered_beside : (hd : Header) (x : ℕ) (R : Seen → Type 0) (P : Kinds → Office → Seen → Type 0) → HeaderInForm hd → is_some (object_line hd x) ≡ true → Keeps hd R → KeepsPart hd x (λ M. R M × KnowsFew M) P → (es : List Asked) → length es ≤ most_events → Holds hd (IsOrderedBeside P hd x) (run_all es (format hd))
 ordered_beside hd x R P form there kept parts es short =
     let first : KeepsPart hd x (λ M. R M × KnowsFew M) (WithFirst hd x P) = first_part hd x (λ M. R M × KnowsFew M) P parts (first_begins hd x form there) in
     let idles : KnowsIdle R Idle = knows_idle R in
@@ -70,16 +75,26 @@ ordered_beside hd x R P form there kept parts es short =
     record {
       sent = h.sent;
       stands = h.stands;
-      holds = record {
-        begun = record { journalled = b.0; begins = subst (λ (W : machine.World). BeginsSo hd x W.disk) b.2 (let z = b.3 in let t = z.0 in let p = t.0 in p.1) };
-        once = subst (λ (W : machine.World). AreOnce W.disk.tops) b.2 order.once;
-        called = subst (λ (W : machine.World). AreCalled (run_all es (format hd)).lines W.disk.tops) b.2 order.called;
-        turns = subst (λ (W : machine.World). AreTurnsOf (run_all es (format hd)).lines W.disk.tops) b.2 (turns_of (run_all es (format hd)).lines right (let A = b.1 in A.world.disk.tops) order.turns);
-      };
+      holds = (
+        record {
+          begun = record { journalled = b.0; begins = subst (λ (W : machine.World). BeginsSo hd x W.disk) b.2 (let z = b.3 in let t = z.0 in let p = t.0 in p.1) };
+          once = subst (λ (W : machine.World). AreOnce W.disk.tops) b.2 order.once;
+          called = subst (λ (W : machine.World). AreCalled (run_all es (format hd)).lines W.disk.tops) b.2 order.called;
+          turns = subst (λ (W : machine.World). AreTurnsOf (run_all es (format hd)).lines W.disk.tops) b.2 (turns_of (run_all es (format hd)).lines right (let A = b.1 in A.world.disk.tops) order.turns);
+        },
+        (let j = b.0 in j.tops),
+        b.1,
+        b.2,
+        (let z = b.3 in let t = z.0 in let p = t.0 in p.0),
+        b.4,
+      );
     }
 
+ordered : (hd : Header) (x : ℕ) (P : Kinds → Office → Seen → Type 0) (es : List Asked) → Holds hd (IsOrderedBeside P hd x) (run_all es (format hd)) → Holds hd (IsOrderedSo hd x) (run_all es (format hd))
+ordered hd x P es h = record { sent = h.sent; stands = h.stands; holds = (let z = h.holds in z.0) }
+
 pub runs_are_ordered : RunsAreOrdered
-runs_are_ordered hd x test form there rest es short = ordered_beside hd x (λ M. AreGoodCounted M × (test M ≡ true)) (SeesCarried x) form there (counted_with hd x test rest) (heard_part hd x test (line_there hd x form there).0 rest) es short
+runs_are_ordered hd x test form there rest es short = ordered hd x (SeesCarried x) es (ordered_beside hd x (λ M. AreGoodCounted M × (test M ≡ true)) (SeesCarried x) form there (counted_with hd x test rest) (heard_part hd x test (line_there hd x form there).0 rest) es short)
 
 pub runs_are_ordered_beside : RunsAreOrderedBeside
-runs_are_ordered_beside hd x part form there parts es short = ordered_beside hd x IsGood (λ tops A M. part tops A M ≡ true) form there (parts_good hd) parts es short
+runs_are_ordered_beside hd x part form there parts es short = ordered hd x (λ tops A M. part tops A M ≡ true) es (ordered_beside hd x IsGood (λ tops A M. part tops A M ≡ true) form there (parts_good hd) parts es short)

@@ -8,4 +8,5 @@ pub mod Outcome
 pub mod Samples
 pub mod Excluded
 pub mod InTime
+pub mod Joined
 pub mod Dropped

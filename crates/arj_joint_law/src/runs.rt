@@ -1,6 +1,7 @@
 // What an object's machine begins with and how it decides, in whole runs, and that files are clean after them.
 ghost use Rattle.arj_joint_law.specs.Begun.{ObjectsAreThere, RunsBeginSo, RunsBeginSoBeside};
 ghost use Rattle.arj_joint_law.specs.Cleaned.{RunsAreClean, WholeRunsAreClean};
+ghost use Rattle.arj_joint_law.specs.Joined.{RunsAreJoined};
 ghost use Rattle.arj_joint_law.specs.Ordered.{RunsAreOrdered, RunsAreOrderedBeside};
 ghost use Rattle.arj_joint_law.specs.Shown.{FilesShowDisks, IncludesAreListed};
 
@@ -33,4 +34,13 @@ pub fn runs_are_clean()
     ensures whole { WholeRunsAreClean }
     ensures shown { FilesShowDisks }
     ensures listed { IncludesAreListed }
+{}
+
+/// After the run of each script whose header is in form, of at most 1,000,000 events, there are for each object of the header states of both of its
+/// machines at once: of the disk machine, as `decisions_come_behind_calls` has it; and of the lock machine, to which the journal is tied, in
+/// which commits under way have the votes that came. Each top that is decided, or has a record, has in the disk machine the plan with which it
+/// waited for naming in an earlier state of the lock machine: what it changes the object to is what the server voted that was called. So each
+/// decided top of the journal gave to the stores what it wrote. What both halves still take is taken. It does nothing when it runs.
+pub fn runs_have_both_machines()
+    ensures { RunsAreJoined }
 {}

@@ -393,16 +393,16 @@ module _ (m : Act) (is : is_top m ≡ true) where
 -- ---- what was given
 
 -- What a run leaves of a top whose commit was called, and that isn't aborted.
-record Behind (m : Act) (s t : State) : Type 0 where
-  stage : (s.action m).stage ≤ (t.action m).stage
-  first : s.naming.first ≤ t.naming.first
-  calls : (c : Call) → In c s.calls → In c t.calls
-  old : (c : Call) → In c t.calls → top c.act ≡ m → In c s.calls
-  back : (a : Act) → Alive t a → Alive s a
-  alive : (c : Call) → In c s.calls → top c.act ≡ m → Alive s c.act → Alive t c.act
-  kept : (c : Call) → In c s.calls → top c.act ≡ m → Alive t c.act → t.kept (root m) ≡ s.kept (root m)
-  confirmed : (c : Call) → In c s.calls → top c.act ≡ m → Alive t c.act → t.confirmed m ≡ true → IsPresent m s
-  newest : (x : ℕ) → Newest s.initial (λ (a : Act). (top a ≡ m) × Alive s a) x s.calls → Newest t.initial (λ (a : Act). (top a ≡ m) × Alive t a) x t.calls
+pub record Behind (m : Act) (s t : State) : Type 0 where
+  pub stage : (s.action m).stage ≤ (t.action m).stage
+  pub first : s.naming.first ≤ t.naming.first
+  pub calls : (c : Call) → In c s.calls → In c t.calls
+  pub old : (c : Call) → In c t.calls → top c.act ≡ m → In c s.calls
+  pub back : (a : Act) → Alive t a → Alive s a
+  pub alive : (c : Call) → In c s.calls → top c.act ≡ m → Alive s c.act → Alive t c.act
+  pub kept : (c : Call) → In c s.calls → top c.act ≡ m → Alive t c.act → t.kept (root m) ≡ s.kept (root m)
+  pub confirmed : (c : Call) → In c s.calls → top c.act ≡ m → Alive t c.act → t.confirmed m ≡ true → IsPresent m s
+  pub newest : (x : ℕ) → Newest s.initial (λ (a : Act). (top a ≡ m) × Alive s a) x s.calls → Newest t.initial (λ (a : Act). (top a ≡ m) × Alive t a) x t.calls
 
 module _ (m : Act) (is : is_top m ≡ true) where
   same_behind : (s : State) → Behind m s s
@@ -463,7 +463,7 @@ module _ (m : Act) (is : is_top m ≡ true) where
   run_stage stay h = omega arith
   run_stage {s} (step e guard more_steps) h = let k = step_keeps e s guard h in let later = k.0 in let a = later.stage m in let b = run_stage more_steps k.1 in omega (arith, a, b)
 
-  run_behind : {s t : State} → Run s t → Holds s → Values s → 1 ≤ (s.action m).stage → (t.action m).stage ≤ 3 → Behind m s t
+  pub run_behind : {s t : State} → Run s t → Holds s → Values s → 1 ≤ (s.action m).stage → (t.action m).stage ≤ 3 → Behind m s t
   run_behind {s} stay h v one three = same_behind s
   run_behind {s} {t} (step e guard more_steps) h v one three =
       let k = step_keeps e s guard h in

@@ -1,0 +1,89 @@
+-- Both machines of each object at once, in every run.
+use Rattle.std.proofs.Common.{◌≡◌, ◌==◌, ℕ, true, List, is_some, subst, refl, Option, Some, None, eqb-true}
+use Rattle.arj_joint_law.specs.Joined.{IsJoinedSo, RunsAreJoined, world_of}
+use Rattle.arj_joint_law.proofs.Joining.{HasLocks, WithLocks, locks_part}
+use Rattle.arj_joint_law.proofs.OrderedRuns.{IsOrderedBeside, ordered_beside}
+use Rattle.arj_disk_run_law.specs.Bindings.{AreGoodCounted}
+use Rattle.arj_disk_run_law.proofs.BothEach.{counted_with, heard_part}
+use Rattle.arj_disk_run_law.specs.Part.{KeepsPart}
+use Rattle.arj_disk_run_law.specs.Rest.{IsKnownWith, SeesCarried}
+use Rattle.arj_call_law.specs.Runs.{KnowsFew}
+use Rattle.arj_lock_whole_law.specs.Whole.{KnowsWhole}
+use Rattle.arj_lock_whole_law.proofs.WholeRuns.{kept_of_all}
+use Rattle.arj_lock_whole_law.proofs.Gives.{gives_locks}
+use Rattle.arj_call_law.proofs.WorldRuns.{votes_in}
+use Rattle.arj_joint_law.proofs.Firsts.{line_there}
+use Rattle.arj_disk_view_law.specs.Sees.{Kinds}
+use Rattle.arj_disk_law.specs.Names.{Office}
+use Rattle.arj_view_law.specs.Seen.{Post, Seen, see}
+use Rattle.arj_protocol.specs.Words.{Header, ObjectLine}
+use Rattle.arj_part_law.specs.Actions.{Action, paths_of}
+use Rattle.arj_model.specs.Last.{first_values, object_line}
+use Rattle.arj_protocol.specs.World.{format, run_all}
+use Rattle.arj_call_law.specs.Servers.{AreOneCall}
+use Rattle.arj_part_law.proofs.Begun.{begun_tree, path_found}
+use Rattle.arj_lock.proofs.Members.{in_find, in_to}
+use Rattle.arj_line_law.specs.Book.{new_book}
+use Rattle.arj_line_law.specs.Right.{AreRight}
+use Rattle.arj_line_law.proofs.Runs.{run_written}
+use Rattle.arj_serial_law.specs.Seen.{RequestsAreOne}
+use Rattle.arj_joint_law.proofs.Written.{wrote}
+use Rattle.arj_lock_fact_law.specs.Entries.{HasObject}
+
+pub header_has : (hd : Header) (x : ℕ) → is_some (object_line hd x) ≡ true → HasObject hd x
+header_has hd x there = by (object_line hd x) refl there
+  where
+    by : (o : Option ObjectLine) → object_line hd x ≡ o → is_some o ≡ true → HasObject hd x
+    by None is some = absurd (cc some)
+    by (Some o) is some = let f = in_find (λ (p : ObjectLine). p.x == x) o hd.objects is in (o, in_to o hd.objects f.0, eqb-true o.x x f.1)
+
+-- ---- the law
+
+pub runs_are_joined : RunsAreJoined
+runs_are_joined hd x heard test form there kept rest es short =
+    let h = ordered_beside hd x (λ M. AreGoodCounted M × (heard M ≡ true)) Joined form there (counted_with hd x heard kept) part es short in
+    record { sent = h.sent; stands = h.stands; holds = joined h.sent h.holds }
+  where
+    has : HasObject hd x
+    has = header_has hd x there
+
+    E : List Action → Seen → Type 0
+    E begun M = test begun M ≡ true
+
+    R : List Action → Seen → Type 0
+    R begun M = KnowsWhole x begun M × E begun M
+
+    Joined : Kinds → Office → Seen → Type 0
+    Joined tops A M = WithLocks x R (SeesCarried x) tops A M
+
+    part : KeepsPart hd x (IsKnownWith heard) Joined
+    part = locks_part hd x (IsKnownWith heard) KnowsFew R (SeesCarried x) (λ M r. r.1) (kept_of_all hd x has E rest) (λ f. gives_locks hd x has E f (rest.gives f)) (λ M few. votes_in M few.1.1) (λ M few. few.1.1) (heard_part hd x heard (line_there hd x form there).0 kept) (λ tops A M p. p.0)
+
+    joined : (sent : List Post) → IsOrderedBeside Joined hd x (see sent (run_all es (format hd))) → IsJoinedSo hd x (see sent (run_all es (format hd)))
+    joined sent (o, tops, A, same, p, few) = record {
+      ordered = o;
+      begun = locks.0;
+      alike = locks.1;
+      seen = locks.3;
+      requests = requests;
+      wrote = (let b = o.begun in let j = b.journalled in wrote hd es x (first_values hd) right sent j.tops j.machine j.sees locks.0 locks.1 (λ f a. let z = locks.3 f a in (z.0, z.1, z.2, z.4)) requests);
+    }
+      where
+        M : Seen
+        M = see sent (run_all es (format hd))
+
+        locks : HasLocks x R (world_of o) M
+        locks = subst (λ W. HasLocks x R W M) same p.1
+
+        right : AreRight new_book (let w = run_all es (format hd) in w.lines)
+        right = let r = run_written hd es in let z = r.1 in z.right
+
+        requests : RequestsAreOne M
+        requests = record { one = one_call; numbered = λ q at h a is. (let k = locks.2.0 in let w = k.works in let e = w.1 in e.requests q at h a is) }
+          where
+            one_call : AreOneCall M.sent
+            one_call =
+                let r = few.1.1 in
+                let b = (let g = r.1 in g.begun) in
+                let a = r.2 ((paths_of r.0), begun_tree r.0 b, path_found r.0 b) in
+                a.one

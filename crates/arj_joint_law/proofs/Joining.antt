@@ -1,0 +1,303 @@
+-- Both machines of an object beside each other, through each handler: what the disk machine has in the plans of decided tops is what was voted, by
+-- the lock machine.
+use Rattle.std.proofs.Common.{◌≡◌, ℕ, ◌+◌, true, List, [], ◌∷◌, Option, None, Some, is_some, refl, sym, ◌∙◌, ap, subst, inl, inr, ⊎_elim}
+use Rattle.std.specs.Prelude.{⊤}
+use Rattle.arj_base.proofs.Uids.{uid_is}
+use Rattle.arj_lock.proofs.Members as list
+use Rattle.arj_lock.proofs.Members.{in_find}
+use Rattle.arj_protocol.specs.Words.{Body, Header, Kind, Label, ObjectState, Uid, object, uid_eq}
+use Rattle.arj_protocol.specs.Asking.{again_all, begin_action}
+use Rattle.arj_protocol.specs.Commit.{Confirming}
+use Rattle.arj_protocol.specs.Effect.{Disk, Effect, Intent}
+use Rattle.arj_protocol.specs.Follow.{tick_outs}
+use Rattle.arj_protocol.specs.Node.{Parts, with_coord}
+use Rattle.arj_protocol.specs.Order.{at_uid, uid_number}
+use Rattle.arj_protocol.specs.Step.{Node, acts, parent_of, parts_in, restart_outs}
+use Rattle.arj_protocol.specs.World.{format, is_serial_kind, numbered}
+use Rattle.arj_part_law.specs.Actions.{Action}
+use Rattle.arj_part_law.proofs.Keys.{at_in}
+use Rattle.arj_disk_law.specs.Effects as machine
+use Rattle.arj_disk_law.specs.Effects.{World}
+use Rattle.arj_disk_law.specs.Names.{Office}
+use Rattle.arj_disk_law.specs.State.{decided, decided_in}
+use Rattle.arj_disk_law.proofs.Base.{never}
+use Rattle.arj_lock_law.specs.Machine.{Run, stay}
+use Rattle.arj_lock_law.specs.State.{State}
+use Rattle.arj_lock_law.proofs.Order.{go_on}
+use Rattle.arj_view_law.specs.Seen.{Post, Seen, at, down, given, said, see, up}
+use Rattle.arj_view_law.specs.Walks.{Up, Walks, halted}
+use Rattle.arj_view_law.proofs.Together.{walks_both, walks_to}
+use Rattle.arj_call_law.specs.Runs.{AllVotesAreUsed, KnowsRun}
+use Rattle.arj_disk_view_law.specs.Asking.{SeesConfirming}
+use Rattle.arj_disk_view_law.specs.Coordinating.{KnowsNode}
+use Rattle.arj_disk_view_law.specs.Deciding.{nodes_of}
+use Rattle.arj_disk_view_law.specs.Knows.{KnowsMachine}
+use Rattle.arj_disk_view_law.specs.Pairs.{Among}
+use Rattle.arj_disk_view_law.specs.Sees.{IsLater, Kinds, SeesCoord, SeesDisks}
+use Rattle.arj_disk_view_law.proofs.DecideWalks.{confirming_of}
+use Rattle.arj_disk_view_law.proofs.FirstSeen.{first_at}
+use Rattle.arj_disk_view_law.proofs.Frames.{node_here}
+use Rattle.arj_names_view_law.specs.Both.{OnlyAnswers, OnlyFound, SeesBoth}
+use Rattle.arj_names_view_law.specs.Handlers.{Change, Changes, Quietly, change_by}
+use Rattle.arj_disk_run_law.specs.Heard.{SeesHeard}
+use Rattle.arj_disk_run_law.specs.Part.{KeepsPart, are_recorded}
+use Rattle.arj_disk_run_law.proofs.Decisions.{Goes, goes_along}
+use Rattle.arj_disk_run_law.proofs.RecordWalks.{restart_plain}
+use Rattle.arj_disk_line_law.proofs.Steps.{IsNear, IsStep, near_same, nothing_more, step_halted, step_walk}
+use Rattle.arj_disk_line_law.proofs.Tying.{goes_by}
+use Rattle.arj_line_law.specs.Paths.{IsAlikeOf}
+use Rattle.arj_lock_fact_law.specs.Acts.{KeepsOf, begins_in}
+use Rattle.arj_lock_run_law.specs.Beside.{IsSeenIn, Spot}
+use Rattle.arj_lock_run_law.specs.Fixed.{Agrees, Fixed, view_of}
+use Rattle.arj_lock_run_law.specs.Kept.{AreCoordsNamed, GivesLocks, case_of}
+use Rattle.arj_lock_run_law.specs.Sees.{SeesLocks, SeesUp}
+use Rattle.arj_lock_run_law.specs.Tied.{AreTied}
+use Rattle.arj_lock_run_law.specs.Votes.{AreVotedAt}
+use Rattle.arj_lock_run_law.proofs.KeptSteps.{LocksFrom, LocksSo, agree_older, first_kept, kept_act, kept_begin, kept_message, kept_restart, kept_tick, quiet_kept, stop_kept}
+use Rattle.arj_joint_law.specs.Joined.{ArePlannedSo, ChangesCalled, IsPlannedSo, IsRecordedAt}
+use Rattle.arj_joint_law.proofs.Counting.{at_commit, changed_counted}
+use Rattle.arj_joint_law.proofs.Recording.{AreOfTheirs, AreRecordedBy, IsConfirming, acts_put, here_then, message_puts, others_then, plainly, recorded_at, records_walk, tick_puts}
+
+-- ---- what is kept
+
+-- The object is seen by its lock machine, for all that may be fixed and agrees, beside this world of its disk machine.
+abbrev pub HasLocks : ℕ → (List Action → Seen → Type 0) → World → Seen → Type 0
+HasLocks x R W M = (begun : List Action) × IsAlikeOf begun M × R begun M × ((f : Fixed) → Agrees f x begun M.sent → (S : State) × SeesLocks f x begun S M × AreTied f x M.lines S × AreVotedAt f x S M × ArePlannedSo f x S W M) × AreCoordsNamed M
+
+-- with what is carried beside the disk machine's state
+abbrev pub WithLocks : ℕ → (List Action → Seen → Type 0) → (Kinds → Office → Seen → Type 0) → Kinds → Office → Seen → Type 0
+WithLocks x R P tops A M = P tops A M × HasLocks x R A.world M
+
+-- ---- one top
+
+-- it stays so as both machines go on
+pub planned_later : (f : Fixed) (x : ℕ) (S T : State) (W V : World) → Run S T → IsLater W V → (u : Uid) → IsPlannedSo f x S W u → IsPlannedSo f x T V u
+planned_later f x S T W V run later u p = record {
+  plan = p.plan;
+  begun = later.begun (uid_number u) p.begun;
+  same = later.plan (uid_number u) p.begun ∙ p.same;
+  waiting = p.waiting;
+  reached = p.reached;
+  since = go_on p.since run;
+  stage = p.stage;
+  votes = p.votes;
+  sees = p.sees;
+  changed = p.changed;
+  counted = p.counted;
+}
+
+among_of : (s : ObjectState) (ss : List ObjectState) → list.In s ss → Among s ss
+among_of s [] i = i
+among_of s (t ∷ ts) (inl is) = inl is
+among_of s (t ∷ ts) (inr i) = inr (among_of s ts i)
+
+-- a top whose commit waits for naming
+pub planned_here : (f : Fixed) (x k : ℕ) (d : Disk) (t : Parts) (M : Seen) (begun : List Action) (S : State) (tops : Kinds) (A : Office) → KnowsNode tops k d t M → SeesBoth x tops A (up k d t M) → SeesHeard x tops A (up k d t M) → IsSeenIn (case_of f x begun S) (up k d t M) → AreVotedAt f x S (up k d t M) → KnowsRun (up k d t M)
+    → (u : Uid) → IsConfirming t.coord u → IsPlannedSo f x S A.world u
+planned_here f x k d t M begun S tops A knows both heard seen voted known u c = record {
+  plan = c.plan;
+  begun = sees.begun;
+  same = sees.plan;
+  waiting = S;
+  reached = seen.sees.run;
+  since = stay;
+  stage = at_commit (case_of f x begun S) s seen known u c.doing (Confirming c.plan) c.works c.now;
+  votes = voted k (record { number = k; disk = d; live = Some t }) t here refl u c.doing (Confirming c.plan) c.works c.now;
+  sees = (let l = seen.sees in let up_now : SeesUp (view_of f x begun k) S d t = l.nodes k (record { number = k; disk = d; live = Some t }) here in let w = up_now.coord in w.commits u c.doing (Confirming c.plan) c.works c.now);
+  changed = changed;
+  counted = changed_counted (case_of f x begun S) s seen known u c.doing (Confirming c.plan) c.works c.now;
+}
+  where
+    s : Spot
+    s = record { node = k; disk = d; parts = t; seen = M }
+
+    here : (up k d t M).nodes k ≡ Some (record { number = k; disk = d; live = Some t })
+    here = node_here M k (record { number = k; disk = d; live = Some t })
+
+    n : KnowsMachine tops t.coord u (Confirming c.plan)
+    n = let z = knows.coord in z.machines u c.doing (Confirming c.plan) c.works c.now
+
+    coord_seen : SeesCoord x k d.inc tops t.coord A.world.disk
+    coord_seen = let s = both.disks in s.coords k (record { number = k; disk = d; live = Some t }) t here refl
+
+    sees : SeesConfirming x A.world.disk (uid_number u) c.plan
+    sees = confirming_of x tops A.world.disk (uid_number u) n.branch.kind c.doing.now c.plan n.top c.now (coord_seen.working u n.branch c.doing n.found n.unended c.works)
+
+    changed : ChangesCalled x u c.plan
+    changed st is =
+        let g = in_find (λ (s : ObjectState). uid_eq s.uid (object x)) st (let p = c.plan in p.changed) is in
+        let own = uid_is st.uid (object x) g.1 in
+        let among = among_of st (let p = c.plan in p.changed) g.0 in
+        let o = n.changes x st among own in
+        let h = heard.coords k (record { number = k; disk = d; live = Some t }) t here refl in
+        let p = h.plans u c.doing (Confirming c.plan) c.works c.now in
+        let r = p.changed o.used st o.uses among own in
+        (r.1, (o.used, o.uses, r.0))
+
+-- ---- a step
+
+-- What a step comes to, of a world of the disk machine and a state of the lock machine that stand beside each other: who is newly decided has
+-- its record, and who newly has one is such a top.
+module _ (f : Fixed) (x : ℕ) (C : Uid → Type 0) (W : World) (S : State) (M : Seen) (before : ArePlannedSo f x S W M) (waiting : (u : Uid) → C u → IsPlannedSo f x S W u) where
+  pub planned_then : (tops : Kinds) (V : World) (T : State) (N : Seen) → Run S T → Goes W V → SeesDisks x tops V N → AreRecordedBy C M N → IsStep M N → ArePlannedSo f x T V N
+  planned_then tops V T N run goes sees recs step = record { decisions = decisions; records = records }
+    where
+      records : (u : Uid) → IsRecordedAt N u → IsPlannedSo f x T V u
+      records u r = planned_later f x S T W V run goes.1 u (⊎_elim (λ (old : IsRecordedAt M u). before.records u old) (λ (new : C u). waiting u new) (recs u r))
+
+      decisions : (u : Uid) (n : Node) → N.nodes u.node ≡ Some n → decided V.disk (uid_number u) ≡ true → IsPlannedSo f x T V u
+      decisions u n here d = ⊎_elim
+          (λ (old : decided W.disk (uid_number u) ≡ true). let had = step.nodes u.node n here in planned_later f x S T W V run goes.1 u (before.decisions u had.0 had.1 old))
+          (λ (some : is_some (V.disk.intent (uid_number u)) ≡ true). by some (at_uid u (let c = n.disk in c.intents)) refl)
+          (goes.0 (uid_number u) d)
+        where
+          by : is_some (V.disk.intent (uid_number u)) ≡ true → (o : Option Intent) → at_uid u (let c = n.disk in c.intents) ≡ o → IsPlannedSo f x T V u
+          by some None none = let r = sees.records u.node n here in absurd (never some (ap is_some (r.is u refl ∙ ap nodes_of none)))
+          by some (Some i) is = records u (record { place = u.node; node = n; intent = i; here = here; there = at_in u i (let c = n.disk in c.intents) is })
+
+-- ---- each handler
+
+module _ (hd : Header) (x : ℕ) (K G : Seen → Type 0) (R : List Action → Seen → Type 0) (P : Kinds → Office → Seen → Type 0) (to : (M : Seen) → K M → G M) (keeps : KeepsOf hd (λ begun M. G M) R) (gives : (f : Fixed) → GivesLocks hd f x (λ begun M. G M × R begun M)) (used : (M : Seen) → G M → AllVotesAreUsed M) (runs : (M : Seen) → G M → KnowsRun M)
+    (parts : KeepsPart hd x K P) (heard : (tops : Kinds) (A : Office) (M : Seen) → P tops A M → SeesHeard x tops A M) where
+  abbrev Q : Kinds → Office → Seen → Type 0
+  Q tops A M = WithLocks x R P tops A M
+
+  -- as the lock half has it
+  abbrev locks_of : (W : World) (M : Seen) → HasLocks x R W M → LocksSo ⊤ x R M
+  locks_of W M j = (j.0, j.1, j.2, (λ f a. let g = j.3 f a in (g.0, g.1, g.2, (λ u. g.3))), j.4)
+
+  abbrev votes_used : (M : Seen) → G M → ⊤ → AllVotesAreUsed M
+  votes_used M g u = used M g
+
+  abbrev OfEach : Kinds → (Office → Type 0) → (Kinds → Office → Seen → Type 0) → Seen → Type 0
+  OfEach tops D O Z = (B : Office) → D B → SeesBoth x tops B Z → O tops B Z
+
+  module _ (tops : Kinds) (D : Office → Type 0) (C : Uid → Type 0) (W : World) (M : Seen) (begun : List Action) (sent : List Post) (from : (f : Fixed) → Agrees f x begun sent → State)
+      (goes : (B : Office) → D B → Goes W B.world) (before : (f : Fixed) (a : Agrees f x begun sent) → ArePlannedSo f x (from f a) W M × ((u : Uid) → C u → IsPlannedSo f x (from f a) W u)) where
+    locks_next : (Z : Seen) → LocksFrom ⊤ x R begun sent from Z → AreRecordedBy C M Z → IsStep M Z → (B : Office) → D B → SeesBoth x tops B Z → HasLocks x R B.world Z
+    locks_next Z l recs step B c seen = (
+      begun,
+      l.0,
+      l.1,
+      (λ f agrees.
+          let g = l.2 f agrees in
+          let a = g.4 in
+          let b = before f a.0 in
+          (g.0, g.1, g.2, g.3 tt, planned_then f x C W (from f a.0) M b.0 b.1 tops B.world g.0 Z a.1 (goes B c) seen.disks recs step)),
+      l.3,
+    )
+
+    along : (e k : ℕ) (outs : List Effect) (v : Parts) (d : Disk) (N : Seen) → Walks (OfEach tops D P) e k outs (Up (OfEach tops D P) k v) d N → Walks (LocksFrom ⊤ x R begun sent from) e k outs (Up (LocksFrom ⊤ x R begun sent from) k v) d N
+        → Walks (AreRecordedBy C M) e k outs (Up (AreRecordedBy C M) k v) d N → Walks (IsStep M) e k outs (Up (IsStep M) k v) d N → Walks (OfEach tops D Q) e k outs (Up (OfEach tops D Q) k v) d N
+    along e k outs v d N w locks recs steps =
+        let L : Seen → Type 0 = LocksFrom ⊤ x R begun sent from in
+        let two = walks_both (AreRecordedBy C M) (IsStep M) e k outs (Up (AreRecordedBy C M) k v) (Up (IsStep M) k v) d N recs steps in
+        let three = walks_both L (λ Z. AreRecordedBy C M Z × IsStep M Z) e k outs (Up L k v) (λ c Z. Up (AreRecordedBy C M) k v c Z × Up (IsStep M) k v c Z) d N locks two in
+        let four = walks_both (OfEach tops D P) (λ Z. L Z × (AreRecordedBy C M Z × IsStep M Z)) e k outs (Up (OfEach tops D P) k v) (λ c Z. Up L k v c Z × (Up (AreRecordedBy C M) k v c Z × Up (IsStep M) k v c Z)) d N w three in
+        walks_to (λ Z. OfEach tops D P Z × (L Z × (AreRecordedBy C M Z × IsStep M Z))) (OfEach tops D Q) e k outs (λ c Z. Up (OfEach tops D P) k v c Z × (Up L k v c Z × (Up (AreRecordedBy C M) k v c Z × Up (IsStep M) k v c Z))) (Up (OfEach tops D Q) k v) d N
+        (λ Z h B c seen. (h.0 B c seen, locks_next Z h.1.0 h.1.1.0 h.1.1.1 B c seen)) (λ c Z h B changed seen. (h.0 B changed seen, locks_next (up k c v Z) h.1.0 h.1.1.0 h.1.1.1 B changed seen)) four
+
+  -- what is known before, in each state of the lock machine
+  abbrev known_before : (C : Uid → Type 0) (W : World) (M : Seen) (j : HasLocks x R W M) → ((f : Fixed) (a : Agrees f x j.0 M.sent) → (u : Uid) → C u → IsPlannedSo f x (let g = j.3 f a in g.0) W u) → (f : Fixed) (a : Agrees f x j.0 M.sent) → ArePlannedSo f x (let g = j.3 f a in g.0) W M × ((u : Uid) → C u → IsPlannedSo f x (let g = j.3 f a in g.0) W u)
+  known_before C W M j waiting f a = let g = j.3 f a in (g.4, waiting f a)
+
+  waits_here : (tops : Kinds) (k : ℕ) (d : Disk) (t : Parts) (M : Seen) (A : Office) → KnowsNode tops k d t M → SeesBoth x tops A (up k d t M) → P tops A (up k d t M) → KnowsRun (up k d t M) → (j : HasLocks x R A.world (up k d t M)) → (f : Fixed) (a : Agrees f x j.0 M.sent) → (u : Uid) → IsConfirming t.coord u → IsPlannedSo f x (let g = j.3 f a in g.0) A.world u
+  waits_here tops k d t M A n both part known j f a u c = let g = j.3 f a in planned_here f x k d t M j.0 g.0 tops A n both (heard tops A (up k d t M) part) (record { good = j.1.0; alike = j.1.1; written = j.1.2; agrees = a; sees = g.1; tied = g.2 }) g.3 known u c
+
+  theirs : (tops : Kinds) (k : ℕ) (d : Disk) (t : Parts) (M : Seen) → KnowsNode tops k d t M → AreOfTheirs t.coord
+  theirs tops k d t M n u q m works now = (let z = n.coord in let y = z.machines u q m works now in ((let p = y.plan in p.actor_is), (y.used, y.more, y.uses)))
+
+  abbrev none : Uid → Type 0
+  none u = ⊥
+
+  goes_from : (o : Change) (A B : Office) → OnlyAnswers A B → machine.Whole A.world → (Z : Office) → Changes o B Z → Goes A.world Z.world
+  goes_from o A B only whole Z c = (let same = only.world in subst (λ W. Goes W Z.world) same (goes_by o B Z (subst machine.Whole (sym same) whole) c))
+
+  pub locks_part : KeepsPart hd x K Q
+  locks_part = record {
+    quiet = λ tops e bs M A walk quiet r both (part, j) B changed seen. (
+      parts.quiet tops e bs M A walk quiet r both part B changed seen,
+      locks_next tops (Changes Quietly A) none A.world M j.0 M.sent (λ f a. let g = j.3 f a in g.0) (λ Z c. goes_by Quietly A Z (let z = both.disks in z.whole) c) (known_before none A.world M j (λ f a u never. absurd never)) (said e bs M)
+          (quiet_kept hd x G R keeps gives ⊤ votes_used e bs M quiet (to M r) (locks_of A.world M j)) (λ u c. inl (record { place = c.place; node = c.node; intent = c.intent; here = c.here; there = c.there })) (quiet_step e bs M) B changed seen,
+    );
+    stop = λ tops e k d live M A walk r both (part, j) B changed seen. (
+      parts.stop tops e k d live M A walk r both part B changed seen,
+      locks_next tops (Changes Quietly A) none A.world (at k d live M) j.0 M.sent (λ f a. let g = j.3 f a in g.0) (λ Z c. goes_by Quietly A Z (let z = both.disks in z.whole) c) (known_before none A.world (at k d live M) j (λ f a u never. absurd never)) (halted e k d M)
+          (stop_kept hd x G R keeps gives ⊤ votes_used e k d live M (to (at k d live M) r) (locks_of A.world (at k d live M) j)) (recorded_at none (at k d live M) k d None M (halted e k d M) (λ i. refl) (others_then none k d live M) (here_then none k d live M)) (step_halted k d live M e d M (near_same M) (λ down. refl)) B changed seen,
+    );
+    message = λ tops e k d t v from m outs M A walk n r sent meant is of own both (part, j).
+        let p = parts.message tops e k d t v from m outs M A walk n r sent meant is of own both part in
+        let h = p.0 in
+        let o = change_by x d t m in
+        let C : Uid → Type 0 = λ u. IsConfirming t.coord u in (
+          record {
+            office = h.office;
+            only = h.only;
+            both = h.both;
+            along = along tops (Changes o h.office) C A.world (up k d t M) j.0 M.sent (λ f a. let g = j.3 f a in g.0) (goes_from o A h.office h.only (let z = both.disks in z.whole)) (known_before C A.world (up k d t M) j (waits_here tops k d t M A n both part (runs (up k d t M) (to (up k d t M) r)) j)) e k outs v d M h.along
+                (kept_message hd x G R keeps gives ⊤ votes_used e k d t v from m outs M (to (up k d t M) r) (locks_of A.world (up k d t M) j) sent meant is)
+                (records_walk C (up k d t M) k e v outs d M (others_then C k d (Some t) M) (message_puts k d t (theirs tops k d t M n) from m v outs is) (here_then C k d (Some t) M)) (step_walk k d (Some t) M e v outs d M (near_same M) (was_up t) (was_up t));
+          },
+          p.1,
+          p.2,
+        );
+    act = λ tops e k d t i M A walk n r is free both (part, j).
+        let did = acts i d.intents t.coord in
+        let p = parts.act tops e k d t i M A walk n r is free both part in
+        let h = p.0 in
+        let C : Uid → Type 0 = λ u. IsConfirming t.coord u in (
+          record {
+            office = h.office;
+            only = h.only;
+            both = h.both;
+            along = along tops (Changes Quietly h.office) C A.world (up k d t M) j.0 M.sent (λ f a. let g = j.3 f a in g.0) (goes_from Quietly A h.office h.only (let z = both.disks in z.whole)) (known_before C A.world (up k d t M) j (waits_here tops k d t M A n both part (runs (up k d t M) (to (up k d t M) r)) j)) e k did.outs (with_coord t did.part) d M h.along
+                (kept_act hd x G R keeps gives ⊤ votes_used e k d t i M is free (to (up k d t M) r) (locks_of A.world (up k d t M) j))
+                (records_walk C (up k d t M) k e (with_coord t did.part) did.outs d M (others_then C k d (Some t) M) (acts_put t.coord (theirs tops k d t M n) d.intents i) (here_then C k d (Some t) M)) (step_walk k d (Some t) M e (with_coord t did.part) did.outs d M (near_same M) (was_up t) (was_up t));
+          },
+          p.1,
+        );
+    begin = λ tops e k d t l how parent M A walk n r new may free kind both (part, j).
+        let did = begin_action l how parent (parent_of parent t.coord) t.coord in
+        let N : Seen = given l (record { node = k; serial = is_serial_kind how }) M in
+        let a = begins_in how parent t in
+        let older : (f : Fixed) → Agrees f x (a ∷ j.0) M.sent → Agrees f x j.0 M.sent = λ f w. agree_older f x a j.0 M.sent w in
+        along tops (Changes Quietly A) none A.world (up k d t M) (a ∷ j.0) M.sent (λ f w. let g = j.3 f (older f w) in g.0) (λ B c. goes_by Quietly A B (let z = both.disks in z.whole) c) (λ f w. known_before none A.world (up k d t M) j (λ f b u never. absurd never) f (older f w)) e k did.outs (with_coord t did.part) d N
+        (parts.begin tops e k d t l how parent M A walk n r new may free kind both part)
+        (kept_begin hd x G R keeps gives ⊤ votes_used e k d t l how parent M new may free (to (up k d t M) r) (locks_of A.world (up k d t M) j))
+        (records_walk none (up k d t M) k e (with_coord t did.part) did.outs d N (others_then none k d (Some t) M) (tt, tt) (here_then none k d (Some t) M)) (step_walk k d (Some t) M e (with_coord t did.part) did.outs d N (given_near l how k M) (was_up t) (was_up t));
+    tick = λ tops e k d t M A walk n r both (part, j).
+        let outs = tick_outs (record { number = k; disk = d; live = Some t }) t in
+        let v = with_coord t (let z = again_all t.coord.doings t.coord in z.part) in
+        let C : Uid → Type 0 = λ u. IsConfirming t.coord u in
+        along tops (Changes Quietly A) C A.world (up k d t M) j.0 M.sent (λ f a. let g = j.3 f a in g.0) (λ B c. goes_by Quietly A B (let z = both.disks in z.whole) c) (known_before C A.world (up k d t M) j (waits_here tops k d t M A n both part (runs (up k d t M) (to (up k d t M) r)) j)) e k outs v d M
+        (parts.tick tops e k d t M A walk n r both part) (kept_tick hd x G R keeps gives ⊤ votes_used e k d t M (to (up k d t M) r) (locks_of A.world (up k d t M) j))
+        (records_walk C (up k d t M) k e v outs d M (others_then C k d (Some t) M) (tick_puts k d t (theirs tops k d t M n)) (here_then C k d (Some t) M)) (step_walk k d (Some t) M e v outs d M (near_same M) (was_up t) (was_up t));
+    restart = λ tops e k d M A walk r both (part, j).
+        let outs = restart_outs hd k (d.inc + 1) d in
+        let v = parts_in k (d.inc + 1) d in
+        along tops (OnlyFound (are_recorded d.intents) A) none A.world (down k d M) j.0 M.sent (λ f a. let g = j.3 f a in g.0) (λ B c. goes_along (are_recorded d.intents) A.world B.world (let z = both.disks in z.whole) c.along) (known_before none A.world (down k d M) j (λ f a u never. absurd never)) e k outs v d M
+        (parts.restart tops e k d M A walk r both part) (kept_restart hd x G R keeps gives ⊤ votes_used e k d M (to (down k d M) r) (locks_of A.world (down k d M) j))
+        (records_walk none (down k d M) k e v outs d M (others_then none k d None M) (plainly none outs (restart_plain [] hd k d)) (here_then none k d None M)) (step_walk k d None M e v outs d M (near_same M) (λ down. restart_plain [] hd k d) (λ down. refl));
+    first = λ tops walk kinds.
+        let f = parts.first tops walk kinds in
+        let z = first_kept hd x G R keeps gives ⊤ votes_used in
+        (f.0, f.1, (f.2, (z.0, z.1, z.2, (λ w agrees. let g = z.3 w agrees in (g.0, g.1, g.2, g.3 tt, nothing_yet w g.0 f.0 f.3)), z.4)), f.3);
+  }
+    where
+      quiet_step : (e : ℕ) (bs : List Body) (M : Seen) → IsStep M (said e bs M)
+      quiet_step e bs M = record { more = numbered e bs; lines = refl; nodes = λ j n is. (n, is, λ down. refl) }
+
+      given_near : (l : Label) (how : Kind) (k : ℕ) (M : Seen) → IsNear M (given l (record { node = k; serial = is_serial_kind how }) M)
+      given_near l how k M = record { more = []; lines = nothing_more M.lines; nodes = λ j. refl }
+
+      was_up : {X : Type 0} (t : Parts) → Some t ≡ None → X
+      was_up t is = absurd (let no_way : ◌≡◌ {A = Option Parts} (Some t) None = is in cc no_way)
+
+      nothing_yet : (f : Fixed) (S : State) (A : Office) → (let W = A.world in let D = W.disk in D.tops) ≡ [] → ArePlannedSo f x S A.world (see [] (format hd))
+      nothing_yet f S A empty = record {
+        decisions = λ u n here d. absurd (never d (ap (λ ds. decided_in ds (uid_number u)) empty));
+        records = λ u r. absurd (no_record u r);
+      }
+        where
+          no_record : (u : Uid) → IsRecordedAt (see [] (format hd)) u → ⊥
+          no_record u r = subst (λ (n : Node). list.In {X = Uid × Intent} (u, r.intent) (let c = n.disk in c.intents)) (sym (first_at hd r.place r.node r.here)) r.there

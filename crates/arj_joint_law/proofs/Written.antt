@@ -1,0 +1,119 @@
+-- Decided tops wrote what their plans have, in the words of the journal.
+use Rattle.std.proofs.Common.{◌≡◌, ◌==◌, ◌||◌, ℕ, Bool, true, false, List, [], ◌∷◌, Option, Some, None, refl, sym, ◌∙◌, ap, subst, inl, inr, arith, eq-eqb}
+use Rattle.arj_lock.proofs.Members.{In, in_from, in_to}
+use Rattle.arj_model.specs.Actions.{acts}
+use Rattle.arj_model.specs.Calls.{tops}
+use Rattle.arj_model.specs.Last.{uid_of_id}
+use Rattle.arj_model.specs.Serial.{Values}
+use Rattle.arj_protocol.specs.Words.{Header, Uid}
+use Rattle.arj_protocol.specs.Order.{uid_number}
+use Rattle.arj_protocol.specs.World.{Asked, format, run_all}
+use Rattle.arj_part_law.specs.Actions.{Action, paths_of}
+use Rattle.arj_disk_law.specs.Effects as machine
+use Rattle.arj_disk_law.specs.State.{Done, Packed, Plan, decided_in}
+use Rattle.arj_disk_law.specs.Words as disk
+use Rattle.arj_disk_view_law.specs.Sees.{Kinds, SeesDisks}
+use Rattle.arj_line_law.specs.Book.{new_book}
+use Rattle.arj_line_law.specs.Paths.{AreAlike, IsAlikeOf}
+use Rattle.arj_line_law.specs.Right.{AreRight}
+use Rattle.arj_line_law.specs.Whose.{IsOfNode}
+use Rattle.arj_line_law.proofs.Owners.{have_nodes}
+use Rattle.arj_lock_law.specs.State.{State}
+use Rattle.arj_lock_run_law.specs.Fixed.{Agrees, Fixed}
+use Rattle.arj_lock_run_law.specs.Sees.{SeesLocks}
+use Rattle.arj_lock_run_law.specs.Tied.{AreTied}
+use Rattle.arj_view_law.specs.Seen.{Post, Seen, see}
+use Rattle.arj_serial_law.specs.Codes.{code_of}
+use Rattle.arj_serial_law.specs.Decided.{VotedSo, WroteSo}
+use Rattle.arj_serial_law.specs.Seen.{RequestsAreOne}
+use Rattle.arj_serial_law.specs.Tied.{IsTied}
+use Rattle.arj_serial_law.proofs.Locks.{number_uid, tie}
+use Rattle.arj_serial_law.proofs.Order.{IsTopOf, same_number, stage_of_top, top_item}
+use Rattle.arj_serial_law.proofs.Seeing.{agrees_at, fixed_at}
+use Rattle.arj_serial_law.proofs.Begun.{begun_have_places}
+use Rattle.arj_serial_law.proofs.Codes.{codes_are_apart}
+use Rattle.arj_serial_law.proofs.Votes.{votes_give}
+use Rattle.arj_base.specs.Uid.{nobody}
+use Rattle.arj_line_law.proofs.Models.{its_acts}
+use Rattle.arj_lock_view_law.specs.Families.{acts_of}
+use Rattle.arj_joint_law.specs.Joined.{ArePlannedSo, AreWritten, IsPlannedSo}
+use Rattle.arj_joint_law.proofs.Writing.{VotedIn, planned_voted}
+
+decided_there : (ds : List Done) (d : Done) → disk.In d ds → decided_in ds d.top ≡ true
+decided_there [] d i = absurd i
+decided_there (e ∷ ds) d (inl is) = ap (λ b. b || decided_in ds d.top) (eq-eqb e.top d.top (ap (λ (z : Done). z.top) is))
+decided_there (e ∷ ds) d (inr i) = by (e.top == d.top) (decided_there ds d i)
+  where
+    by : (b : Bool) → decided_in ds d.top ≡ true → (b || decided_in ds d.top) ≡ true
+    by true on = refl
+    by false on = on
+
+module _ (hd : Header) (es : List Asked) (x : ℕ) (values : Values) (right : AreRight new_book (let w = run_all es (format hd) in w.lines)) (sent : List Post) (kinds : Kinds) (W : machine.World) (disks : SeesDisks x kinds W (see sent (run_all es (format hd)))) (begun : List Action) (alike : IsAlikeOf begun (see sent (run_all es (format hd))))
+    (seen : (f : Fixed) → Agrees f x begun sent → (S : State) × SeesLocks f x begun S (see sent (run_all es (format hd))) × AreTied f x (let w = run_all es (format hd) in w.lines) S × ArePlannedSo f x S W (see sent (run_all es (format hd)))) (knows : RequestsAreOne (see sent (run_all es (format hd)))) where
+  abbrev M : Seen
+  M = see sent (run_all es (format hd))
+
+  locks : (f : Fixed) → Agrees f x begun M.sent → (S : State) × SeesLocks f x begun S M × AreTied f x M.lines S
+  locks f a = let z = seen f a in (z.0, z.1, z.2)
+
+  abbrev f : Fixed
+  f = fixed_at x M begun alike locks knows code_of (values x)
+
+  agrees : Agrees f x begun M.sent
+  agrees = agrees_at x M begun alike locks knows code_of (values x)
+
+  abbrev S : State
+  S = (seen f agrees).0
+
+  planned : ArePlannedSo f x S W M
+  planned = (seen f agrees).3
+
+  tied : IsTied values M.lines x S
+  tied = record {
+    act = acts_of begun;
+    code = code_of;
+    apart = codes_are_apart;
+    places = begun_have_places begun (paths_of begun) (acts_of begun) M.lines right (subst (AreAlike begun) (its_acts M.lines right) alike.1) agrees.whole;
+    first = code_of (values x) (acts_of begun nobody);
+    run = (let s = (seen f agrees).1 in s.run);
+    tied = (seen f agrees).2 values refl;
+  }
+
+  voted : (u : Uid) (o : Option Packed) → VotedIn f S u o → VotedSo values M.lines x S tied u o
+  unfolding tied
+  voted u None v = v
+  voted u (Some w) v = v
+
+  pub wrote : AreWritten values M.lines x W.disk.tops
+  unfolding tied
+  wrote d u i listed number = subst (WroteSo values M.lines x u) (sym (ap (λ (k : Plan). k.writes) plan)) (votes_give values M.lines right x S tied u there _ (subst (λ (v : Uid). VotedSo values M.lines x S tied v (let k = W.disk.plan (uid_number own) in k.writes)) (sym is_own) (voted own _ its)))
+    where
+      there : In u (tops M.lines)
+      there = in_from u (tops M.lines) listed
+
+      k : IsTopOf M.lines u
+      k = top_item M.lines right u there
+
+      own : Uid
+      own = let a = k.act in a.uid
+
+      is_own : uid_of_id (acts M.lines) u.id ≡ own
+      is_own = ap (uid_of_id (acts M.lines)) (sym k.number) ∙ number_uid k.act (acts M.lines) (λ y j e. same_number M.lines right y k.act j k.there e) k.there
+
+      number_is : d.top ≡ uid_number own
+      number_is = number ∙ ap uid_number is_own
+
+      plan : d.plan ≡ W.disk.plan (uid_number own)
+      plan = (let c = (let w = disks.whole in w.core) in let j = c.journal in j.plan d i) ∙ ap W.disk.plan number_is
+
+      node : IsOfNode (run_all es (format hd)) k.act
+      node = have_nodes hd es k.act (in_to k.act (acts M.lines) k.there)
+
+      planned_its : IsPlannedSo f x S W own
+      planned_its = planned.decisions own node.node node.there (ap (decided_in W.disk.tops) (sym number_is) ∙ decided_there W.disk.tops d i)
+
+      stage : (let a = S.action (f.act own) in a.stage) ≡ 3
+      stage = stage_of_top values M.lines right x S (tie values M.lines right x S tied) u k
+
+      its : VotedIn f S own (let p = W.disk.plan (uid_number own) in p.writes)
+      its = planned_voted f x S W own (let t = agrees.whole in let a = t.alike in a.one) planned_its (omega (arith, stage)) (omega (arith, stage))

@@ -1,0 +1,102 @@
+-- The disk machine and the lock machine of one object beside each other in one run: what a top that the disk machine decided has in its plan is
+-- what was voted for it, by the lock machine.
+use Rattle.std.specs.Prelude.{◌≡◌, ◌≤◌, ℕ, Bool, true, List, [], Some, Contains, is_some, length}
+use Rattle.arj_journal.specs.ScriptForm.{HeaderInForm}
+use Rattle.arj_model.specs.Actions.{acts}
+use Rattle.arj_model.specs.Calls.{Top, tops}
+use Rattle.arj_model.specs.Last.{first_values, object_line, uid_of_id}
+use Rattle.arj_model.specs.Serial.{Values}
+use Rattle.arj_lock.proofs.Members as list
+use Rattle.arj_protocol.specs.Words.{Header, Line, ObjectState, Uid}
+use Rattle.arj_protocol.specs.Commit.{Confirming, Plan, Used, changed_of}
+use Rattle.arj_protocol.specs.Effect.{Intent}
+use Rattle.arj_protocol.specs.Order.{uid_number}
+use Rattle.arj_protocol.specs.Step.{Node}
+use Rattle.arj_protocol.specs.World.{Asked, format, run_all}
+use Rattle.arj_part_law.specs.Actions.{Action}
+use Rattle.arj_disk_law.specs.Effects.{World}
+use Rattle.arj_disk_law.specs.State.{Done, decided}
+use Rattle.arj_disk_law.specs.Words as disk
+use Rattle.arj_disk_view_law.specs.Plans.{plan_at, used_at}
+use Rattle.arj_lock_law.specs.Actions.{In, top}
+use Rattle.arj_lock_law.specs.Machine.{Run, start}
+use Rattle.arj_lock_law.specs.State as lock
+use Rattle.arj_view_law.specs.Keeps.{Holds}
+use Rattle.arj_view_law.specs.Seen.{Seen}
+use Rattle.arj_line_law.specs.Paths.{IsAlikeOf}
+use Rattle.arj_lock_fact_law.specs.Votes.{side_at}
+use Rattle.arj_lock_view_law.specs.Plans.{SeesMachine}
+use Rattle.arj_lock_view_law.specs.Voted.{HasVotes}
+use Rattle.arj_lock_run_law.specs.Fixed.{Agrees, Fixed}
+use Rattle.arj_lock_run_law.specs.Sees.{SeesLocks}
+use Rattle.arj_lock_run_law.specs.Tied.{AreTied}
+use Rattle.arj_lock_run_law.specs.Votes.{AreVotedAt}
+use Rattle.arj_joint_law.specs.Ordered.{IsOrderedSo}
+use Rattle.arj_serial_law.specs.Decided.{WroteSo}
+use Rattle.arj_serial_law.specs.Seen.{RequestsAreOne}
+use Rattle.arj_disk_run_law.specs.Rest.{KeepsHeard}
+use Rattle.arj_lock_whole_law.specs.Runs.{IsRest}
+use Rattle.arj_binding_law.specs.Scripts.{most_events}
+
+-- ---- one top
+
+-- A state that the plan changes the object to is by this top, which called the object.
+abbrev pub ChangesCalled : ℕ → Uid → Plan → Type 0
+ChangesCalled x u p = (st : ObjectState) → changed_of x p ≡ Some st → (st.writer ≡ u) × ((w : Used) × (used_at x p.used ≡ Some w) × (w.called ≡ true))
+
+-- The disk machine has a plan of the top that is one of the protocol, with which it waited for naming, in this state of the lock machine, which has gone
+-- on since: its changed state of the object is what the server voted that was called, and none otherwise; and where there is one the lock machine has
+-- a call of the top, which wasn't undone.
+pub record IsPlannedSo (f : Fixed) (x : ℕ) (S : lock.State) (W : World) (u : Uid) : Type 0 where
+  pub plan : Plan
+  pub begun : W.disk.begun (uid_number u) ≡ true
+  pub same : W.disk.plan (uid_number u) ≡ plan_at x plan
+  pub waiting : lock.State
+  pub reached : Run (start f.first) waiting
+  pub since : Run waiting S
+  pub stage : (let a = waiting.action (f.act u) in a.stage) ≡ 1
+  pub votes : HasVotes (side_at f.act f.code x u) plan [] waiting
+  pub sees : SeesMachine x (f.act u) (Confirming plan) waiting
+  pub changed : ChangesCalled x u plan
+  pub counted : (st : ObjectState) → changed_of x plan ≡ Some st → (c : lock.Call) × In c waiting.calls × (top c.act ≡ f.act u) × lock.Alive waiting c.act
+
+-- ---- all tops
+
+-- the top has a record at some node
+pub record IsRecordedAt (M : Seen) (u : Uid) : Type 0 where
+  pub place : ℕ
+  pub node : Node
+  pub intent : Intent
+  pub here : M.nodes place ≡ Some node
+  pub there : list.In {X = Uid × Intent} (u, intent) (let d = node.disk in d.intents)
+
+-- So it is of each top that is decided, at a node that is there, and of each that has a record.
+pub record ArePlannedSo (f : Fixed) (x : ℕ) (S : lock.State) (W : World) (M : Seen) : Type 0 where
+  pub decisions : (u : Uid) (n : Node) → M.nodes u.node ≡ Some n → decided W.disk (uid_number u) ≡ true → IsPlannedSo f x S W u
+  pub records : (u : Uid) → IsRecordedAt M u → IsPlannedSo f x S W u
+
+-- ---- the run
+
+-- the world of the disk machine
+abbrev pub world_of : {hd : Header} {x : ℕ} {M : Seen} → IsOrderedSo hd x M → World
+world_of o = (let b = o.begun in let j = b.journalled in j.machine)
+
+-- each of the decided tops of the disk machine that is one of the journal gave to the stores what it wrote
+abbrev pub AreWritten : Values → List Line → ℕ → List Done → Type 0
+AreWritten values lines x ds = (d : Done) (u : Top) → disk.In d ds → Contains (tops lines) u → d.top ≡ uid_number (uid_of_id (acts lines) u.id) → WroteSo values lines x u (let p = d.plan in p.writes)
+
+-- Both machines of the object at once: the disk machine, whose decisions are those of the journal in their order; and for all that may be fixed and
+-- agrees with what was begun the lock machine, to which the journal is tied, in which commits under way have the votes that came, and by which
+-- decided tops had planned. So these wrote what their plans have.
+pub record IsJoinedSo (hd : Header) (x : ℕ) (M : Seen) : Type 0 where
+  pub ordered : IsOrderedSo hd x M
+  pub begun : List Action
+  pub alike : IsAlikeOf begun M
+  pub seen : (f : Fixed) → Agrees f x begun M.sent → (S : lock.State) × SeesLocks f x begun S M × AreTied f x M.lines S × AreVotedAt f x S M × ArePlannedSo f x S (world_of ordered) M
+  pub requests : RequestsAreOne M
+  pub wrote : AreWritten (first_values hd) M.lines x (let W = world_of ordered in W.disk.tops)
+
+-- So it is in the run of every script, of each object of the header, with what is still taken of both halves.
+abbrev pub RunsAreJoined : Type 0
+RunsAreJoined = (hd : Header) (x : ℕ) (heard : Seen → Bool) (test : List Action → Seen → Bool) → HeaderInForm hd → is_some (object_line hd x) ≡ true → KeepsHeard hd x heard → IsRest hd x (λ begun M. test begun M ≡ true)
+    → (es : List Asked) → length es ≤ most_events → Holds hd (IsJoinedSo hd x) (run_all es (format hd))
