@@ -74,7 +74,7 @@ module _ (sent : List Post) (e k : ℕ) (v : Parts) where
 
 module _ (f : Fixed) (x : ℕ) where
   agree_less : (begun : List Action) (sent more : List Post) → Within sent more → Agrees f x begun more → Agrees f x begun sent
-  agree_less begun sent more within a = record { whole = a.whole; wanted = λ p h q there is. a.wanted p h q (within p there) is }
+  agree_less begun sent more within a = record { whole = a.whole; wanted = λ p h q there is. a.wanted p h q (within p there) is; first = a.first }
 
   pub agree_older : (a : Action) (begun : List Action) (sent : List Post) → Agrees f x (a ∷ begun) sent → Agrees f x begun sent
   agree_older a begun sent g = record {
@@ -86,6 +86,7 @@ module _ (f : Fixed) (x : ℕ) where
       placed = λ b there. w.placed b (in_to b (a ∷ begun) (inr (in_from b begun there)));
     });
     wanted = λ p h q there is. g.wanted p h q there is;
+    first = g.first;
   }
 
 -- the object is seen, and on a condition commits have their votes

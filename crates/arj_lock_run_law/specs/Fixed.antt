@@ -1,5 +1,7 @@
 -- What is fixed of a whole run where one object is seen by the lock machine, and how it agrees with what was done so far.
 use Rattle.std.specs.Prelude.{◌≡◌, ℕ, List, Some}
+use Rattle.arj_base.specs.Uid.{nobody}
+use Rattle.arj_model.specs.Serial.{Values}
 use Rattle.arj_protocol.specs.Words.{Ask, Head, asks}
 use Rattle.arj_part_law.specs.Actions.{Action}
 use Rattle.arj_part_law.specs.Copies.{Paths}
@@ -27,8 +29,9 @@ family_of f begun = record { begun = begun; paths = f.paths; act = f.act }
 abbrev pub view_of : Fixed → ℕ → List Action → ℕ → View
 view_of f x begun k = record { family = family_of f begun; code = f.code; wants = f.wants; x = x; node = k }
 
--- It agrees with what was done so far: the actions that were begun are one tree in these places, and each request that was sent wants
--- what is said here.
+-- It agrees with what was done so far: the actions that were begun are one tree in these places, each request that was sent wants what is
+-- said here, and the number of the first value is that of a value which nobody wrote.
 pub record Agrees (f : Fixed) (x : ℕ) (begun : List Action) (sent : List Post) : Type 0 where
   pub whole : AreOneTree (family_of f begun)
   pub wanted : (p : Post) (h : Head) (a : Ask) → In p sent → asks (let q = p in q.message) ≡ Some (h, a) → IsWanted (view_of f x begun p.to) h a
+  pub first : (values : Values) × (f.first ≡ f.code (values x) (f.act nobody))

@@ -124,8 +124,8 @@ module _ (begun : List Action) (e k : ℕ) (d : Disk) (t : Parts) (M : Seen) (bo
   message_walk from m v outs there is = walk_on v outs (by (coord_case k d t v from m outs is))
     where
       by : CoordCase d t from m v outs → Avoids (WasAvoided M.sent) v.coord
-      by (OfParts same plain) = subst (Avoids (WasAvoided M.sent)) (sym same) own
-      by (Asks u same outs_are) = subst (Avoids (WasAvoided M.sent)) (sym same) own
+      by (OfParts same plain sent_to) = subst (Avoids (WasAvoided M.sent)) (sym same) own
+      by (Asks u query same outs_are) = subst (Avoids (WasAvoided M.sent)) (sym same) own
       by (Heard a r of same outs_are) = subst (Avoids (WasAvoided M.sent)) same (avoids_heard (WasAvoided M.sent) (none_was M.sent) M.sent k t.coord place own from a r d.intents (answers_fit begun e k d t M good bound_all from m there a r of))
       by (Acks u same outs_are) = subst (Avoids (WasAvoided M.sent)) same (avoids_acked (WasAvoided M.sent) (none_was M.sent) M.sent k t.coord place own from u d.intents)
 

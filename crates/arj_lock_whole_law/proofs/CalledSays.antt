@@ -330,8 +330,8 @@ module _ (S : Body → Type 0) (fine : (b : Body) → answers_call b ≡ false �
   message_fine k d t v from m outs is ends = by (coord_case k d t v from m outs is)
     where
       by : CoordCase d t from m v outs → Fine outs
-      by (coords.OfParts same plain) = leaves_fine outs plain
-      by (coords.Asks u same outs_are) = subst Fine outs_are (query_fine from u d.intents t.coord)
+      by (coords.OfParts same plain sent_to) = leaves_fine outs plain
+      by (coords.Asks u query same outs_are) = subst Fine outs_are (query_fine from u d.intents t.coord)
       by (coords.Heard a r of same outs_are) = subst Fine outs_are (heard_fine t.coord from a r d.intents (λ q s. ends a r q s of))
       by (coords.Acks u same outs_are) = subst Fine outs_are (acked_fine from u d.intents t.coord)
 

@@ -114,8 +114,8 @@ module _ (P : ℕ → Goal → Type 0) where
         (by (coord_case k d t v from m outs is))
       where
         by : CoordCase d t from m v outs → WaitFor P v.coord
-        by (OfParts same plain) = subst (WaitFor P) (sym same) own
-        by (Asks u same outs_are) = subst (WaitFor P) (sym same) own
+        by (OfParts same plain sent_to) = subst (WaitFor P) (sym same) own
+        by (Asks u query same outs_are) = subst (WaitFor P) (sym same) own
         by (Heard a r of same outs_are) = subst (WaitFor P) same (wait_heard P M.sent k t.coord place own from a r d.intents (answers_fit begun e k d t M good bound_all from m there a r of))
         by (Acks u same outs_are) = subst (WaitFor P) same (wait_acked P M.sent k t.coord place own from u d.intents)
 

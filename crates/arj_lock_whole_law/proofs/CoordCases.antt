@@ -2,6 +2,7 @@
 use Rattle.std.proofs.Common.{◌≡◌, ◌∙◌, ℕ, Bool, true, false, List, Option, Some, None, refl, sym, ap, subst}
 use Rattle.std.specs.Prelude.{is_some}
 use Rattle.arj_protocol.specs.Words.{Asked, Message, Uid, asks}
+use Rattle.arj_protocol.specs.Words.message
 use Rattle.arj_protocol.specs.Ask.{Reply, answers}
 use Rattle.arj_protocol.specs.Asking.{heard}
 use Rattle.arj_protocol.specs.Effect.{Disk, Effect}
@@ -10,12 +11,12 @@ use Rattle.arj_protocol.specs.Node.{Parts, Took, handle}
 use Rattle.arj_protocol.specs.Says.{AreAll}
 use Rattle.arj_lock_run_law.specs.World.{is_for_parts}
 use Rattle.arj_lock_run_law.proofs.KeptSteps.{coordinated, handled_answer, is_acked, is_answer, is_query, response_is, took_heard}
-use Rattle.arj_lock_run_law.proofs.LeftSteps.{Leaves, message_left}
+use Rattle.arj_lock_run_law.proofs.LeftSteps.{AreSentTo, Leaves, message_left}
 use Rattle.arj_lock_run_law.proofs.WalkSteps.{leaves}
 
 pub data CoordCase (d : Disk) (t : Parts) (from : ℕ) (m : Message) (v : Parts) (outs : List Effect) : Type 0 where
-  OfParts : v.coord ≡ t.coord → AreAll leaves outs → CoordCase d t from m v outs
-  Asks : (u : Uid) → v.coord ≡ t.coord → answer_query from u d.intents t.coord ≡ outs → CoordCase d t from m v outs
+  OfParts : v.coord ≡ t.coord → AreAll leaves outs → AreSentTo from (asks m) outs → CoordCase d t from m v outs
+  Asks : (u : Uid) → m ≡ message.Query (record { act = u }) → v.coord ≡ t.coord → answer_query from u d.intents t.coord ≡ outs → CoordCase d t from m v outs
   Heard : (a : Asked) (r : Reply) → answers m ≡ Some (a, r) → (let q = heard from a r d.intents t.coord in q.part) ≡ v.coord → (let q = heard from a r d.intents t.coord in q.outs) ≡ outs → CoordCase d t from m v outs
   Acks : (u : Uid) → (let q = acked from u d.intents t.coord in q.part) ≡ v.coord → (let q = acked from u d.intents t.coord in q.outs) ≡ outs → CoordCase d t from m v outs
 
@@ -38,8 +39,8 @@ coord_case k d t v from m outs is = by (is_for_parts m) refl
     other apart (Some (u, false)) of =
         let taken : Took t (answer_query from u d.intents t.coord) ≡ Took v outs = subst (λ (z : Message). handle k d t from z ≡ Took v outs) (is_query m u of) is in
         let same : t ≡ v = cc taken in
-        Asks u (ap (λ (z : Parts). z.coord) (sym same)) (cc taken)
+        Asks u (is_query m u of) (ap (λ (z : Parts). z.coord) (sym same)) (cc taken)
 
     by : (b : Bool) → is_for_parts m ≡ b → CoordCase d t from m v outs
-    by true mine = let l = subst (Leaves t from (asks m)) is (message_left k d t from m mine) in let w = l.0 in OfParts w.coord w.plain
+    by true mine = let l = subst (Leaves t from (asks m)) is (message_left k d t from m mine) in let w = l.0 in OfParts w.coord w.plain l.1
     by false apart = other apart (coordinated m) refl

@@ -80,6 +80,7 @@ use Rattle.arj_lock_run_law.proofs.GoodSteps.{steady}
 use Rattle.arj_lock_whole_law.specs.Avoids.{Avoids, WasAvoided}
 use Rattle.arj_lock_whole_law.specs.Rest.{GivesRest}
 use Rattle.arj_lock_whole_law.specs.Whole.{KnowsWhole}
+use Rattle.arj_lock_whole_law.proofs.AbortGives.{unconfirmed, unvoted}
 use Rattle.arj_lock_whole_law.proofs.Avoids.{avoids_by, renewed_at}
 use Rattle.arj_lock_whole_law.proofs.AvoidWalks.{avoids_to}
 use Rattle.arj_lock_whole_law.proofs.Of.{walk_end}
@@ -375,11 +376,11 @@ module _ (hd : Header) (x : ℕ) (has : HasObject hd x) (E : List Action → See
         server = record {
           listed = listed;
           left = λ u told new over never. rest.left begun S s u knows seen told new over never;
-          unvoted = λ u told new top open_unit. rest.unvoted begun S s u knows seen told new top open_unit;
+          unvoted = λ u told new top open_unit. unvoted f x begun S s seen whole.parted whole.records whole.aborts u told top open_unit;
         };
         naming = λ n is. record {
           holds = holds n is;
-          unconfirmed = λ u told new top open_unit now. rest.unconfirmed begun S s n u knows seen is told new top open_unit now;
+          unconfirmed = λ u told new top open_unit now. unconfirmed f x begun S s seen whole.parted whole.records whole.aborts n u is told new top open_unit now;
           heirs = λ o a at there how told new now r i held. heir n is o at a there how now r i held;
           nothing = λ o a at there nested told new. nested_nothing begun k its_node t n (world_at s) good uppers here refl is x o a at there nested;
         };

@@ -4,6 +4,11 @@ pub mod Tops
 pub mod TopWalks
 pub mod Avoids
 pub mod CoordCases
+pub mod Aborting
+pub mod Voters
+pub mod AbortWalks
+pub mod AbortRuns
+pub mod AbortGives
 pub mod AvoidWalks
 pub mod Called
 pub mod CalledSays

@@ -14,6 +14,8 @@ use Rattle.arj_view_law.specs.Seen.{Seen, given, up}
 use Rattle.arj_call_law.specs.Bindings.{AreSaid}
 use Rattle.arj_call_law.specs.Runs.{KnowsFew}
 use Rattle.arj_call_law.proofs.MadeLines.{counts_are_said}
+use Rattle.arj_line_law.specs.Knows.{IsKept}
+use Rattle.arj_line_law.proofs.Runs.{lines_keep}
 use Rattle.arj_disk_run_law.specs.Records.{AreRecorded}
 use Rattle.arj_disk_run_law.proofs.RecordWalks.{KeptBy, format_recorded, kept_walk, message_kept, recorded_more, restart_recorded, stop_recorded, tick_kept}
 use Rattle.arj_disk_run_law.proofs.Telling.{acked_kept, acts_kept, heard_kept, same_kept}
@@ -30,9 +32,11 @@ use Rattle.arj_lock_fact_law.proofs.PartWalks.{parted_keep}
 use Rattle.arj_lock_fact_law.proofs.Requests.{requests_keep}
 use Rattle.arj_lock_fact_law.proofs.UpperWalks.{uppers_of}
 use Rattle.arj_lock_fact_law.proofs.Works.{works_keep}
+use Rattle.arj_lock_whole_law.specs.Aborts.{AbortsAreKnown}
 use Rattle.arj_lock_whole_law.specs.Avoids.{AvoidsAreKnown}
 use Rattle.arj_lock_whole_law.specs.Tops.{HoldsNames, TopsAreKnown}
 use Rattle.arj_lock_whole_law.specs.Whole.{KnowsWhole}
+use Rattle.arj_lock_whole_law.proofs.AbortRuns.{AbortsNeed, aborts_of}
 use Rattle.arj_lock_whole_law.proofs.AvoidWalks.{avoids_of}
 use Rattle.arj_lock_whole_law.proofs.Names.{held_names}
 use Rattle.arj_lock_whole_law.proofs.Of.{of_as, of_both, of_kept, of_more}
@@ -123,7 +127,20 @@ module _ (hd : Header) (x : ℕ) (has : HasObject hd x) where
   all : KeepsOf hd Few All
   all = of_both hd Few Named Rest (more Rest Named named) (more Named Rest rest)
 
+  abbrev Told : List Action → Seen → Type 0
+  Told begun M = IsKept M × AbortsAreKnown begun M
+
+  abbrev Whole : List Action → Seen → Type 0
+  Whole begun M = All begun M × Told begun M
+
+  told : KeepsOf hd (With All) Told
+  told = of_both hd (With All) (λ begun M. IsKept M) AbortsAreKnown (of_kept hd (λ begun M. With All begun M × AbortsAreKnown begun M) IsKept (lines_keep hd))
+      (of_more hd AbortsNeed (λ begun M. With All begun M × IsKept M) AbortsAreKnown (λ begun M h. ((h.1.1, (let z = h.0.1 in z.1.1.1.1)), ((let z = h.0.1 in z.0.1), (let z = h.0.1 in z.1.1.1.0)))) (aborts_of hd))
+
+  whole : KeepsOf hd Few Whole
+  whole = of_both hd Few All Told (more Told All all) told
+
   pub whole_of : KeepsOf hd (λ begun M. KnowsFew M) (KnowsWhole x)
-  whole_of = of_as hd Few All (KnowsWhole x)
-      (λ begun M z. record { names = z.0.0; tops = z.0.1; works = z.1.0.0.0; avoids = z.1.0.0.1; grants = z.1.0.1.0; requests = z.1.0.1.1; counts = z.1.1.0.0; entry = z.1.1.0.1; records = z.1.1.1.0; parted = z.1.1.1.1 })
-      (λ begun M w. ((w.names, w.tops), (((w.works, w.avoids), (w.grants, w.requests)), ((w.counts, w.entry), (w.records, w.parted))))) all
+  whole_of = of_as hd Few Whole (KnowsWhole x)
+      (λ begun M w. let z = w.0 in record { names = z.0.0; tops = z.0.1; works = z.1.0.0.0; avoids = z.1.0.0.1; grants = z.1.0.1.0; requests = z.1.0.1.1; counts = z.1.1.0.0; entry = z.1.1.0.1; records = z.1.1.1.0; parted = z.1.1.1.1; written = w.1.0; aborts = w.1.1 })
+      (λ begun M w. (((w.names, w.tops), (((w.works, w.avoids), (w.grants, w.requests)), ((w.counts, w.entry), (w.records, w.parted)))), (w.written, w.aborts))) whole

@@ -1,6 +1,7 @@
 pub mod Tops
 pub mod Called
 pub mod Avoids
+pub mod Aborts
 pub mod Whole
 pub mod Rest
 pub mod Runs

@@ -51,7 +51,7 @@ module _ (x : ℕ) (M : Seen) (begun : List Action) (alike : IsAlikeOf begun M) 
   fixed_at code value = record { act = acts_of begun; paths = paths_of begun; code = code; wants = wants.0; first = code value (acts_of begun nobody) }
 
   pub agrees_at : (code : Codes) (value : Value) → Agrees (fixed_at code value) x begun M.sent
-  agrees_at code value = record { whole = tree; wanted = λ p h a there is. wants.1 (view_of (fixed_at code value) x begun p.to) p h a refl refl there is }
+  agrees_at code value = record { whole = tree; wanted = λ p h a there is. wants.1 (view_of (fixed_at code value) x begun p.to) p h a refl refl there is; first = ((λ y. value), refl) }
 
   pub locked_tied : (values : Values) → (S : State) × IsTied values M.lines x S
   locked_tied values = let s = seen (fixed_at code_of (values x)) (agrees_at code_of (values x)) in (
