@@ -1,10 +1,10 @@
 -- What a coordinator does with states: those that it has, sends and notes are of the form that came.
-use Rattle.std.proofs.Common.{◌≡◌, ◌∙◌, ◌+◌, ◌==◌, ℕ, zero, suc, List, [], ◌∷◌, ◌++◌, Bool, true, false, cond, not, ◌&&◌, ◌||◌, find, map, filter, nat_lt, Option, Some, None, refl, sym, ap, subst, inl, inr, ⊎_elim, arith}
+use Rattle.std.proofs.Common.{Bool, List, None, Option, Some, [], ap, arith, cond, eqb-true, false, filter, find, inl, inr, map, nat_lt, not, refl, subst, suc, sym, true, zero, ℕ, ⊎_elim, ◌&&◌, ◌++◌, ◌+◌, ◌==◌, ◌||◌, ◌∙◌, ◌∷◌, ◌≡◌}
 use Rattle.std.specs.Prelude.{⊤, IfSome}
 use Rattle.std.specs.List.{AllByRecursion, flat_map, list_any}
-use Rattle.arj_base.proofs.Uids.{uid_cases}
+use Rattle.arj_base.proofs.Uids.{uid_cases, uid_is}
 use Rattle.arj_lock.proofs.Members.{In}
-use Rattle.arj_protocol.specs.Words.{Ask, Asked, Binding, Body, BoundReply, End, Head, InvokedReply, Kind as ActionKind, Label, LoadedReply, ObjectState, Op, Path, RecordedReply, Uid, request, uid_eq, uids_of}
+use Rattle.arj_protocol.specs.Words.{Ask, Asked, Binding, Body, BoundReply, End, Head, InvokedReply, Kind as ActionKind, Label, LoadedReply, ObjectState, Op, Path, RecordedReply, Uid, last_uid, object, request, uid_eq, uids_of}
 use Rattle.arj_protocol.specs.Words.ask
 use Rattle.arj_protocol.specs.Words.body
 use Rattle.arj_protocol.specs.Words.bound
@@ -21,7 +21,7 @@ use Rattle.arj_protocol.specs.Ask.{Reply, actor, top_of}
 use Rattle.arj_protocol.specs.Asking.{again_all, again_now, asks_all, asks_machine, asks_node, asks_step, begin_action, call, call_steps, commit_action, commit_open, commit_top, commits_in, doomed_by, end_line, gaveup_lines, give_up, give_up_doing, gives_up, goes_on, granted_by, heard, heard_by, heard_call, heard_doing, heard_none, heard_now, include, is_ended, is_invoke_ask, keeps_after, kept_at, last_req, mark_lines, moved_commit, next_req, notes_grant, renewed, root_heard, root_lost, root_moved, step_call, step_commit, store_of, waits_for_call, waits_for_commit, known_at_start}
 use Rattle.arj_protocol.specs.Call.{Answered, At, AtActivate, AtBind, AtInvoke, AtLoad, AtNote, CallEnd, CallStep, Changed, Conflict, Ended, Goal, Included, Known, Lost, Moved, On, Steps, activated_by, answered, ask_at, bound_answer, bound_by, finds, given_up, has_changed, invoked_answer, live_known, load_from, loaded_answer, made_by, made_known, moves, named_again, next_ask, next_node, or_lost, other_binding, recorded_answer, same_binding, spoils, start, start_at, two_bindings, two_incs, with_inc, write_known}
 use Rattle.arj_protocol.specs.Call as calls
-use Rattle.arj_protocol.specs.Commit.{Aborts, Asks, CommitStep, Confirming, Decides, Machine, Plan, Preparing, Stays, Used, Voting, ask_of, begin_confirm, begin_prepare, begin_vote, changed_of, further, has_record, left_of, marks_store, marks_stores, nodes_given_up, participants, plan_of, servers_of, state_by, state_for, states_for, stores_left, targets_of, votes_left, with_state, with_states}
+use Rattle.arj_protocol.specs.Commit.{Aborts, Asks, CommitStep, Confirming, Decides, Machine, Plan, Preparing, Stays, Used, Voting, ask_of, begin_confirm, begin_prepare, begin_vote, changed_of, has_record, left_of, marks_store, marks_stores, nodes_given_up, participants, plan_of, servers_of, state_by, state_for, states_for, stores_left, targets_of, votes_left, with_state, with_states}
 use Rattle.arj_protocol.specs.Commit as commit
 use Rattle.arj_protocol.specs.Coord.{Calling, Committing, Coord, Doing, Grant, Idle, Joined, Keeping, Now, Root, Said, Went, change_doing, doing_of, is_free, joined_with, joins_on, keeping_of, later_state, latest_of, loaded_for, new_coord, no_root, nodes_sent, objects_in, on_doing, on_root, or_kept_state, plan_for, root_at, same_join, same_said, same_went, servers_told, set_doing, used_of, with_keeping, with_said, with_went}
 use Rattle.arj_protocol.specs.Effect.{Did, Do, Effect, Intent, PutIntent, Served}
@@ -32,10 +32,12 @@ use Rattle.arj_protocol.specs.Step as input
 use Rattle.arj_protocol.specs.Tree.{Branch, Tree, at_place, branch_of, doomed_at, ended_at, ends_of, is_open, is_own, open_below, root_of, uses_object}
 use Rattle.arj_part_law.proofs.GoodCoords.{doomed_same, uses_same}
 use Rattle.arj_part_law.proofs.GoodTrees.{get_more, placed}
-use Rattle.arj_part_law.proofs.LivesNamed.{all_at, all_found, all_put as all_put_number}
+use Rattle.arj_part_law.proofs.LivesNamed.{all_at, all_put as all_put_number, keyed_found, keyed_put}
 use Rattle.arj_part_law.proofs.Settled.{doing_other, doing_put, end_tree_on}
-use Rattle.arj_address_law.proofs.Lists.{all_append, all_filter, all_some}
-use Rattle.arj_disk_run_law.specs.States.{AllSay, AskIsSo, AtIsSo, CoordIsSo, EndIsSo, Fits, MayKeep, MessageIsSo, NowIsSo, Own, PlanIsSo, ReplyIsSo, RootIsSo, StepIsSo}
+use Rattle.arj_address_law.proofs.Lists.{all_append, all_some}
+use Rattle.arj_disk_run_law.specs.States.{AllSay, AskIsSo, AtIsSo, CoordIsSo, EndIsSo, Fits, MayKeep, MessageIsSo, NowIsSo, Own, OwnOf, PlanIsSo, ReplyIsSo, RootIsSo, StepIsSo}
+use Rattle.std.proofs.lemmas.Bool.{and_parts}
+use Rattle.arj_protocol.specs.Node.{is_loaded_for, is_loaded_in, reply_is_meant}
 
 module _ (F : Fits) (keep : MayKeep F) where
   abbrev V : ObjectState → Type 0
@@ -43,6 +45,10 @@ module _ (F : Fits) (keep : MayKeep F) where
 
   abbrev Q : ObjectState → Type 0
   Q st = Own F.kept st
+
+  -- a state of this object
+  abbrev Of : ℕ → ObjectState → Type 0
+  Of x st = OwnOf F.kept x st
 
   -- ---- effects
 
@@ -86,27 +92,30 @@ module _ (F : Fits) (keep : MayKeep F) where
       by true = so
       by false = record { joined = so.joined; states = so.states }
 
-  later_so : (s t : ObjectState) → Q s → Q t → Q (later_state s t)
-  later_so s t a b = by (nat_lt s.version t.version)
+  later_so : (y : ℕ) (s t : ObjectState) → Of y s → Of y t → Of y (later_state s t)
+  later_so y s t a b = by (nat_lt s.version t.version)
     where
-      by : (x : Bool) → Q (cond x t s)
+      by : (x : Bool) → Of y (cond x t s)
       by true = b
       by false = a
 
-  joined_so : (j : Joined) (js : List Joined) → Q j.loaded → AllByRecursion (λ (i : Joined). Q i.loaded) js → AllByRecursion (λ (i : Joined). Q i.loaded) (joined_with j js)
+  joined_so : (j : Joined) (js : List Joined) → Of j.x j.loaded → AllByRecursion (λ (i : Joined). Of i.x i.loaded) js → AllByRecursion (λ (i : Joined). Of i.x i.loaded) (joined_with j js)
   joined_so j [] its all = (its, tt)
-  joined_so j (i ∷ js) its all = by (same_join j i) (joined_so j js its all.1)
+  joined_so j (i ∷ js) its all = by (same_join j i) refl (joined_so j js its all.1)
     where
-      by : (b : Bool) → AllByRecursion (λ (h : Joined). Q h.loaded) (joined_with j js) → AllByRecursion (λ (h : Joined). Q h.loaded) (cond b (record i { loaded = later_state i.loaded j.loaded } ∷ js) (i ∷ joined_with j js))
-      by true ih = (later_so i.loaded j.loaded all.0 its, all.1)
-      by false ih = (all.0, ih)
+      by : (b : Bool) → same_join j i ≡ b → AllByRecursion (λ (h : Joined). Of h.x h.loaded) (joined_with j js) → AllByRecursion (λ (h : Joined). Of h.x h.loaded) (cond b (record i { loaded = later_state i.loaded j.loaded } ∷ js) (i ∷ joined_with j js))
+      by true same ih =
+          let two = (and_parts (uid_eq (last_uid j.path) (last_uid i.path)) ((j.x == i.x) && (j.store == i.store)) same).1 in
+          let x_is : j.x ≡ i.x = eqb-true j.x i.x (and_parts (j.x == i.x) (j.store == i.store) two).0 in
+          (later_so i.x i.loaded j.loaded all.0 (subst (λ y. Of y j.loaded) x_is its), all.1)
+      by false apart ih = (all.0, ih)
 
   keep_so : (x : ℕ) (q : Keeping) (r : Root) → RootIsSo F r → RootIsSo F (with_keeping x q r)
   keep_so x q r so = record { joined = so.joined; states = so.states }
 
-  heard_so : (s : Steps) (e : CallEnd) (r : Root) → EndIsSo F e → RootIsSo F r → RootIsSo F (root_heard s e r)
+  heard_so : (s : Steps) (e : CallEnd) (r : Root) → EndIsSo F s.x e → RootIsSo F r → RootIsSo F (root_heard s e r)
   heard_so s (Answered a) r its so = said_so (record { path = uids_of s.path; x = s.x }) r so
-  heard_so s (Included st) r its so = record { joined = joined_so (record { path = uids_of s.path; x = s.x; store = store_of s.goal; loaded = st }) r.joined (keep.loaded st.uid st its) so.joined; states = so.states }
+  heard_so s (Included st) r its so = record { joined = joined_so (record { path = uids_of s.path; x = s.x; store = store_of s.goal; loaded = st }) r.joined (keep.loaded st.uid st its.0, its.1) so.joined; states = so.states }
   heard_so s (Conflict h m n) r its so = so
   heard_so s (Changed n w) r its so = so
   heard_so s (Lost n b) r its so = so
@@ -182,22 +191,22 @@ module _ (F : Fits) (keep : MayKeep F) where
 
   -- ---- calls
 
-  asked_at : (x : ℕ) (g : Goal) (ends : List (Uid × End)) (at : At) → AtIsSo F at → AskIsSo F (ask_at x g ends at)
+  asked_at : (x : ℕ) (g : Goal) (ends : List (Uid × End)) (at : At) → AtIsSo F x at → AskIsSo F (ask_at x g ends at)
   asked_at x g ends (AtBind avoid) its = tt
   asked_at x g ends (AtLoad q n rest) its = tt
-  asked_at x g ends (AtActivate q st) its = its
+  asked_at x g ends (AtActivate q st) its = its.0
   asked_at x g ends (AtNote q i) its = tt
   asked_at x g ends (AtInvoke q i) its = tt
 
-  step_so : (s : Steps) (c : Coord) → CoordIsSo F c → AtIsSo F s.at → IsDone (asks_step s c)
+  step_so : (s : Steps) (c : Coord) → CoordIsSo F c → AtIsSo F s.x s.at → IsDone (asks_step s c)
   step_so s c so its = asks_so s.path s.req (next_node s, next_ask (ends_of (root_of s.path) c.tree) s) c so (asked_at s.x s.goal (ends_of (root_of s.path) c.tree) s.at its)
 
-  goes_so : (s : Steps) (c : Coord) → CoordIsSo F c → AtIsSo F s.at → IsDone (goes_on s c)
+  goes_so : (s : Steps) (c : Coord) → CoordIsSo F c → AtIsSo F s.x s.at → IsDone (goes_on s c)
   goes_so s c so its = step_so s (on_doing (actor s.path) (λ (d : Doing). record d { req = s.req; now = Calling s }) c) (on_do_so (actor s.path) (λ (d : Doing). record d { req = s.req; now = Calling s }) c (λ d found. its) so) its
 
-  start_so : (o : Option Known) (avoid : Binding) → AtIsSo F (start_at o avoid)
-  start_so None avoid = tt
-  start_so (Some q) avoid = tt
+  start_so : (x : ℕ) (o : Option Known) (avoid : Binding) → AtIsSo F x (start_at o avoid)
+  start_so x None avoid = tt
+  start_so x (Some q) avoid = tt
 
   call_so : (p : Path) (x : ℕ) (o : Op) (c : Coord) → CoordIsSo F c → IsDone (call p x o c)
   call_so p x o c so =
@@ -206,12 +215,12 @@ module _ (F : Fits) (keep : MayKeep F) where
       let kept = renewed (is_free (root_of p) (actor p) x c) old old.kept in
       let u : Coord = record c { tree = uses_object p x c.tree } in
       goes_so (call_steps p x o (next_req (actor p) c) r c kept) (on_root (root_of p) (with_keeping x kept) u) (on_root_so (root_of p) (with_keeping x kept) u (λ q its. keep_so x kept q its) (uses_so p x c so))
-      (start_so (known_at_start (top_of p) x r c kept.kept) kept.avoid)
+      (start_so x (known_at_start (top_of p) x r c kept.kept) kept.avoid)
 
   include_so : (p : Path) (x s : ℕ) (c : Coord) → CoordIsSo F c → IsDone (include p x s c)
   include_so p x s c so = goes_so (start p x (calls.Include s) None unbound (next_req (actor p) c)) (record c { tree = uses_object p x c.tree }) (uses_so p x c so) tt
 
-  step_call_so : (s : Steps) (t : CallStep) (c : Coord) → CoordIsSo F c → StepIsSo F t → IsDone (step_call s t c)
+  step_call_so : (s : Steps) (t : CallStep) (c : Coord) → CoordIsSo F c → StepIsSo F s.x t → IsDone (step_call s t c)
   step_call_so s (On at) c so its = goes_so (record s { req = s.req + 1; at = at }) c so its
   step_call_so s (Ended e) c so its = (by e, lines (actor s.path) (end_line s.x s.goal e) c)
     where
@@ -231,127 +240,143 @@ module _ (F : Fits) (keep : MayKeep F) where
 
   -- ---- answers to calls
 
-  abbrev MovedIsSo : Moved → Type 0
-  MovedIsSo m = StepIsSo F m.step
+  abbrev MovedIsSo : ℕ → Moved → Type 0
+  MovedIsSo y m = StepIsSo F y m.step
 
-  with_so : (i : ℕ) (kept : Known) (at : At) (o : Option ℕ) → AtIsSo F at → MovedIsSo (with_inc i kept at o)
-  with_so i kept at None its = its
-  with_so i kept at (Some first) its = by (first == i)
+  -- an answer to a step about this object
+  abbrev AnswersFor : ℕ → Reply → Type 0
+  AnswersFor y (Reply.Loaded (loaded.State st)) = OwnOf F.loaded y st
+  AnswersFor y _ = ⊤
+
+  answers_for : (y : ℕ) (r : Reply) → ReplyIsSo F r → ((st : ObjectState) → r ≡ Reply.Loaded (loaded.State st) → st.uid.num ≡ y) → AnswersFor y r
+  answers_for y (Reply.Loaded (loaded.State st)) rs of = (rs, of st refl)
+  answers_for y (Reply.Loaded (loaded.InDoubt holder)) rs of = tt
+  answers_for y (Reply.Bound r) rs of = tt
+  answers_for y (Reply.Activated i) rs of = tt
+  answers_for y (Reply.Noted r) rs of = tt
+  answers_for y (Reply.Invoked r) rs of = tt
+  answers_for y (Reply.Voted r) rs of = tt
+  answers_for y (Reply.Prepared r) rs of = tt
+  answers_for y (Reply.Confirmed r) rs of = tt
+
+  with_so : (y : ℕ) (i : ℕ) (kept : Known) (at : At) (o : Option ℕ) → AtIsSo F y at → MovedIsSo y (with_inc i kept at o)
+  with_so y i kept at None its = its
+  with_so y i kept at (Some first) its = by (first == i)
     where
-      by : (b : Bool) → MovedIsSo (cond b (moves (Some kept) at) (finds (Some kept) (Changed kept.server (two_incs first i))))
+      by : (b : Bool) → MovedIsSo y (cond b (moves (Some kept) at) (finds (Some kept) (Changed kept.server (two_incs first i))))
       by true = its
       by false = tt
 
-  bound_by_so : (free : Bool) (q : Known) (at : At) (kept : Option Known) → AtIsSo F at → MovedIsSo (bound_by free q at kept)
-  bound_by_so free q at None its = its
-  bound_by_so free q at (Some old) its = by (binding_eq old.binding q.binding)
+  bound_by_so : (y : ℕ) (free : Bool) (q : Known) (at : At) (kept : Option Known) → AtIsSo F y at → MovedIsSo y (bound_by free q at kept)
+  bound_by_so y free q at None its = its
+  bound_by_so y free q at (Some old) its = by (binding_eq old.binding q.binding)
     where
-      same : (o : Option ℕ) → MovedIsSo (same_binding old q at o)
+      same : (o : Option ℕ) → MovedIsSo y (same_binding old q at o)
       same None = its
-      same (Some i) = with_so i (named_again old q) at old.inc its
+      same (Some i) = with_so y i (named_again old q) at old.inc its
 
-      other : (b : Bool) → MovedIsSo (cond b (moves (Some q) at) (finds (Some old) (Changed 1 (two_bindings old.binding q.binding))))
+      other : (b : Bool) → MovedIsSo y (cond b (moves (Some q) at) (finds (Some old) (Changed 1 (two_bindings old.binding q.binding))))
       other true = its
       other false = tt
 
-      by : (b : Bool) → MovedIsSo (cond b (same_binding old q at q.inc) (other_binding free old q at))
+      by : (b : Bool) → MovedIsSo y (cond b (same_binding old q at q.inc) (other_binding free old q at))
       by true = same q.inc
       by false = other (free && binding_less old.binding q.binding)
 
-  loads_so : (q : Known) (stores : List ℕ) → IfSome (load_from q stores) (AtIsSo F)
-  loads_so q [] = tt
-  loads_so q (s ∷ ss) = tt
+  loads_so : (y : ℕ) (q : Known) (stores : List ℕ) → IfSome (load_from q stores) (AtIsSo F y)
+  loads_so y q [] = tt
+  loads_so y q (s ∷ ss) = tt
 
-  bound_so : (free : Bool) (kept : Option Known) (r : BoundReply) → MovedIsSo (bound_answer free kept r)
-  bound_so free kept (bound.Live b server i n stores) = bound_by_so free (live_known b server i n stores) (AtInvoke (live_known b server i n stores) i) kept tt
-  bound_so free kept (bound.Make b server n stores) = by (load_from (made_known b server n stores) stores) (loads_so (made_known b server n stores) stores)
+  bound_so : (y : ℕ) (free : Bool) (kept : Option Known) (r : BoundReply) → MovedIsSo y (bound_answer free kept r)
+  bound_so y free kept (bound.Live b server i n stores) = bound_by_so y free (live_known b server i n stores) (AtInvoke (live_known b server i n stores) i) kept tt
+  bound_so y free kept (bound.Make b server n stores) = by (load_from (made_known b server n stores) stores) (loads_so y (made_known b server n stores) stores)
     where
-      by : (o : Option At) → IfSome o (AtIsSo F) → MovedIsSo (made_by free (made_known b server n stores) kept o)
+      by : (o : Option At) → IfSome o (AtIsSo F y) → MovedIsSo y (made_by free (made_known b server n stores) kept o)
       by None its = tt
-      by (Some at) its = bound_by_so free (made_known b server n stores) at kept its
-  bound_so free kept (bound.Write n stores) = by (load_from (write_known n stores) stores) (loads_so (write_known n stores) stores)
+      by (Some at) its = bound_by_so y free (made_known b server n stores) at kept its
+  bound_so y free kept (bound.Write n stores) = by (load_from (write_known n stores) stores) (loads_so y (write_known n stores) stores)
     where
-      by : (o : Option At) → IfSome o (AtIsSo F) → MovedIsSo (or_lost kept o)
+      by : (o : Option At) → IfSome o (AtIsSo F y) → MovedIsSo y (or_lost kept o)
       by None its = tt
       by (Some at) its = its
-  bound_so free kept (bound.Conflict holder m) = tt
+  bound_so y free kept (bound.Conflict holder m) = tt
 
-  activated_so : (q : Known) (i : ℕ) (kept : Option Known) → MovedIsSo (activated_by q i kept)
-  activated_so q i None = tt
-  activated_so q i (Some old) = by (binding_eq old.binding q.binding)
+  activated_so : (y : ℕ) (q : Known) (i : ℕ) (kept : Option Known) → MovedIsSo y (activated_by q i kept)
+  activated_so y q i None = tt
+  activated_so y q i (Some old) = by (binding_eq old.binding q.binding)
     where
-      by : (b : Bool) → MovedIsSo (cond b (with_inc i old (AtNote q i) old.inc) (moves (Some old) (AtNote q i)))
-      by true = with_so i old (AtNote q i) old.inc tt
+      by : (b : Bool) → MovedIsSo y (cond b (with_inc i old (AtNote q i) old.inc) (moves (Some old) (AtNote q i)))
+      by true = with_so y i old (AtNote q i) old.inc tt
       by false = tt
 
-  noted_so : (q : Known) (i : ℕ) (kept : Option Known) (r : RecordedReply) → MovedIsSo (recorded_answer kept q i r)
-  noted_so q i kept recorded.Yes = tt
-  noted_so q i kept (recorded.Changed w) = tt
+  noted_so : (y : ℕ) (q : Known) (i : ℕ) (kept : Option Known) (r : RecordedReply) → MovedIsSo y (recorded_answer kept q i r)
+  noted_so y q i kept recorded.Yes = tt
+  noted_so y q i kept (recorded.Changed w) = tt
 
-  invoked_so : (q : Known) (kept : Option Known) (r : InvokedReply) → MovedIsSo (invoked_answer kept q r)
-  invoked_so q kept (invoked.Answered a) = tt
-  invoked_so q kept (invoked.Conflict holder m) = tt
-  invoked_so q kept (invoked.Changed w) = tt
+  invoked_so : (y : ℕ) (q : Known) (kept : Option Known) (r : InvokedReply) → MovedIsSo y (invoked_answer kept q r)
+  invoked_so y q kept (invoked.Answered a) = tt
+  invoked_so y q kept (invoked.Conflict holder m) = tt
+  invoked_so y q kept (invoked.Changed w) = tt
 
-  loaded_so : (kept : Option Known) (q : Known) (s : ℕ) (g : Goal) (r : LoadedReply) → ReplyIsSo F (Reply.Loaded r) → MovedIsSo (loaded_answer kept q s g r)
-  loaded_so kept q s (calls.Run o) (loaded.State st) rs = rs
-  loaded_so kept q s (calls.Include n) (loaded.State st) rs = rs
-  loaded_so kept q s g (loaded.InDoubt holder) rs = tt
+  loaded_so : (y : ℕ) (kept : Option Known) (q : Known) (s : ℕ) (g : Goal) (r : LoadedReply) → AnswersFor y (Reply.Loaded r) → MovedIsSo y (loaded_answer kept q s g r)
+  loaded_so y kept q s (calls.Run o) (loaded.State st) rs = rs
+  loaded_so y kept q s (calls.Include n) (loaded.State st) rs = rs
+  loaded_so y kept q s g (loaded.InDoubt holder) rs = tt
 
-  answered_so : (free : Bool) (kept : Option Known) (g : Goal) (at : At) (r : Reply) → AtIsSo F at → ReplyIsSo F r → MovedIsSo (answered free kept g at r)
-  answered_so free kept g (AtBind avoid) (Reply.Bound r) so rs = bound_so free kept r
-  answered_so free kept g (AtLoad q s rest) (Reply.Loaded r) so rs = loaded_so kept q s g r rs
-  answered_so free kept g (AtActivate q st) (Reply.Activated j) so rs = activated_so q j kept
-  answered_so free kept g (AtNote q i) (Reply.Noted r) so rs = noted_so q i kept r
-  answered_so free kept g (AtInvoke q i) (Reply.Invoked r) so rs = invoked_so q kept r
-  answered_so free kept g (AtBind avoid) (Reply.Loaded r) so rs = so
-  answered_so free kept g (AtBind avoid) (Reply.Activated j) so rs = so
-  answered_so free kept g (AtBind avoid) (Reply.Noted r) so rs = so
-  answered_so free kept g (AtBind avoid) (Reply.Invoked r) so rs = so
-  answered_so free kept g (AtBind avoid) (Reply.Voted r) so rs = so
-  answered_so free kept g (AtBind avoid) (Reply.Prepared r) so rs = so
-  answered_so free kept g (AtBind avoid) (Reply.Confirmed r) so rs = so
-  answered_so free kept g (AtLoad q s rest) (Reply.Bound r) so rs = so
-  answered_so free kept g (AtLoad q s rest) (Reply.Activated j) so rs = so
-  answered_so free kept g (AtLoad q s rest) (Reply.Noted r) so rs = so
-  answered_so free kept g (AtLoad q s rest) (Reply.Invoked r) so rs = so
-  answered_so free kept g (AtLoad q s rest) (Reply.Voted r) so rs = so
-  answered_so free kept g (AtLoad q s rest) (Reply.Prepared r) so rs = so
-  answered_so free kept g (AtLoad q s rest) (Reply.Confirmed r) so rs = so
-  answered_so free kept g (AtActivate q st) (Reply.Bound r) so rs = so
-  answered_so free kept g (AtActivate q st) (Reply.Loaded r) so rs = so
-  answered_so free kept g (AtActivate q st) (Reply.Noted r) so rs = so
-  answered_so free kept g (AtActivate q st) (Reply.Invoked r) so rs = so
-  answered_so free kept g (AtActivate q st) (Reply.Voted r) so rs = so
-  answered_so free kept g (AtActivate q st) (Reply.Prepared r) so rs = so
-  answered_so free kept g (AtActivate q st) (Reply.Confirmed r) so rs = so
-  answered_so free kept g (AtNote q i) (Reply.Bound r) so rs = so
-  answered_so free kept g (AtNote q i) (Reply.Loaded r) so rs = so
-  answered_so free kept g (AtNote q i) (Reply.Activated j) so rs = so
-  answered_so free kept g (AtNote q i) (Reply.Invoked r) so rs = so
-  answered_so free kept g (AtNote q i) (Reply.Voted r) so rs = so
-  answered_so free kept g (AtNote q i) (Reply.Prepared r) so rs = so
-  answered_so free kept g (AtNote q i) (Reply.Confirmed r) so rs = so
-  answered_so free kept g (AtInvoke q i) (Reply.Bound r) so rs = so
-  answered_so free kept g (AtInvoke q i) (Reply.Loaded r) so rs = so
-  answered_so free kept g (AtInvoke q i) (Reply.Activated j) so rs = so
-  answered_so free kept g (AtInvoke q i) (Reply.Noted r) so rs = so
-  answered_so free kept g (AtInvoke q i) (Reply.Voted r) so rs = so
-  answered_so free kept g (AtInvoke q i) (Reply.Prepared r) so rs = so
-  answered_so free kept g (AtInvoke q i) (Reply.Confirmed r) so rs = so
+  answered_so : (y : ℕ) (free : Bool) (kept : Option Known) (g : Goal) (at : At) (r : Reply) → AtIsSo F y at → AnswersFor y r → MovedIsSo y (answered free kept g at r)
+  answered_so y free kept g (AtBind avoid) (Reply.Bound r) so rs = bound_so y free kept r
+  answered_so y free kept g (AtLoad q s rest) (Reply.Loaded r) so rs = loaded_so y kept q s g r rs
+  answered_so y free kept g (AtActivate q st) (Reply.Activated j) so rs = activated_so y q j kept
+  answered_so y free kept g (AtNote q i) (Reply.Noted r) so rs = noted_so y q i kept r
+  answered_so y free kept g (AtInvoke q i) (Reply.Invoked r) so rs = invoked_so y q kept r
+  answered_so y free kept g (AtBind avoid) (Reply.Loaded r) so rs = so
+  answered_so y free kept g (AtBind avoid) (Reply.Activated j) so rs = so
+  answered_so y free kept g (AtBind avoid) (Reply.Noted r) so rs = so
+  answered_so y free kept g (AtBind avoid) (Reply.Invoked r) so rs = so
+  answered_so y free kept g (AtBind avoid) (Reply.Voted r) so rs = so
+  answered_so y free kept g (AtBind avoid) (Reply.Prepared r) so rs = so
+  answered_so y free kept g (AtBind avoid) (Reply.Confirmed r) so rs = so
+  answered_so y free kept g (AtLoad q s rest) (Reply.Bound r) so rs = so
+  answered_so y free kept g (AtLoad q s rest) (Reply.Activated j) so rs = so
+  answered_so y free kept g (AtLoad q s rest) (Reply.Noted r) so rs = so
+  answered_so y free kept g (AtLoad q s rest) (Reply.Invoked r) so rs = so
+  answered_so y free kept g (AtLoad q s rest) (Reply.Voted r) so rs = so
+  answered_so y free kept g (AtLoad q s rest) (Reply.Prepared r) so rs = so
+  answered_so y free kept g (AtLoad q s rest) (Reply.Confirmed r) so rs = so
+  answered_so y free kept g (AtActivate q st) (Reply.Bound r) so rs = so
+  answered_so y free kept g (AtActivate q st) (Reply.Loaded r) so rs = so
+  answered_so y free kept g (AtActivate q st) (Reply.Noted r) so rs = so
+  answered_so y free kept g (AtActivate q st) (Reply.Invoked r) so rs = so
+  answered_so y free kept g (AtActivate q st) (Reply.Voted r) so rs = so
+  answered_so y free kept g (AtActivate q st) (Reply.Prepared r) so rs = so
+  answered_so y free kept g (AtActivate q st) (Reply.Confirmed r) so rs = so
+  answered_so y free kept g (AtNote q i) (Reply.Bound r) so rs = so
+  answered_so y free kept g (AtNote q i) (Reply.Loaded r) so rs = so
+  answered_so y free kept g (AtNote q i) (Reply.Activated j) so rs = so
+  answered_so y free kept g (AtNote q i) (Reply.Invoked r) so rs = so
+  answered_so y free kept g (AtNote q i) (Reply.Voted r) so rs = so
+  answered_so y free kept g (AtNote q i) (Reply.Prepared r) so rs = so
+  answered_so y free kept g (AtNote q i) (Reply.Confirmed r) so rs = so
+  answered_so y free kept g (AtInvoke q i) (Reply.Bound r) so rs = so
+  answered_so y free kept g (AtInvoke q i) (Reply.Loaded r) so rs = so
+  answered_so y free kept g (AtInvoke q i) (Reply.Activated j) so rs = so
+  answered_so y free kept g (AtInvoke q i) (Reply.Noted r) so rs = so
+  answered_so y free kept g (AtInvoke q i) (Reply.Voted r) so rs = so
+  answered_so y free kept g (AtInvoke q i) (Reply.Prepared r) so rs = so
+  answered_so y free kept g (AtInvoke q i) (Reply.Confirmed r) so rs = so
 
-  given_up_so : (at : At) → StepIsSo F (given_up at)
-  given_up_so (AtBind avoid) = tt
-  given_up_so (AtLoad q n []) = tt
-  given_up_so (AtLoad q n (m ∷ ms)) = tt
-  given_up_so (AtActivate q st) = tt
-  given_up_so (AtNote q i) = tt
-  given_up_so (AtInvoke q i) = tt
+  given_up_so : (y : ℕ) (at : At) → StepIsSo F y (given_up at)
+  given_up_so y (AtBind avoid) = tt
+  given_up_so y (AtLoad q n []) = tt
+  given_up_so y (AtLoad q n (m ∷ ms)) = tt
+  given_up_so y (AtActivate q st) = tt
+  given_up_so y (AtNote q i) = tt
+  given_up_so y (AtInvoke q i) = tt
 
-  heard_call_so : (s : Steps) (r : Reply) (c : Coord) → CoordIsSo F c → AtIsSo F s.at → ReplyIsSo F r → IsDone (heard_call s r c)
+  heard_call_so : (s : Steps) (r : Reply) (c : Coord) → CoordIsSo F c → AtIsSo F s.x s.at → AnswersFor s.x r → IsDone (heard_call s r c)
   heard_call_so s r c so its rs =
       let m = answered (is_free (root_of s.path) (actor s.path) s.x c) (kept_at s c) s.goal s.at r in
-      step_call_so s m.step (on_root (root_of s.path) (root_moved s r m) c) (on_root_so (root_of s.path) (root_moved s r m) c (moved_so s r m) so) (answered_so (is_free (root_of s.path) (actor s.path) s.x c) (kept_at s c) s.goal s.at r its rs)
+      step_call_so s m.step (on_root (root_of s.path) (root_moved s r m) c) (on_root_so (root_of s.path) (root_moved s r m) c (moved_so s r m) so) (answered_so s.x (is_free (root_of s.path) (actor s.path) s.x c) (kept_at s c) s.goal s.at r its rs)
 
   -- ---- ends
 
@@ -474,8 +499,12 @@ module _ (F : Fits) (keep : MayKeep F) where
       by false ih = ih
 
   sent_so : (n : ℕ) (p : Plan) → PlanIsSo F p → AllByRecursion Q (states_for n p)
-  sent_so n p so = all_some (λ (u : Used). IfSome u.loaded Q) Q (state_for n p) p.used (λ u its. by u its (changed_of u.x p) (found_so _ p.changed so.changed)) so.used
+  sent_so n p so = all_some (λ (u : Used). IfSome u.loaded (Of u.x)) Q (state_for n p) p.used (λ u its. by u (plain u.x u.loaded its) (changed_of u.x p) (found_so _ p.changed so.changed)) so.used
     where
+      plain : (x : ℕ) (l : Option ObjectState) → IfSome l (Of x) → IfSome l Q
+      plain x None its = tt
+      plain x (Some st) its = its.0
+
       by : (u : Used) → IfSome u.loaded Q → (o : Option ObjectState) → IfSome o V → IfSome (state_by n u o) Q
       by u its None none = one (has u.joins n)
         where
@@ -510,9 +539,9 @@ module _ (F : Fits) (keep : MayKeep F) where
   commits_so : (u : Uid) (m : Machine) (c : Coord) → CoordIsSo F c → PlanIsSo F (plan_of m) → CoordIsSo F (commits_in u m c)
   commits_so u m c so its = on_do_so u (λ (d : Doing). record d { req = (plan_of m).req; now = Committing m }) c (λ d found. its) so
 
-  states_so : (ss : List ObjectState) (states : List (ℕ × ObjectState)) → AllByRecursion V ss → AllByRecursion (λ (e : ℕ × ObjectState). Q e.1) states → AllByRecursion (λ (e : ℕ × ObjectState). Q e.1) (states_after ss states)
+  states_so : (ss : List ObjectState) (states : List (ℕ × ObjectState)) → AllByRecursion V ss → AllByRecursion (λ (e : ℕ × ObjectState). Of e.0 e.1) states → AllByRecursion (λ (e : ℕ × ObjectState). Of e.0 e.1) (states_after ss states)
   states_so [] states its all = all
-  states_so (s ∷ ss) states its all = states_so ss (put_number s.uid.num s states) its.1 (all_put_number Q s.uid.num s states (keep.voted s.uid s its.0) all)
+  states_so (s ∷ ss) states its all = states_so ss (put_number s.uid.num s states) its.1 (keyed_put Of s.uid.num s states (keep.voted s.uid s its.0, refl) all)
 
   after_so : (p : Plan) (r : Root) → PlanIsSo F p → RootIsSo F r → RootIsSo F (root_after p r)
   after_so p r its so = record { joined = so.joined; states = states_so p.changed r.states its.changed so.states }
@@ -570,24 +599,32 @@ module _ (F : Fits) (keep : MayKeep F) where
       (w.0, both (mark_lines u m.marks c) t.outs (flat (λ (x : ℕ × ℕ). says u (λ l. body.Excluded l x.0 x.1) c) m.marks (λ x. lines u (λ l. body.Excluded l x.0 x.1) c)) w.1)
 
   -- what a plan loads
-  latest_so : (o : Option ObjectState) (js : List Joined) → IfSome o Q → AllByRecursion (λ (j : Joined). Q j.loaded) js → IfSome (latest_of o js) Q
-  latest_so None [] its all = tt
-  latest_so (Some s) [] its all = its
-  latest_so None (j ∷ js) its all = latest_so (Some j.loaded) js all.0 all.1
-  latest_so (Some s) (j ∷ js) its all = latest_so (Some (later_state s j.loaded)) js (later_so s j.loaded its all.0) all.1
+  latest_so : (x : ℕ) (o : Option ObjectState) (js : List Joined) → IfSome o (Of x) → AllByRecursion (λ (j : Joined). Of x j.loaded) js → IfSome (latest_of o js) (Of x)
+  latest_so x None [] its all = tt
+  latest_so x (Some s) [] its all = its
+  latest_so x None (j ∷ js) its all = latest_so x (Some j.loaded) js all.0 all.1
+  latest_so x (Some s) (j ∷ js) its all = latest_so x (Some (later_state s j.loaded)) js (later_so x s j.loaded its all.0) all.1
 
-  loads_from : (x : ℕ) (top : Uid) (r : Root) (c : Coord) → RootIsSo F r → IfSome (loaded_for x top r c) Q
-  loads_from x top r c so = by (latest_of None (joins_on x top r c)) (at_number x r.states) refl (latest_so None (joins_on x top r c) tt (all_filter (λ (j : Joined). Q j.loaded) _ r.joined so.joined))
+  joins_so : (x : ℕ) (test : Joined → Bool) (js : List Joined) → AllByRecursion (λ (j : Joined). Of j.x j.loaded) js → AllByRecursion (λ (j : Joined). Of x j.loaded) (filter (λ (j : Joined). (j.x == x) && test j) js)
+  joins_so x test [] all = tt
+  joins_so x test (j ∷ js) all = by ((j.x == x) && test j) refl (joins_so x test js all.1)
     where
-      by : (o s : Option ObjectState) → at_number x r.states ≡ s → IfSome o Q → IfSome (or_kept_state o s) Q
+      by : (b : Bool) → ((j.x == x) && test j) ≡ b → AllByRecursion (λ (h : Joined). Of x h.loaded) (filter (λ (h : Joined). (h.x == x) && test h) js) → AllByRecursion (λ (h : Joined). Of x h.loaded) (cond b (j ∷ filter (λ (h : Joined). (h.x == x) && test h) js) (filter (λ (h : Joined). (h.x == x) && test h) js))
+      by true on ih = (subst (λ y. Of y j.loaded) (eqb-true j.x x (and_parts (j.x == x) (test j) on).0) all.0, ih)
+      by false off ih = ih
+
+  loads_from : (x : ℕ) (top : Uid) (r : Root) (c : Coord) → RootIsSo F r → IfSome (loaded_for x top r c) (Of x)
+  loads_from x top r c so = by (latest_of None (joins_on x top r c)) (at_number x r.states) refl (latest_so x None (joins_on x top r c) tt (joins_so x _ r.joined so.joined))
+    where
+      by : (o s : Option ObjectState) → at_number x r.states ≡ s → IfSome o (Of x) → IfSome (or_kept_state o s) (Of x)
       by None s is its = tt
       by (Some st) None is its = its
-      by (Some st) (Some t) is its = later_so st t its (all_found Q x r.states t so.states is)
+      by (Some st) (Some t) is its = later_so x st t its (keyed_found Of x r.states t so.states is)
 
   plan_so : (p : Path) (req : ℕ) (r : Root) (c : Coord) → RootIsSo F r → PlanIsSo F (plan_for p req r c)
   plan_so p req r c so = record { used = by (objects_in (actor p) r c); changed = tt }
     where
-      by : (xs : List ℕ) → AllByRecursion (λ (u : Used). IfSome u.loaded Q) (map (used_of (actor p) r c) xs)
+      by : (xs : List ℕ) → AllByRecursion (λ (u : Used). IfSome u.loaded (Of u.x)) (map (used_of (actor p) r c) xs)
       by [] = tt
       by (x ∷ xs) = (loads_from x (actor p) r c so, by xs)
 
@@ -596,17 +633,21 @@ module _ (F : Fits) (keep : MayKeep F) where
   abbrev IsServed : Served Coord (Unit {0}) → Type 0
   IsServed d = CoordIsSo F d.part × AllSay F d.outs
 
-  pub hears_so : (from : ℕ) (a : Asked) (r : Reply) (intents : List (Uid × Intent)) (c : Coord) → CoordIsSo F c → ReplyIsSo F r → IsServed (heard from a r intents c)
-  hears_so from a r intents c so rs = by (doing_of a.act c) refl
+  pub hears_so : (from : ℕ) (a : Asked) (r : Reply) (intents : List (Uid × Intent)) (c : Coord) → CoordIsSo F c → reply_is_meant c a r ≡ true → ReplyIsSo F r → IsServed (heard from a r intents c)
+  hears_so from a r intents c so meant rs = by (doing_of a.act c) refl
     where
-      now : (n : Now) → NowIsSo F n → IsServed (heard_now from a r intents c n)
-      now Idle its = (so, tt)
-      now (Calling s) its = each (waits_for_call from a r s)
+      -- a state for which a call waits is of its object
+      of_step : (d : Doing) (s : Steps) → doing_of a.act c ≡ Some d → d.now ≡ Calling s → (st : ObjectState) → r ≡ Reply.Loaded (loaded.State st) → st.uid.num ≡ s.x
+      of_step d s found is st reply = ap (λ (u : Uid). u.num) (uid_is st.uid (object s.x) (sym (ap (is_loaded_for st) found ∙ ap (is_loaded_in st) is) ∙ ap (reply_is_meant c a) (sym reply) ∙ meant))
+
+      now : (d : Doing) → doing_of a.act c ≡ Some d → (n : Now) → d.now ≡ n → NowIsSo F n → IsServed (heard_now from a r intents c n)
+      now d found Idle is its = (so, tt)
+      now d found (Calling s) is its = each (waits_for_call from a r s)
         where
           each : (w : Bool) → IsServed (cond {A = Served Coord (Unit {0})} w (heard_by (heard_call s r c)) (heard_none c))
-          each true = heard_call_so s r c so its rs
+          each true = heard_call_so s r c so its (answers_for s.x r rs (of_step d s found is))
           each false = (so, tt)
-      now (Committing m) its = each (waits_for_commit from a r m)
+      now d found (Committing m) is its = each (waits_for_commit from a r m)
         where
           each : (w : Bool) → IsServed (cond {A = Served Coord (Unit {0})} w (heard_by (moved_commit a.act (commit.answered from m r) intents c)) (heard_none c))
           each true = moved_commit_so a.act (commit.answered from m r) intents c so (answer_step from m r its rs)
@@ -614,7 +655,7 @@ module _ (F : Fits) (keep : MayKeep F) where
 
       by : (o : Option Doing) → doing_of a.act c ≡ o → IsServed (heard_doing from a r intents c o)
       by None is = (so, tt)
-      by (Some d) is = now d.now (so.works a.act d is)
+      by (Some d) is = now d is d.now refl (so.works a.act d is)
 
   give_up_so : (u : Uid) (intents : List (Uid × Intent)) (c : Coord) → CoordIsSo F c → IsDone (give_up u intents c)
   give_up_so u intents c so = by (doing_of u c) refl
@@ -627,7 +668,7 @@ module _ (F : Fits) (keep : MayKeep F) where
       now (Calling s) its =
           let t : Coord = on_root (root_of s.path) (root_lost s (given_up s.at)) c in
           let x = step_call s (given_up s.at) t in
-          with_lines (next_node s ∷ []) x (step_call_so s (given_up s.at) t (on_root_so (root_of s.path) (root_lost s (given_up s.at)) c (lost_so s (given_up s.at)) so) (given_up_so s.at))
+          with_lines (next_node s ∷ []) x (step_call_so s (given_up s.at) t (on_root_so (root_of s.path) (root_lost s (given_up s.at)) c (lost_so s (given_up s.at)) so) (given_up_so s.x s.at))
       now (Committing m) its = let x = moved_commit u (commit.given_up m) intents c in with_lines (nodes_given_up m) x (moved_commit_so u (commit.given_up m) intents c so (giveup_step m its))
 
       by : (o : Option Doing) → doing_of u c ≡ o → IsDone (give_up_doing u intents c o)

@@ -9,7 +9,7 @@ use Rattle.arj_protocol.specs.Ask.{Reply, answers}
 use Rattle.arj_protocol.specs.Call.{At, AtActivate, AtBind, AtInvoke, AtLoad, AtNote}
 use Rattle.arj_protocol.specs.Commit.{Plan, Used, plan_of}
 use Rattle.arj_protocol.specs.Coord.{Calling, Committing, Coord, Idle, Joined, Now, Root}
-use Rattle.arj_disk_run_law.specs.States.{AnsweredIsSo, AskIsSo, AskedIsSo, AtIsSo, CoordIsSo, Fits, MessageIsSo, NowIsSo, Own, PlanIsSo, ReplyIsSo, RootIsSo}
+use Rattle.arj_disk_run_law.specs.States.{AnsweredIsSo, AskIsSo, AskedIsSo, AtIsSo, CoordIsSo, Fits, MessageIsSo, NowIsSo, Own, OwnOf, PlanIsSo, ReplyIsSo, RootIsSo}
 use Rattle.arj_disk_run_law.proofs.Lists.{all_each}
 
 -- the second holds where the first does
@@ -56,32 +56,32 @@ module _ (F G : Fits) (more : IsWider F G) where
 
   -- ---- coordinators
 
-  at_wider : (at : At) → AtIsSo F at → AtIsSo G at
-  at_wider (AtBind avoid) its = tt
-  at_wider (AtLoad q n rest) its = tt
-  at_wider (AtActivate q st) its = more.loaded st.uid st its
-  at_wider (AtNote q i) its = tt
-  at_wider (AtInvoke q i) its = tt
+  at_wider : (x : ℕ) (at : At) → AtIsSo F x at → AtIsSo G x at
+  at_wider x (AtBind avoid) its = tt
+  at_wider x (AtLoad q n rest) its = tt
+  at_wider x (AtActivate q st) its = (more.loaded st.uid st its.0, its.1)
+  at_wider x (AtNote q i) its = tt
+  at_wider x (AtInvoke q i) its = tt
 
   plan_wider : (p : Plan) → PlanIsSo F p → PlanIsSo G p
   plan_wider p its = record {
-    used = all_each (λ (u : Used). IfSome u.loaded (Own F.kept)) (λ (u : Used). IfSome u.loaded (Own G.kept)) p.used (λ u. by u.loaded) its.used;
+    used = all_each (λ (u : Used). IfSome u.loaded (OwnOf F.kept u.x)) (λ (u : Used). IfSome u.loaded (OwnOf G.kept u.x)) p.used (λ u. by u.x u.loaded) its.used;
     changed = all_each (Own F.voted) (Own G.voted) p.changed (λ st. more.voted st.uid st) its.changed;
   }
     where
-      by : (o : Option ObjectState) → IfSome o (Own F.kept) → IfSome o (Own G.kept)
-      by None so = tt
-      by (Some st) so = more.kept st.uid st so
+      by : (x : ℕ) (o : Option ObjectState) → IfSome o (OwnOf F.kept x) → IfSome o (OwnOf G.kept x)
+      by x None so = tt
+      by x (Some st) so = (more.kept st.uid st so.0, so.1)
 
   now_wider : (n : Now) → NowIsSo F n → NowIsSo G n
   now_wider Idle its = tt
-  now_wider (Calling s) its = at_wider s.at its
+  now_wider (Calling s) its = at_wider s.x s.at its
   now_wider (Committing m) its = plan_wider (plan_of m) its
 
   root_wider : (r : Root) → RootIsSo F r → RootIsSo G r
   root_wider r its = record {
-    joined = all_each (λ (j : Joined). Own F.kept j.loaded) (λ (j : Joined). Own G.kept j.loaded) r.joined (λ j. let st = j.loaded in more.kept st.uid st) its.joined;
-    states = all_each (λ (e : ℕ × ObjectState). Own F.kept e.1) (λ (e : ℕ × ObjectState). Own G.kept e.1) r.states (λ e. let st = e.1 in more.kept st.uid st) its.states;
+    joined = all_each (λ (j : Joined). OwnOf F.kept j.x j.loaded) (λ (j : Joined). OwnOf G.kept j.x j.loaded) r.joined (λ j so. (more.kept j.loaded.uid j.loaded so.0, so.1)) its.joined;
+    states = all_each (λ (e : ℕ × ObjectState). OwnOf F.kept e.0 e.1) (λ (e : ℕ × ObjectState). OwnOf G.kept e.0 e.1) r.states (λ e so. (more.kept e.1.uid e.1 so.0, so.1)) its.states;
   }
 
   pub coord_wider : (c : Coord) → CoordIsSo F c → CoordIsSo G c

@@ -186,12 +186,12 @@ module _ (x : ℕ) (V : ℕ → Type 0) where
     handled : (m : Message) → is_meant t m ≡ true → MessageIsSo F m → EndsRaise x V node t.server m → By (handle node d t from m)
     handled m meant so raised = by (asks m) (and_parts (asked_is_meant t.server (asks m)) (answer_is_meant t.coord (answers m)) meant).0 so.0 raised.0
       where
-        answer : (o : Option (Asked × Reply)) → AnsweredIsSo F o → By (handle_answer node d t from m o)
-        answer None its_reply = other m raised
-        answer (Some a) its_reply = coord_left (heard from a.0 a.1 d.intents t.coord) (hears_so F keep from a.0 a.1 d.intents t.coord its.coord its_reply)
+        answer : (o : Option (Asked × Reply)) → answer_is_meant t.coord o ≡ true → AnsweredIsSo F o → By (handle_answer node d t from m o)
+        answer None reply_meant its_reply = other m raised
+        answer (Some a) reply_meant its_reply = coord_left (heard from a.0 a.1 d.intents t.coord) (hears_so F keep from a.0 a.1 d.intents t.coord its.coord reply_meant its_reply)
 
         by : (o : Option (Head × Ask)) → asked_is_meant t.server o ≡ true → AskedIsSo F o → AreRaised x V node (brought_by o) t.server → By (handle_ask node d t from m o)
-        by None asked_meant its_ask its_ends = answer (answers m) so.1
+        by None asked_meant its_ask its_ends = answer (answers m) (and_parts (asked_is_meant t.server (asks m)) (answer_is_meant t.coord (answers m)) meant).1 so.1
         by (Some a) asked_meant its_ask its_ends = asked a.0 a.1 asked_meant its_ask its_ends
 
     pub handled_so : (m : Message) (v : Parts) (outs : List Effect) → is_meant t m ≡ true → MessageIsSo F m → EndsRaise x V node t.server m → handle node d t from m ≡ Took v outs → PartsAreSo x V v × All outs

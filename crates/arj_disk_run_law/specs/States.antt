@@ -27,6 +27,10 @@ pub record MayKeep (F : Fits) : Type 0 where
 abbrev pub Own : (Uid → ObjectState → Type 0) → ObjectState → Type 0
 Own P st = P st.uid st
 
+-- and of this object
+abbrev pub OwnOf : (Uid → ObjectState → Type 0) → ℕ → ObjectState → Type 0
+OwnOf P x st = Own P st × ((let u = st.uid in u.num) ≡ x)
+
 -- ---- messages
 
 abbrev pub AskIsSo : Fits → Ask → Type 0
@@ -52,34 +56,34 @@ MessageIsSo F m = AskedIsSo F (asks m) × AnsweredIsSo F (answers m)
 
 -- ---- coordinators
 
--- the state that a step takes to a server
-abbrev pub AtIsSo : Fits → At → Type 0
-AtIsSo F (AtActivate k st) = Own F.loaded st
-AtIsSo F _ = ⊤
+-- the state that a step about this object takes to a server
+abbrev pub AtIsSo : Fits → ℕ → At → Type 0
+AtIsSo F x (AtActivate k st) = OwnOf F.loaded x st
+AtIsSo F x _ = ⊤
 
 -- and the one that an include loaded
-abbrev pub EndIsSo : Fits → CallEnd → Type 0
-EndIsSo F (Included st) = Own F.loaded st
-EndIsSo F _ = ⊤
+abbrev pub EndIsSo : Fits → ℕ → CallEnd → Type 0
+EndIsSo F x (Included st) = OwnOf F.loaded x st
+EndIsSo F x _ = ⊤
 
-abbrev pub StepIsSo : Fits → CallStep → Type 0
-StepIsSo F (On at) = AtIsSo F at
-StepIsSo F (Ended e) = EndIsSo F e
+abbrev pub StepIsSo : Fits → ℕ → CallStep → Type 0
+StepIsSo F x (On at) = AtIsSo F x at
+StepIsSo F x (Ended e) = EndIsSo F x e
 
 -- what a plan loaded, and what was voted
 pub record PlanIsSo (F : Fits) (p : Plan) : Type 0 where
-  pub used : AllByRecursion (λ (u : Used). IfSome u.loaded (Own F.kept)) p.used
+  pub used : AllByRecursion (λ (u : Used). IfSome u.loaded (OwnOf F.kept u.x)) p.used
   pub changed : AllByRecursion (Own F.voted) p.changed
 
 abbrev pub NowIsSo : Fits → Now → Type 0
 NowIsSo F Idle = ⊤
-NowIsSo F (Calling s) = AtIsSo F s.at
+NowIsSo F (Calling s) = AtIsSo F s.x s.at
 NowIsSo F (Committing m) = PlanIsSo F (plan_of m)
 
 -- what a root's includes loaded, and what its constituents prepared
 pub record RootIsSo (F : Fits) (r : Root) : Type 0 where
-  pub joined : AllByRecursion (λ (j : Joined). Own F.kept j.loaded) r.joined
-  pub states : AllByRecursion (λ (e : ℕ × ObjectState). Own F.kept e.1) r.states
+  pub joined : AllByRecursion (λ (j : Joined). OwnOf F.kept j.x j.loaded) r.joined
+  pub states : AllByRecursion (λ (e : ℕ × ObjectState). OwnOf F.kept e.0 e.1) r.states
 
 pub record CoordIsSo (F : Fits) (c : Coord) : Type 0 where
   pub works : (u : Uid) (d : Doing) → doing_of u c ≡ Some d → NowIsSo F d.now

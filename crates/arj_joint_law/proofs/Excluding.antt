@@ -51,7 +51,7 @@ use Rattle.arj_joint_law.specs.Excluded.{AreExcludedInTime, AreSeenByCalls, AreS
 use Rattle.arj_joint_law.proofs.CommitCalls.{commits_begin}
 use Rattle.arj_joint_law.proofs.NewWriters.{new_writers_last}
 use Rattle.arj_disk_run_law.specs.States.{Own}
-use Rattle.arj_joint_law.specs.Forms.{AreSo, OfClass, kind_of}
+use Rattle.arj_joint_law.specs.Forms.{AreSo, kind_of, stored}
 use Rattle.arj_joint_law.proofs.FormRuns.{kept_forms}
 
 all_among : (P : ObjectState → Type 0) (ss : List ObjectState) (st : ObjectState) → AllByRecursion P ss → Among st ss → P st
@@ -204,7 +204,7 @@ module _ (header : Header) (e : ℕ) (M : Seen) (right : AreRight new_book M.lin
         let k : Holder packed (object x) m.disk.store h = p.holder h pend in
         let who : k.action ≡ uid_of M.lines t = number_tells k.action (uid_of M.lines t) (ap (λ (y : Hold). y.top) k.is ∙ top) in
         let disk = (is.forms s m at_store).0 in
-        let class : k.state.class ≡ class_of (first_values header x) = all_among (Own (OfClass x (class_of (first_values header x)))) k.states k.state (all_at_uid (AllByRecursion (Own (OfClass x (class_of (first_values header x))))) k.action k.states m.disk.store.pend disk.store.pend k.prepared) k.of.0 k.of.1 in
+        let class : k.state.class ≡ class_of (first_values header x) = (all_among (Own (stored (kind_of header x))) k.states k.state (all_at_uid (AllByRecursion (Own (stored (kind_of header x)))) k.action k.states m.disk.store.pend disk.store.pend k.prepared) k.of.0).1 k.of.1 in
         let same : k.state ≡ last_state header M.lines x = one_state k.state (last_state header M.lines x) (ap (λ (y : Hold). y.new) k.is ∙ new_is ∙ last_is) k.of.1 (class ∙ sym (run_class (first_values header) (serial_calls M.lines) x)) in
         inr (inl (k.states, subst (λ u. at_uid u m.disk.store.pend ≡ Some k.states) who k.prepared, subst (IsOf (object x) k.states) same k.of))
 

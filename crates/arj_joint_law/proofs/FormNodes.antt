@@ -271,7 +271,7 @@ module _ (k : Kind) where
         held_so (Some s) is = (its, (tt, ((tt, own s is), tt)))
           where
             own : (s : ObjectState) → held_at (object x) d.store ≡ Some s → Own (stored k) s
-            own s is same = let p = disk.store.held (object x) s is in p.0 (sym p.1 ∙ same)
+            own s is = let p = disk.store.held (object x) s is in subst (λ u. stored k u s) (sym p.1) p.0
 
         load : (o : Option Uid) → By (load_by x d.store from h t o)
         load (Some u) = (its, ((tt, tt), tt))
@@ -353,12 +353,12 @@ module _ (k : Kind) where
     handled : (m : Message) → is_meant t m ≡ true → MessageIsSo (so_of k) m → By (handle node d t from m)
     handled m meant so = by (asks m) (and_parts (asked_is_meant t.server (asks m)) (answer_is_meant t.coord (answers m)) meant).0 so.0
       where
-        answer : (o : Option (Asked × Reply)) → AnsweredIsSo (so_of k) o → By (handle_answer node d t from m o)
-        answer None its_reply = other m
-        answer (Some a) its_reply = coord_left (heard from a.0 a.1 d.intents t.coord) (hears_so (so_of k) keep from a.0 a.1 d.intents t.coord its.coord its_reply)
+        answer : (o : Option (Asked × Reply)) → answer_is_meant t.coord o ≡ true → AnsweredIsSo (so_of k) o → By (handle_answer node d t from m o)
+        answer None reply_meant its_reply = other m
+        answer (Some a) reply_meant its_reply = coord_left (heard from a.0 a.1 d.intents t.coord) (hears_so (so_of k) keep from a.0 a.1 d.intents t.coord its.coord reply_meant its_reply)
 
         by : (o : Option (Head × Ask)) → asked_is_meant t.server o ≡ true → AskedIsSo (so_of k) o → By (handle_ask node d t from m o)
-        by None asked_meant its_ask = answer (answers m) so.1
+        by None asked_meant its_ask = answer (answers m) (and_parts (asked_is_meant t.server (asks m)) (answer_is_meant t.coord (answers m)) meant).1 so.1
         by (Some a) asked_meant its_ask = asked a.0 a.1 asked_meant its_ask
 
     pub handled_so : (m : Message) (v : Parts) (outs : List Effect) → is_meant t m ≡ true → MessageIsSo (so_of k) m → handle node d t from m ≡ Took v outs → PartsAreSo k v × AllAreSo k outs

@@ -130,7 +130,7 @@ module _ (hd : Header) (x : ℕ) (form : HeaderInForm hd) where
   values_so : (os : List ObjectLine) → ((o : ObjectLine) → IsLine o os → IsLine o hd.objects) → AllByRecursion (Own (stored (kind_of hd x))) (map first_state os)
   values_so [] there = tt
   values_so (o ∷ os) there = (
-    λ same. ap (λ q. class_of (value_of_line q)) (sym (line_is o (there o (inl refl)) (ap (λ (u : Uid). u.num) same))),
+    (refl, λ same. ap (λ q. class_of (value_of_line q)) (sym (line_is o (there o (inl refl)) (ap (λ (u : Uid). u.num) same)))),
     values_so os (λ p i. there p (inr i)),
   )
 
@@ -199,6 +199,6 @@ runs_have_form hd x form es =
   where
     has_form : (M : Seen) → AreSo (kind_of hd x) M → HaveForm hd x M
     has_form M all = record {
-      objects = λ n s st here held. let a = (all.0 s n here).0 in (a.store.held (object x) st held).0 refl;
+      objects = λ n s st here held. let a = (all.0 s n here).0 in ((a.store.held (object x) st held).0).1 refl;
       entries = λ n st here held. let a = (all.0 1 n here).0 in (a.names.held (entry x) st held).0 refl;
     }

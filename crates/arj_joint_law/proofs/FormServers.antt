@@ -100,7 +100,7 @@ module _ (k : Kind) (real : (bytes : List ℕ) → class_of (value_in k.class by
       by true lower equal = all
       by false true equal = all
       by false false true = all
-      by false false false = keyed_put (CopyIsSo k.x k.class) st.uid.num (taken_copy b st) s.objects (λ same. taken_so b st (its (uid ∙ ap object same))) all
+      by false false false = keyed_put (CopyIsSo k.x k.class) st.uid.num (taken_copy b st) s.objects (λ same. taken_so b st (its.1 (uid ∙ ap object same))) all
 
   end_one_so : (n : ℕ) (u : Uid) (e : End) (s : Server) → All s → All (end_one n u e s).part
   end_one_so n u e s all = by (is_told u s)
@@ -161,7 +161,7 @@ module _ (k : Kind) (real : (bytes : List ℕ) → class_of (value_in k.class by
 
       by : (o : Option Over) → AllByRecursion Q (filter_map (λ (f : ℕ × Copy). changed_state top f.0 f.1) es) → AllByRecursion Q (cons_option (option_map made o) (filter_map (λ (f : ℕ × Copy). changed_state top f.0 f.1) es))
       by None ih = ih
-      by (Some o) ih = ((λ same. (all.0 (ap (λ (u : Uid). u.num) same)).base), ih)
+      by (Some o) ih = ((refl, λ same. (all.0 (ap (λ (u : Uid). u.num) same)).base), ih)
 
   abbrev Votes : Served Server VotedReply → Type 0
   Votes r = All r.part × IfSome r.reply (λ v. ReplyIsSo (so_of k) (Reply.Voted v))

@@ -1,4 +1,4 @@
--- Of which class an object's states are, on disks, in memory and in messages; and which form its entries have.
+-- Of which class an object's states are, on disks, in memory and in messages, where all states are of objects; and which form entries have.
 use Rattle.std.specs.Prelude.{⊤, ◌≡◌, ℕ, List, Option, Some, None}
 use Rattle.std.specs.List.{AllByRecursion}
 use Rattle.arj_base.specs.Uid.{entry, object}
@@ -55,9 +55,9 @@ pub record Kind : Type 0 where
   pub class : Class
   pub servers : List ℕ
 
--- the states of stores, and those of naming
+-- the states of stores are of objects; and those of naming
 abbrev pub stored : Kind → Uid → ObjectState → Type 0
-stored k = OfClass k.x k.class
+stored k u st = (u ≡ object u.num) × OfClass k.x k.class u st
 
 abbrev pub listed : Kind → Uid → ObjectState → Type 0
 listed k = OfEntry k.x k.servers

@@ -1,20 +1,20 @@
 -- What a coordinator waits for, and which calls its lines answer, are on objects of which this holds, whatever it does.
-use Rattle.std.proofs.Common.{◌≡◌, ◌≢◌, ◌⊎◌, eqb-true, ◌∙◌, ◌+◌, ◌++◌, ◌==◌, ℕ, zero, suc, Bool, true, false, cond, not, List, [], ◌∷◌, Option, Some, None, refl, sym, ap, subst, inl, inr, ⊎_elim}
-use Rattle.std.specs.Prelude.{find, is_some}
+use Rattle.std.proofs.Common.{Bool, List, None, Option, Some, [], ap, cond, eqb-true, false, inl, inr, length, not, refl, subst, suc, sym, true, zero, ℕ, ⊎_elim, ◌++◌, ◌+◌, ◌==◌, ◌∙◌, ◌∷◌, ◌≡◌, ◌≢◌, ◌⊎◌}
+use Rattle.std.specs.Prelude.{find, is_some, nat_le}
 use Rattle.arj_lock.proofs.Members.{In as In_list, in_to}
-use Rattle.arj_protocol.specs.Words.{Asked, Header, Kind, Label, ObjectLine, Path, Uid, Op}
+use Rattle.arj_protocol.specs.Words.{Asked, End, Header, Kind, Label, ObjectLine, Op, Path, Uid, uids_of}
 use Rattle.arj_protocol.specs.Ask.{Reply, actor}
 use Rattle.arj_protocol.specs.Asking.{again_all, begin_action, call_steps, doomed_by, goes_on, heard, kept_at, next_req, renewed, root_heard, root_lost, root_moved, step_call, call, commit_action, give_up, include}
 use Rattle.arj_protocol.specs.Call as calls
-use Rattle.arj_protocol.specs.Call.{CallEnd, CallStep, Ended, Goal, On, Run, Steps, answered, given_up, next_node, start}
+use Rattle.arj_protocol.specs.Call.{CallEnd, CallStep, Ended, Goal, On, Run, Steps, answered, given_up, start}
 use Rattle.arj_protocol.specs.Commit.{plan_of}
-use Rattle.arj_protocol.specs.Coord.{Calling, Committing, Coord, Doing, Idle, Now, doing_of, is_free, keeping_of, new_coord, on_doing, on_root, root_at}
+use Rattle.arj_protocol.specs.Coord.{Calling, Committing, Coord, Doing, Idle, Now, change_doing, doing_of, is_free, keeping_of, new_coord, on_doing, on_root, root_at, with_keeping}
 use Rattle.arj_protocol.specs.Effect.{Intent}
 use Rattle.arj_protocol.specs.Ending.{acked, abort_action}
-use Rattle.arj_protocol.specs.Order.{unbound}
-use Rattle.arj_protocol.specs.Step.{Input, acts, branch_named, call_reasons, class_at, class_in, first_reason, include_reasons, on_branch, parent_of, refusal_up, refused_by, tolds_again, commit_reasons}
+use Rattle.arj_protocol.specs.Order.{unbound, with_number}
+use Rattle.arj_protocol.specs.Step.{Input, acts, branch_named, call_reasons, class_at, class_in, commit_reasons, first_reason, include_reasons, lacks_op, on_branch, parent_of, refusal_up, refused_by}
 use Rattle.arj_protocol.specs.Step as input
-use Rattle.arj_protocol.specs.Tree.{at_place, doomed_at, ended_at, is_own, root_of, uses_object, Branch, branch_of}
+use Rattle.arj_protocol.specs.Tree.{Branch, Family, Tree, at_place, begun, branch_of, doomed_at, doomed_branch, ended_at, ended_branch, family_of, is_own, next_uid, no_family, path_below, root_of, set_place, uses_object, with_family}
 use Rattle.arj_coord_law.proofs.CoordUses.{on_cases}
 use Rattle.arj_part_law.proofs.CoordInputs.{IsOff, behind, off, named_found}
 use Rattle.arj_part_law.proofs.GoodCoords.{doomed_same, uses_same}
@@ -24,10 +24,13 @@ use Rattle.arj_address_law.specs.Binds.{AnswersWaiting}
 use Rattle.arj_view_law.specs.Seen.{Post}
 use Rattle.arj_lock_fact_law.specs.Entries.{HasObject}
 use Rattle.arj_lock_fact_law.proofs.Kept.{Place}
-use Rattle.arj_lock_fact_law.proofs.Pieces.{Pieces, acked_so, again_so, heard_so, abort_so, commit_so, give_up_so}
-use Rattle.arj_lock_whole_law.specs.Called.{WaitFor}
+use Rattle.arj_lock_fact_law.proofs.Pieces.{Pieces, abort_so, acked_so, acts_so, again_so, commit_so, give_up_so, heard_so}
+use Rattle.arj_lock_whole_law.specs.Called.{UsesOf, WaitFor}
 use Rattle.arj_part_law.proofs.Begun.{begun_tree}
 use Rattle.arj_part_law.specs.Actions.{paths_of}
+use Rattle.std.specs.List.{AllByRecursion}
+use Rattle.arj_part_law.proofs.LivesNamed.{all_at, all_put}
+use Rattle.arj_address_law.proofs.Lists.{all_number}
 
 -- ---- objects of the header
 
@@ -51,9 +54,124 @@ behind_four rs none =
     let four = off (behind (behind (behind rs))) three.1 in
     (off (behind (behind (behind (behind rs)))) four.1).0
 
+-- and the one behind it
+behind_five : (rs : List (ℕ × Bool)) → first_reason rs ≡ None → IsOff (behind (behind (behind (behind (behind rs)))))
+behind_five rs none =
+    let one = off rs none in
+    let two = off (behind rs) one.1 in
+    let three = off (behind (behind rs)) two.1 in
+    let four = off (behind (behind (behind rs))) three.1 in
+    let five = off (behind (behind (behind (behind rs)))) four.1 in
+    (off (behind (behind (behind (behind (behind rs))))) five.1).0
+
 is_there : (b : Bool) → not b ≡ false → b ≡ true
 is_there true is = refl
 is_there false is = absurd (cc is)
+
+-- ---- trees
+
+module _ (O : ℕ → Type 0) where
+  abbrev Objects : Family → Type 0
+  Objects f = AllByRecursion O f.objects
+
+  family_uses : (root : Uid) (t : Tree) → UsesOf O t → Objects (family_of root t)
+  family_uses root t all = all_at Objects no_family tt root.num t.families all
+
+  put_uses : (root : Uid) (f : Family) (t : Tree) → Objects f → UsesOf O t → UsesOf O (with_family root f t)
+  put_uses root f t its all = all_put Objects root.num f t.families its all
+
+  pub uses_ended : (u : Uid) (how : End) (t : Tree) → UsesOf O t → UsesOf O (ended_at u how t)
+  uses_ended u how t all = by (branch_of u t)
+    where
+      by : (o : Option Branch) → UsesOf O (ended_branch u how t o)
+      by None = all
+      by (Some b) = one (nat_le (length (uids_of b.path)) 1)
+        where
+          m : Tree
+          m = record t { branches = set_place u.num (record b { ended = Some how }) t.branches }
+
+          one : (c : Bool) → UsesOf O (cond c m (with_family (root_of b.path) (let f = family_of (root_of b.path) m in record f { ends = f.ends ++ (u, how) ∷ [] }) m))
+          one true = all
+          one false = put_uses (root_of b.path) (let f = family_of (root_of b.path) m in record f { ends = f.ends ++ (u, how) ∷ [] }) m (family_uses (root_of b.path) m all) all
+
+  uses_doomed : (u : Uid) (t : Tree) → UsesOf O t → UsesOf O (doomed_at u t)
+  uses_doomed u t all = by (branch_of u t)
+    where
+      by : (o : Option Branch) → UsesOf O (doomed_branch u t o)
+      by None = all
+      by (Some b) = all
+
+  uses_more : (p : Path) (x : ℕ) (t : Tree) → O x → UsesOf O t → UsesOf O (uses_object p x t)
+  uses_more p x t its all = put_uses (root_of p) (let f = family_of (root_of p) t in record f { objects = with_number x f.objects }) t (all_number O x (family_of (root_of p) t).objects its (family_uses (root_of p) t all)) all
+
+  pub uses_begun : (how : Kind) (above : Option Branch) (t : Tree) → UsesOf O t → UsesOf O (begun how above t)
+  uses_begun how above t all =
+      let p = path_below how above (next_uid t) in
+      let m : Tree = record t { branches = t.branches ++ record { path = p; kind = how; ended = None; doomed = false } ∷ [] } in
+      put_uses (root_of p) (let f = family_of (root_of p) m in record f { actions = f.actions + 1 }) m (family_uses (root_of p) m all) all
+
+  -- ---- coordinators
+
+  abbrev Uses : Coord → Type 0
+  Uses e = UsesOf O e.tree
+
+  uses_do : (u : Uid) (f : Doing → Doing) (e : Coord) → Uses e → Uses (on_doing u f e)
+  uses_do u f e all = by (doing_of u e)
+    where
+      by : (o : Option Doing) → Uses (change_doing f u e o)
+      by None = all
+      by (Some d) = all
+
+  pieces_use : (c : Coord) → Uses c → Pieces c Uses
+  pieces_use c all = record {
+    start = all;
+    end_tree = λ u how e q. uses_ended u how e.tree q;
+    idle = λ u e q. uses_do u (λ (d : Doing). record d { now = Idle }) e q;
+    took = λ u ns e q. uses_do u (λ (d : Doing). record d { took = ns }) e q;
+    commits = λ u m e planned q. uses_do u (λ (d : Doing). record d { req = (plan_of m).req; now = Committing m }) e q;
+    asks = λ p req b e rooted q. q;
+    decides = λ p e rooted q. q;
+    telling = λ i e q. q;
+  }
+
+  uses_goes : (s : Steps) (e : Coord) → Uses e → Uses (goes_on s e).part
+  uses_goes s e q = uses_do (actor s.path) (λ (d : Doing). record d { req = s.req; now = Calling s }) e q
+
+  uses_step : (s : Steps) (n : CallStep) (e : Coord) → Uses e → Uses (step_call s n e).part
+  uses_step s (On next) e q = uses_goes (record s { req = s.req + 1; at = next }) e q
+  uses_step s (Ended g) e q = by g
+    where
+      told : Coord
+      told = on_root (root_of s.path) (root_heard s g) (on_doing (actor s.path) (λ (d : Doing). record d { now = Idle }) e)
+
+      so : Uses told
+      so = uses_do (actor s.path) (λ (d : Doing). record d { now = Idle }) e q
+
+      by : (h : CallEnd) → Uses (doomed_by (actor s.path) h told)
+      by (calls.Answered x) = so
+      by (calls.Included st) = so
+      by (calls.Conflict h x n) = so
+      by (calls.Changed n w) = so
+      by (calls.Lost n false) = so
+      by (calls.Lost n true) = uses_doomed (actor s.path) told.tree so
+
+  pub uses_heard : (sent : List Post) (k : ℕ) (c : Coord) → Place sent k c → Uses c → (from : ℕ) (q : Asked) (r : Reply) (intents : List (Uid × Intent)) → AnswersWaiting from q r c → Uses (heard from q r intents c).part
+  uses_heard sent k c place all from q r intents fits = heard_so sent k c place Uses (pieces_use c all) from q r intents fits
+      (λ s i on who. let m = answered (is_free (root_of s.path) (actor s.path) s.x c) (kept_at s c) s.goal s.at r in uses_step s m.step (on_root (root_of s.path) (root_moved s r m) c) all)
+
+  pub uses_acked : (sent : List Post) (k : ℕ) (c : Coord) → Place sent k c → Uses c → (from : ℕ) (u : Uid) (intents : List (Uid × Intent)) → Uses (acked from u intents c).part
+  uses_acked sent k c place all from u intents = acked_so sent k c place Uses (pieces_use c all) from u intents
+
+  pub uses_again : (sent : List Post) (k : ℕ) (c : Coord) → Place sent k c → Uses c → Uses (again_all c.doings c).part
+  uses_again sent k c place all = again_so sent k c place Uses (pieces_use c all)
+
+  pub uses_acts : (sent : List Post) (k : ℕ) (c : Coord) → Place sent k c → Uses c → (hd : Header) (i : Input) (intents : List (Uid × Intent)) → ((x : ℕ) → is_some (class_at x hd) ≡ true → O x) → refusal_up hd i c ≡ None → ((l : Label) (q : Kind) (parent : Option Label) → i ≢ input.Begin l q parent) → Uses (let d = acts i intents c in d.part)
+  uses_acts sent k c place all hd i intents of free other = acts_so sent k c place Uses (pieces_use c all) hd i intents free other
+      (λ b x o found ok.
+      let k = renewed (is_free (root_of b.path) (actor b.path) x c) (keeping_of x (root_at (root_of b.path) c)) (let h = keeping_of x (root_at (root_of b.path) c) in h.kept) in
+      uses_goes (call_steps b.path x o (next_req (actor b.path) c) (root_at (root_of b.path) c) c k) (on_root (root_of b.path) (with_keeping x k) (record c { tree = uses_object b.path x c.tree })) (uses_more b.path x c.tree (of x (is_there (is_some (class_at x hd)) (behind_four (call_reasons hd x o b c) ok))) all))
+      (λ b x s found ok. uses_goes (start b.path x (calls.Include s) None unbound (next_req (actor b.path) c)) (record c { tree = uses_object b.path x c.tree }) (uses_more b.path x c.tree (of x (is_there (is_some (class_at x hd)) (behind_four (include_reasons hd x b c) ok))) all))
+      (λ s i. uses_step s (given_up s.at) (on_root (root_of s.path) (root_lost s (given_up s.at)) c) all)
 
 -- ---- what waits
 
@@ -112,7 +230,7 @@ module _ (P : ℕ → Goal → Type 0) where
   pub wait_again : (sent : List Post) (k : ℕ) (c : Coord) → Place sent k c → WaitFor P c → WaitFor P (again_all c.doings c).part
   wait_again sent k c place a = again_so sent k c place (WaitFor P) (pieces_wait c a)
 
-  pub wait_acts : (sent : List Post) (k : ℕ) (c : Coord) → Place sent k c → WaitFor P c → (hd : Header) (i : Input) (intents : List (Uid × Intent)) → ((x : ℕ) (o : Op) → is_some (class_at x hd) ≡ true → P x (calls.Run o)) → ((l : Label) (x s : ℕ) → i ≡ input.Include l x s → is_some (class_at x hd) ≡ true → P x (calls.Include s)) → refusal_up hd i c ≡ None → ((l : Label) (q : Kind) (parent : Option Label) → i ≢ input.Begin l q parent) → WaitFor P (let d = acts i intents c in d.part)
+  pub wait_acts : (sent : List Post) (k : ℕ) (c : Coord) → Place sent k c → WaitFor P c → (hd : Header) (i : Input) (intents : List (Uid × Intent)) → ((x : ℕ) (o : Op) → is_some (class_at x hd) ≡ true → lacks_op o (class_at x hd) ≡ false → P x (calls.Run o)) → ((l : Label) (x s : ℕ) → i ≡ input.Include l x s → is_some (class_at x hd) ≡ true → P x (calls.Include s)) → refusal_up hd i c ≡ None → ((l : Label) (q : Kind) (parent : Option Label) → i ≢ input.Begin l q parent) → WaitFor P (let d = acts i intents c in d.part)
   wait_acts sent k c place a hd i intents runs includes free other = by i refl free
     where
       used : (p : Path) (x : ℕ) → WaitFor P (record c { tree = uses_object p x c.tree })
@@ -127,7 +245,7 @@ module _ (P : ℕ → Goal → Type 0) where
         where
           one : (f : Option Branch) → refused_by (call_reasons hd x o) c f ≡ None → WaitFor P (on_branch (λ b. call b.path x o c) c f).part
           one None ok = a
-          one (Some b) ok = wait_goes (call_steps b.path x o (next_req (actor b.path) c) (root_at (root_of b.path) c) c (renewed (is_free (root_of b.path) (actor b.path) x c) (keeping_of x (root_at (root_of b.path) c)) (let h = keeping_of x (root_at (root_of b.path) c) in h.kept))) _ (runs x o (is_there (is_some (class_at x hd)) (behind_four (call_reasons hd x o b c) ok))) (used b.path x)
+          one (Some b) ok = wait_goes (call_steps b.path x o (next_req (actor b.path) c) (root_at (root_of b.path) c) c (renewed (is_free (root_of b.path) (actor b.path) x c) (keeping_of x (root_at (root_of b.path) c)) (let h = keeping_of x (root_at (root_of b.path) c) in h.kept))) _ (runs x o (is_there (is_some (class_at x hd)) (behind_four (call_reasons hd x o b c) ok)) (behind_five (call_reasons hd x o b c) ok)) (used b.path x)
       by (input.Include l x s) same ok = one (branch_named l c) ok
         where
           one : (f : Option Branch) → refused_by (include_reasons hd x) c f ≡ None → WaitFor P (on_branch (λ b. include b.path x s c) c f).part

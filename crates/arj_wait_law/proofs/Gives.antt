@@ -1,26 +1,26 @@
 -- What is known of whoever waits gives that requests are answered, with what is still to be given.
-use Rattle.std.proofs.Common.{◌≡◌, ◌∙◌, ℕ, Bool, true, false, cond, List, [], map, refl, sym, ap, subst, Option, Some, None, ⊎_elim, eqb-true, ◌==◌, ◌∷◌, ◌<◌, arith}
-use Rattle.std.specs.Prelude.{◌&&◌, ◌||◌, is_some, not, option_map}
+use Rattle.std.proofs.Common.{Bool, List, None, Option, Some, [], ap, arith, cond, eqb-true, false, map, refl, subst, sym, true, ℕ, ⊎_elim, ◌<◌, ◌==◌, ◌∙◌, ◌∷◌, ◌≡◌, ◌≤◌}
+use Rattle.std.specs.Prelude.{IfSome, is_some, not, option_map, ◌&&◌, ◌||◌}
 use Rattle.std.specs.List.{AllByRecursion}
-use Rattle.std.proofs.lemmas.Bool.{false_from_ne_true, or_cases}
+use Rattle.std.proofs.lemmas.Bool.{and_parts, false_from_ne_true, or_cases}
 use Rattle.arj_protocol.specs.Words as words
-use Rattle.arj_protocol.specs.Words.{Ask, Binding, End, Head, Header, Op, Path, Uid, asks}
+use Rattle.arj_protocol.specs.Words.{Ask, Binding, End, Head, Header, ObjectState, Op, Path, Uid, asks, class_of, has_op, object, uid_eq}
 use Rattle.arj_protocol.specs.Words.ask
-use Rattle.arj_protocol.specs.Ask.{actor}
-use Rattle.arj_protocol.specs.Call.{At, AtActivate, AtBind, AtInvoke, AtLoad, AtNote, Steps, ask_at, invoked_op, is_include, next_ask, node_at}
+use Rattle.arj_protocol.specs.Ask.{Reply, actor, answers}
+use Rattle.arj_protocol.specs.Call.{At, AtActivate, AtBind, AtInvoke, AtLoad, AtNote, Goal, Include, Known, Run, Steps, ask_at, invoked_op, is_include, next_ask, node_at}
 use Rattle.arj_protocol.specs.Commit.{Confirming, Machine, Preparing, Used, Voting, ask_of, confirm_ask, included_of, left_of, plan_of, states_for, vote_ask}
-use Rattle.arj_protocol.specs.Coord.{Calling, Committing, Coord, Doing, doing_of}
+use Rattle.arj_protocol.specs.Coord.{Calling, Committing, Coord, Doing, doing_of, kept_of, root_at}
 use Rattle.arj_protocol.specs.Effect.{Disk, prepare_answer}
 use Rattle.arj_protocol.specs.Naming.{Naming, is_over}
-use Rattle.arj_protocol.specs.Node.{Parts, ask_is_meant, stand_once, serve, taken}
-use Rattle.arj_protocol.specs.Server.{has_ended}
-use Rattle.arj_protocol.specs.Step.{Node}
-use Rattle.arj_protocol.specs.Tree.{at_place, is_own}
+use Rattle.arj_protocol.specs.Node.{Parts, are_of_objects, ask_is_meant, copy_has_op, is_loaded_for, is_loaded_in, reply_is_meant, serve, stand_once, taken}
+use Rattle.arj_protocol.specs.Server.{Kept, has_ended, is_below}
+use Rattle.arj_protocol.specs.Step.{Node, class_at}
+use Rattle.arj_protocol.specs.Tree.{at_place, is_own, root_of}
 use Rattle.arj_part_law.specs.Actions.{Action}
 use Rattle.arj_part_law.specs.Coords.{IsAsking, IsBusy}
 use Rattle.arj_part_law.specs.Requests.{AreOnce, IsNumbered}
 use Rattle.arj_call_law.specs.Coords.{IsOfStep, bare, head_of}
-use Rattle.arj_run_law.specs.Worlds.{IsGoodOf}
+use Rattle.arj_run_law.specs.Worlds.{IsGoodOf, IsUp}
 use Rattle.arj_view_law.specs.Seen.{In, Post, Seen, up}
 use Rattle.arj_disk_view_law.proofs.Frames.{node_here}
 use Rattle.arj_address_law.proofs.Lists.{some_is}
@@ -29,11 +29,24 @@ use Rattle.arj_round_law.specs.Rounds.{AnswersWaits, HasCome, IsVoid}
 use Rattle.arj_round_law.specs.Waits.{IsOvertaken, IsSaid, coord_in, coord_of, want_of_call, want_of_commit}
 use Rattle.arj_disk_run_law.specs.Entries.{IsEntryNode, KnowsEntries}
 use Rattle.arj_lock_fact_law.specs.Entries.{HasObject}
-use Rattle.arj_protocol.specs.Order.{at_number, has}
+use Rattle.arj_protocol.specs.Order.{at_number, at_uid, has}
 use Rattle.arj_wait_law.specs.Told.{ArePastIn}
 use Rattle.arj_wait_law.specs.Waits.{AnswersRest, KnownGive, LeftOfCommit, LeftOfStep, WaitsAreKnown}
+use Rattle.arj_wait_law.proofs.Known.{all_send, are_objects, class_is, copy_fits, has_each, keyed_at, loads_own, not_below, object_is, op_fits, used_is, waits_req}
 use Rattle.arj_wait_law.proofs.Replies.{activate_answers, bind_answers, confirm_answers, invoke_answers, load_answers, prepare_answers, record_answers, taken_void, vote_answers}
 use Rattle.arj_wait_law.proofs.Untold.{its_coord, its_up, naming_untold, server_untold}
+use Rattle.arj_lock_whole_law.specs.Called.{FitsGoal, IsOfHeader, UsesOf}
+use Rattle.arj_joint_law.specs.Forms.{UpIsSo, kind_of, so_of, stored}
+use Rattle.arj_disk_run_law.specs.States.{AtIsSo, NowIsSo, OwnOf}
+use Rattle.arj_journal.specs.ScriptForm.{HeaderInForm}
+use Rattle.arj_part_law.specs.AskedObjects.{IsNowOf, IsUsedIn, KnowsObjects}
+use Rattle.arj_address_law.specs.Binds.{KnowsBinds, StandsOn}
+use Rattle.arj_wait_law.specs.Asked.{ReplyWasAsked, ServerWasAsked, WasAsked}
+use Rattle.arj_disk_run_law.proofs.Lists.{all_each}
+use Rattle.arj_model.specs.Last.{first_values}
+use Rattle.arj_base.proofs.Uids.{uid_same}
+use Rattle.arj_protocol.specs.Asking.{waits_for_call}
+use Rattle.arj_protocol.specs.Words.loaded
 
 -- ---- requests without their ends
 
@@ -113,13 +126,13 @@ own_of u c q is = by (is_own u c.tree) is
 
 module _ (hd : Header) (M : Seen) (known : WaitsAreKnown hd M) (j : ℕ) (u : Uid) (c : Coord) (q : Doing) (does : doing_of u c ≡ Some q) where
   abbrev begun : List Action
-  begun = let e = known.0.0.0 in e.0
+  begun = let e = known.0.0.0.0 in e.0
 
   abbrev good : IsGoodOf begun M
-  good = let e = known.0.0.0 in e.1
+  good = let e = known.0.0.0.0 in e.1
 
   abbrev past : ArePastIn begun M
-  past = let e = known.0.0.0 in e.2
+  past = let e = known.0.0.0.0 in e.2
 
   module _ (k : ℕ) (at_k : IsAt M k c) where
     does_there : doing_of u (let t = at_k.parts in t.coord) ≡ Some q
@@ -133,7 +146,7 @@ module _ (hd : Header) (M : Seen) (known : WaitsAreKnown hd M) (j : ℕ) (u : Ui
 
     -- the last request of the action is of what waits
     asked_last : (p : Post) (h : Head) (a : Ask) → In p M.sent → p.from ≡ k → asks p.message ≡ Some (h, a) → actor h.path ≡ u → IsAskedBy (let t = at_k.parts in t.coord) p.to h a
-    asked_last p h a sent from is by_u = known.0.0.1.1 k at_k.node at_k.parts at_k.found at_k.live p h a sent from is (ap (λ w. is_own w (let t = at_k.parts in t.coord.tree)) by_u ∙ own_of u (let t = at_k.parts in t.coord) q does_there)
+    asked_last p h a sent from is by_u = known.0.0.0.1.1 k at_k.node at_k.parts at_k.found at_k.live p h a sent from is (ap (λ w. is_own w (let t = at_k.parts in t.coord.tree)) by_u ∙ own_of u (let t = at_k.parts in t.coord) q does_there)
 
   -- its own entry is the one that is found
   same_doing : (k : ℕ) (at_k : IsAt M k c) (p : Post) (h : Head) (a : Ask) → actor h.path ≡ u → (x : IsAskedBy (let t = at_k.parts in t.coord) p.to h a) → q ≡ x.doing
@@ -141,7 +154,7 @@ module _ (hd : Header) (M : Seen) (known : WaitsAreKnown hd M) (j : ℕ) (u : Ui
 
 -- ---- whoever waits
 
-module _ (hd : Header) (j : ℕ) (d : Disk) (t : Parts) (M : Seen) (known : WaitsAreKnown hd (up j d t M)) (c : Coord) (u : Uid) (q : Doing) (does : doing_of u c ≡ Some q) where
+module _ (hd : Header) (form : HeaderInForm hd) (j : ℕ) (d : Disk) (t : Parts) (M : Seen) (known : WaitsAreKnown hd (up j d t M)) (c : Coord) (u : Uid) (q : Doing) (does : doing_of u c ≡ Some q) where
   abbrev W : Seen
   W = up j d t M
 
@@ -172,7 +185,15 @@ module _ (hd : Header) (j : ℕ) (d : Disk) (t : Parts) (M : Seen) (known : Wait
   object_here one o is x has = (subst (λ n. KnowsEntries x n d.names) is (entries.live t refl)).there
     where
       entries : IsEntryNode x here
-      entries = known.1.1 x has here (ap W.nodes (sym one) ∙ node_here M j here)
+      entries = known.0.1.1 x has here (ap W.nodes (sym one) ∙ node_here M j here)
+
+  -- what is known of its states
+  state_now : (k : ℕ) (at_k : IsAt W k c) (x : ℕ) → NowIsSo (so_of (kind_of hd x)) q.now
+  state_now k at_k x =
+      let f = (known.1.0.0.1 x).0 k at_k.node at_k.found in
+      let p = subst (UpIsSo (kind_of hd x)) at_k.live f.1 in
+      let e = p.coord in
+      e.works u q (ap (doing_of u) at_k.same ∙ does)
 
   -- a call
   module _ (s : Steps) (now : q.now ≡ Calling s) (h : HasCome j W c (want_of_call u s)) where
@@ -197,13 +218,67 @@ module _ (hd : Header) (j : ℕ) (d : Disk) (t : Parts) (M : Seen) (known : Wait
     asking_call : IsAsking (let x = at_it.parts in x.coord.tree) u s.path
     asking_call = subst (IsBusy (let x = at_it.parts in x.coord.tree) u) now (busy hd W known j u c q does from at_it)
 
+    -- of an object of the header, and an operation of its class
+    its_goal : IsOfHeader hd s.x s.goal
+    its_goal = let w = known.0.1.0.1 in (w.works from at_it.node at_it.parts at_it.found at_it.live).0 u q s (ap (doing_of u) at_it.same ∙ does) now
+
     object_there : HasObject hd s.x
-    object_there = (let w = known.1.0.1 in w.works from at_it.node at_it.parts at_it.found at_it.live u q s (ap (doing_of u) at_it.same ∙ does) now).0
+    object_there = its_goal.0
 
     -- it is void only where its part doesn't answer
     unserved : IsVoid (taken j d t from (let p = h.post in p.message)) → (a : Ask) → (let x = h.asks in x.ask) ≡ a → ask_is_meant t.server a ≡ true → IsVoid (serve j d t from (head_of s) a)
     unserved void_it a is meant = subst (λ (z : Head). IsVoid (serve j d t from z a)) of_step.head (subst (λ (z : Ask). IsVoid (serve j d t from (let x = h.asks in x.head) z)) is
         (taken_void j d t from (let p = h.post in p.message) (let x = h.asks in x.head) (let x = h.asks in x.ask) (let x = h.asks in x.is) (ap (ask_is_meant t.server) is ∙ meant) void_it))
+
+    -- the state that it takes to a server is of its object
+    its_state : (k : Known) (st : ObjectState) → s.at ≡ AtActivate k st → st.uid ≡ object s.x
+    its_state k st is = let o = subst (AtIsSo (so_of (kind_of hd s.x)) s.x) is (subst (NowIsSo (so_of (kind_of hd s.x))) now (state_now from at_it s.x)) in (o.0).0 ∙ ap object o.1
+
+    -- the copy's class has its operation
+    op_meant : (k : Known) (i : ℕ) → s.at ≡ AtInvoke k i → copy_has_op (invoked_op s.goal) (at_number s.x (let v = t.server in v.objects)) ≡ true
+    op_meant k i is = copy_fits (invoked_op s.goal) s.x (class_of (first_values hd s.x)) t.server (let p = (known.1.0.0.1 s.x).0 j here (node_here M j here) in let z = p.1 in z.server) (fits s.goal refl its_goal.2)
+      where
+        binds : KnowsBinds W.sent from (let x = at_it in let y = x.parts in y.coord)
+        binds = let b = known.0.1.0.0.1 in b.nodes from at_it.node at_it.parts at_it.found at_it.live
+
+        stands : StandsOn s.goal (kept_of s.x (root_at (root_of s.path) (let x = at_it in let y = x.parts in y.coord))) s.at
+        stands = binds.steps u q s (ap (doing_of u) at_it.same ∙ does) now
+
+        fits : (g : Goal) → s.goal ≡ g → FitsGoal hd s.x g → has_op (class_of (first_values hd s.x)) (invoked_op g) ≡ true
+        fits (Run o) goal ok = op_fits (class_of (first_values hd s.x)) o (class_at s.x hd) (class_is hd form s.x object_there) ok
+        fits (Include n) goal ok = absurd (subst (λ z. StandsOn (Include n) (kept_of s.x (root_at (root_of s.path) (let x = at_it in let y = x.parts in y.coord))) z) is (subst (λ z. StandsOn z (kept_of s.x (root_at (root_of s.path) (let x = at_it in let y = x.parts in y.coord))) s.at) goal stands))
+
+    -- the server has run no later request of the action
+    kept_low : is_below s.req (at_uid (actor s.path) (let v = t.server in v.kept)) ≡ false
+    kept_low = by (at_uid (actor s.path) (let v = t.server in v.kept)) refl
+      where
+        who : actor s.path ≡ u
+        who = ap (λ (z : Head). actor z.path) (sym of_step.head) ∙ by_u
+
+        of_server : ServerWasAsked W.sent t.server
+        of_server = let w = known.1.0.1 in w.servers j here t (node_here M j here) refl
+
+        by : (o : Option Kept) → at_uid (actor s.path) (let v = t.server in v.kept) ≡ o → is_below s.req o ≡ false
+        by None is = refl
+        by (Some k) is = not_below s.req k (low (keyed_at (λ v (z : Kept). WasAsked W.sent v z.req) (actor s.path) (let v = t.server in v.kept) k of_server.kept is))
+          where
+            low : WasAsked W.sent (actor s.path) k.req → k.req ≤ s.req
+            low w = omega (arith, asked.low, ap (λ (z : Doing). z.req) same, number_is, w.number)
+              where
+                up_there : IsUp (begun hd W known j u c q does) W.sent W.labels from (let x = at_it in let y = x.node in let z = y.disk in z.inc) (let x = at_it in x.parts)
+                up_there = its_up (begun hd W known j u c q does) W (good hd W known j u c q does) from at_it.node at_it.parts at_it.found at_it.live
+
+                its_node : u.node ≡ from
+                its_node = eqb-true u.node (let x = at_it in let y = x.parts in y.coord.tree.node) (and_parts (u.node == (let x = at_it in let y = x.parts in y.coord.tree.node)) (u.inc == (let x = at_it in let y = x.parts in y.coord.tree.inc)) (own_of u (let x = at_it in let y = x.parts in y.coord) q (ap (doing_of u) at_it.same ∙ does))).0 ∙ up_there.node
+
+                asked : IsAskedBy (let x = at_it in let y = x.parts in y.coord) (let p = w.post in p.to) w.head w.ask
+                asked = asked_last hd W known j u c q does from at_it w.post w.head w.ask w.posted (sym (known.1.1.1.0 w.post w.head w.ask w.posted w.asking) ∙ ap (λ (v : Uid). v.node) (w.actor_is ∙ who) ∙ its_node) w.asking (w.actor_is ∙ who)
+
+                same : q ≡ asked.doing
+                same = same_doing hd W known j u c q does from at_it w.post w.head w.ask (w.actor_is ∙ who) asked
+
+                number_is : s.req ≡ q.req
+                number_is = subst (IsNumbered q.req) now (number hd W known j u c q does from at_it)
 
     call_given : LeftOfStep d t M s s.at → IsVoid (taken j d t from (let p = h.post in p.message)) → IsOvertaken (IsSaid M.lines) s
     call_given left void_it = by s.at refl left
@@ -216,12 +291,13 @@ module _ (hd : Header) (j : ℕ) (d : Disk) (t : Parts) (M : Seen) (known : Wait
             absurd (bind_answers j d t from (head_of s) s.x (is_include s.goal) avoid o.0 o.1 (untold_naming_here from at_it s.path asking_call o.0 o.1) (object_here one o.0 o.1 s.x object_there)
             (unserved void_it (ask.Bind s.x (is_include s.goal) avoid) (same_ask (ask.Bind s.x (is_include s.goal) avoid) refl (ap (ask_at s.x s.goal []) is)) refl))
         by (AtLoad k n rest) is l = absurd (load_answers j d t from (head_of s) s.x l (unserved void_it (ask.Load s.x) (same_ask (ask.Load s.x) refl (ap (ask_at s.x s.goal []) is)) refl))
-        by (AtActivate k st) is l = activate_answers j d t from (head_of s) k.binding st (untold_server_here from at_it s.path asking_call) l.1 (unserved void_it (ask.Activate k.binding st) (same_ask (ask.Activate k.binding st) refl (ap (ask_at s.x s.goal []) is)) l.0)
+        by (AtActivate k st) is l = activate_answers j d t from (head_of s) k.binding st (untold_server_here from at_it s.path asking_call) l
+            (unserved void_it (ask.Activate k.binding st) (same_ask (ask.Activate k.binding st) refl (ap (ask_at s.x s.goal []) is)) (object_is hd form s.x object_there st.uid (its_state k st is)))
         by (AtNote k i) is l = let one = sym h.node ∙ ap node_at is in let o = naming_here one in
             record_answers j d t from (head_of s) s.x k.binding i k.grant o.0 o.1 (untold_naming_here from at_it s.path asking_call o.0 o.1) (object_here one o.0 o.1 s.x object_there) (λ v at_v ours none. l o.0 v o.1 at_v ours none)
             (unserved void_it (ask.Record s.x k.binding i k.grant) (same_ask (ask.Record s.x k.binding i k.grant) refl (ap (ask_at s.x s.goal []) is)) refl)
         by (AtInvoke k i) is l = let e = same_invoke (let x = h.asks in x.ask) s.x k.binding i (invoked_op s.goal) (of_step.same ∙ ap (ask_at s.x s.goal []) is) in
-            absurd (invoke_answers j d t from (head_of s) s.x k.binding i e.0 (invoked_op s.goal) (untold_server_here from at_it s.path asking_call) l.1 (unserved void_it (ask.Invoke s.x k.binding i e.0 (invoked_op s.goal)) e.1 l.0))
+            absurd (invoke_answers j d t from (head_of s) s.x k.binding i e.0 (invoked_op s.goal) (untold_server_here from at_it s.path asking_call) kept_low (unserved void_it (ask.Invoke s.x k.binding i e.0 (invoked_op s.goal)) e.1 (op_meant k i is)))
 
   -- a commit
   module _ (m : Machine) (n : ℕ) (now : q.now ≡ Committing m) (waits : has (left_of m) n ≡ true) (h : HasCome j W c (want_of_commit u m n)) where
@@ -253,28 +329,87 @@ module _ (hd : Header) (j : ℕ) (d : Disk) (t : Parts) (M : Seen) (known : Wait
     unserved_commit void_it a is meant = subst (λ (z : Ask). IsVoid (serve j d t from_it (let x = h.asks in x.head) z)) (its_ask ∙ is)
         (taken_void j d t from_it (let p = h.post in p.message) (let x = h.asks in x.head) (let x = h.asks in x.ask) (let x = h.asks in x.is) (ap (ask_is_meant t.server) (its_ask ∙ is) ∙ meant) void_it)
 
+    -- its plan uses objects of the header
+    of_header : AllByRecursion (λ (w : Used). HasObject hd w.x) (plan_of m).used
+    of_header = all_each (λ (w : Used). IsUsedIn (let x = at_its in let y = x.parts in y.coord.tree) (root_of (plan_of m).path).num w.x) (λ (w : Used). HasObject hd w.x) (plan_of m).used
+        (λ w used. used_is (HasObject hd) (let x = at_its in let y = x.parts in y.coord.tree) asks (root_of (plan_of m).path).num w.x used) (subst (IsNowOf (let x = at_its in let y = x.parts in y.coord.tree)) now (knows.works u q (ap (doing_of u) at_its.same ∙ does)))
+      where
+        asks : UsesOf (HasObject hd) (let x = at_its in let y = x.parts in y.coord.tree)
+        asks = let w = known.0.1.0.1 in (w.works from_it at_its.node at_its.parts at_its.found at_its.live).1
+
+        knows : KnowsObjects (let x = at_its in let y = x.parts in y.coord)
+        knows = let v = its_up (begun hd W known j u c q does) W (good hd W known j u c q does) from_it at_its.node at_its.parts at_its.found at_its.live in v.objects
+
+    states_meant : are_of_objects (states_for n (plan_of m)) ≡ true
+    states_meant = are_objects n (plan_of m) (HasObject hd) (object_is hd form) (plan_of m).used
+        (all_send n (plan_of m) (plan_of m).used (all_each (λ (w : Used). IfSome w.loaded (OwnOf (stored (kind_of hd 0)) w.x)) (λ (w : Used). IfSome w.loaded (λ st. st.uid ≡ object w.x)) (plan_of m).used (λ w its. plain w w.loaded its) (let p = subst (NowIsSo (so_of (kind_of hd 0))) now (state_now from_it at_its 0) in p.used)))
+        of_header (subst (IsNumbered q.req) now (number hd W known j u c q does from_it at_its)).1.0
+      where
+        plain : (w : Used) (o : Option ObjectState) → IfSome o (OwnOf (stored (kind_of hd 0)) w.x) → IfSome o (λ st. st.uid ≡ object w.x)
+        plain w None its = tt
+        plain w (Some st) its = (its.0).0 ∙ ap object its.1
+
     commit_given : LeftOfCommit d t n m → IsVoid (taken j d t from_it (let p = h.post in p.message)) → ⊥
     commit_given left void_it = by m refl left of_commit.0
       where
         by : (x : Machine) → m ≡ x → LeftOfCommit d t n x → (let a = h.asks in a.head.path) ≡ (let p = plan_of m in p.path) → ⊥
         by (Voting p nodes) is l path = vote_answers j d t from_it (let x = h.asks in x.head) _ _ p.ends (untold_server_here from_it at_its (let a = h.asks in a.head.path) asking_commit) (unserved_commit void_it (vote_ask p n) (ap (λ x. ask_of x n) is) refl)
-        by (Preparing p nodes) is l path = prepare_answers j d t from_it (let x = h.asks in x.head) (states_for n p) (λ w already. l.1 w (ap (λ z. prepare_answer (actor z) (states_for n p) d.store) (sym (path ∙ ap (λ x. let y = plan_of x in y.path) is)) ∙ already))
-            (unserved_commit void_it (ask.Prepare (states_for n p)) (ap (λ x. ask_of x n) is) l.0)
+        by (Preparing p nodes) is l path = prepare_answers j d t from_it (let x = h.asks in x.head) (states_for n p) (λ w already. l w (ap (λ z. prepare_answer (actor z) (states_for n p) d.store) (sym (path ∙ ap (λ x. let y = plan_of x in y.path) is)) ∙ already))
+            (unserved_commit void_it (ask.Prepare (states_for n p)) (ap (λ x. ask_of x n) is) (subst (λ x. are_of_objects (states_for n (plan_of x)) ≡ true) is states_meant))
         by (Confirming p) is l path = let one = sym h.node ∙ only n (ap (λ x. has (left_of x) n) (sym is) ∙ waits) in let o = naming_here one in
-            confirm_answers j d t from_it (let x = h.asks in x.head) (map {A = Used} {B = ℕ × ℕ} (λ z. (z.x, z.grant)) p.used) p.excluded (included_of p) o.0 o.1 (untold_naming_here from_it at_its (let a = h.asks in a.head.path) asking_commit o.0 o.1) (l o.0 o.1)
+            confirm_answers j d t from_it (let x = h.asks in x.head) (map {A = Used} {B = ℕ × ℕ} (λ z. (z.x, z.grant)) p.used) p.excluded (included_of p) o.0 o.1 (untold_naming_here from_it at_its (let a = h.asks in a.head.path) asking_commit o.0 o.1) (has_each o.0 p.used (subst (λ (x : Machine). AllByRecursion (λ (w : Used). is_some (at_number w.x (let y = o.0 in y.objects)) ≡ true) (let y = plan_of x in y.used)) is (all_each (λ (w : Used). HasObject hd w.x) (λ (w : Used). is_some (at_number w.x (let y = o.0 in y.objects)) ≡ true) (plan_of m).used (λ w has. object_here one o.0 o.1 w.x has) of_header)))
             (unserved_commit void_it (confirm_ask p) (ap (λ x. ask_of x n) is) (stand_in_order p.used (subst (λ (x : Machine). AreOnce (let y = plan_of x in y.used)) is (subst (IsNumbered q.req) now (number hd W known j u c q does from_it at_its)).1.0)))
           where
             only : (n : ℕ) → has (1 ∷ []) n ≡ true → n ≡ 1
             only n is = ⊎_elim (λ one. sym (eqb-true 1 n one)) (λ no. absurd (cc no)) (or_cases (1 == n) false is)
 
+-- ---- answers
+
+module _ (hd : Header) (j : ℕ) (d : Disk) (t : Parts) (M : Seen) (known : WaitsAreKnown hd (up j d t M)) (p : Post) (a : words.Asked) (q : Doing) (s : Steps) (sent : In p M.sent) (to : p.to ≡ j) (does : doing_of a.act t.coord ≡ Some q) (now : q.now ≡ Calling s) where
+  -- an answer for which a call waits can be meant
+  answer_meant : (r : Reply) → answers p.message ≡ Some (a, r) → waits_for_call p.from a r s ≡ true → reply_is_meant t.coord a r ≡ true
+  answer_meant (Reply.Loaded (loaded.State st)) is waits = ap (is_loaded_for st) does ∙ ap (is_loaded_in st) now ∙ (λ i. uid_eq (same i) (object s.x)) ∙ uid_same (object s.x)
+    where
+      there : IsAt (up j d t M) j t.coord
+      there = record { node = record { number = j; disk = d; live = Some t }; parts = t; found = node_here M j (record { number = j; disk = d; live = Some t }); live = refl; same = refl }
+
+      asked : ReplyWasAsked M.sent p a (Reply.Loaded (loaded.State st))
+      asked = let w = known.1.0.1 in w.replies p a (Reply.Loaded (loaded.State st)) sent is
+
+      h : Head
+      h = asked.0
+
+      who : actor h.path ≡ a.act
+      who = ap (λ (z : words.Asked). z.act) asked.2.asker
+
+      last : IsAskedBy t.coord (let y = asked.2.post in y.to) h (ask.Load asked.1)
+      last = asked_last hd (up j d t M) known j a.act t.coord q does j there asked.2.post h (ask.Load asked.1) asked.2.posted (asked.2.from ∙ to) asked.2.asking who
+
+      its : q ≡ last.doing
+      its = same_doing hd (up j d t M) known j a.act t.coord q does j there asked.2.post h (ask.Load asked.1) who last
+
+      of_step : IsOfStep s (let y = asked.2.post in y.to) h (ask.Load asked.1)
+      of_step = last.step s (ap (λ (z : Doing). z.now) (sym its) ∙ now) (ap (λ (z : words.Asked). z.req) asked.2.asker ∙ sym (waits_req p.from a (Reply.Loaded (loaded.State st)) s waits) ∙ subst (IsNumbered q.req) now (number hd (up j d t M) known j a.act t.coord q does j there) ∙ ap (λ (z : Doing). z.req) its)
+
+      same : st.uid ≡ object s.x
+      same = asked.3 ∙ ap object (loads_own s.x asked.1 s.goal s.at of_step.same)
+  answer_meant (Reply.Loaded (loaded.InDoubt holder)) is waits = refl
+  answer_meant (Reply.Bound r) is waits = refl
+  answer_meant (Reply.Activated i) is waits = refl
+  answer_meant (Reply.Noted r) is waits = refl
+  answer_meant (Reply.Invoked r) is waits = refl
+  answer_meant (Reply.Voted r) is waits = refl
+  answer_meant (Reply.Prepared r) is waits = refl
+  answer_meant (Reply.Confirmed r) is waits = refl
+
 -- so it is with any relation by which so much is known
-pub known_give_by : (hd : Header) (P : Seen → Type 0) → ((M : Seen) → P M → WaitsAreKnown hd M) → AnswersRest P → AnswersWaits hd P
-known_give_by hd P to rest = record {
-  within = λ M p r sent. let k = (to M r).0.1 in let so = k.1 in let z = so.1 p sent in z.1;
-  calls = λ j d t M c u q s r does now h void_it. call_given hd j d t M (to (up j d t M) r) c u q does s now h (rest.calls j d t M c u q s r does now h) void_it;
-  meant = rest.meant;
-  commits = λ j d t M c u q m n r does now left h void_it. commit_given hd j d t M (to (up j d t M) r) c u q does m n now left h (rest.commits j d t M c u q m n r does now left h) void_it;
+pub known_give_by : (hd : Header) → HeaderInForm hd → (P : Seen → Type 0) → ((M : Seen) → P M → WaitsAreKnown hd M) → AnswersRest P → AnswersWaits hd P
+known_give_by hd form P to rest = record {
+  within = λ M p r sent. let k = (to M r).0.0.1 in let so = k.1 in let z = so.1 p sent in z.1;
+  calls = λ j d t M c u q s r does now h void_it. call_given hd form j d t M (to (up j d t M) r) c u q does s now h (rest.calls j d t M c u q s r does now h) void_it;
+  meant = λ j d t M p a x q s r sent at is does now waits. answer_meant hd j d t M (to (up j d t M) r) p a q s sent at does now x is waits;
+  commits = λ j d t M c u q m n r does now left h void_it. commit_given hd form j d t M (to (up j d t M) r) c u q does m n now left h (rest.commits j d t M c u q m n r does now left h) void_it;
 }
 
 pub known_give : KnownGive
-known_give hd form test rest = known_give_by hd (λ M. WaitsAreKnown hd M × (test M ≡ true)) (λ M r. r.0) rest
+known_give hd form test rest = known_give_by hd form (λ M. WaitsAreKnown hd M × (test M ≡ true)) (λ M r. r.0) rest

@@ -14,12 +14,13 @@ use Rattle.arj_protocol.specs.Follow.{tick_outs}
 use Rattle.arj_protocol.specs.Node.{Parts, with_coord}
 use Rattle.arj_protocol.specs.Step.{acts, parent_of, parts_in, restart_outs}
 use Rattle.arj_protocol.specs.World.{is_serial_kind}
-use Rattle.arj_view_law.specs.Keeps.{KeepsAsked}
+use Rattle.arj_view_law.specs.Keeps.{Keeps, KeepsAsked}
 use Rattle.arj_view_law.specs.Seen.{Seen, given}
 use Rattle.arj_view_law.specs.Walks.{Up, Walks}
 use Rattle.arj_view_law.proofs.Happens.{keeps_asked}
 use Rattle.arj_view_law.proofs.Together.{walks_each}
 use Rattle.arj_run_law.specs.Worlds.{IsGood}
+use Rattle.arj_call_law.proofs.Given.{keeps_given, kept_both}
 use Rattle.arj_address_law.specs.Binds.{BindsAreKnown}
 use Rattle.arj_disk_run_law.specs.Entries.{HaveEntries}
 use Rattle.arj_disk_run_law.proofs.EntryKeeps.{keeps_entries}
@@ -33,8 +34,14 @@ use Rattle.arj_lock_fact_law.specs.Requests.{RequestsAreKnown}
 use Rattle.arj_lock_fact_law.proofs.Requests.{requests_keep}
 use Rattle.arj_round_law.proofs.Quiesces.{asked_both}
 use Rattle.arj_wait_law.specs.Told.{EndsArePast}
-use Rattle.arj_wait_law.specs.Waits.{HandlersKeepWaits, ObjectsAreKnown}
+use Rattle.arj_wait_law.specs.Waits.{AskersAreKnown, HandlersKeepWaits, ObjectsAreKnown}
 use Rattle.arj_wait_law.proofs.Past.{past_keep}
+use Rattle.arj_wait_law.specs.Asked.{HaveForms, RequestsAreHome, WereAsked}
+use Rattle.arj_run_law.proofs.AllRuns.{all_keep}
+use Rattle.arj_joint_law.proofs.FormRuns.{kept_forms}
+use Rattle.arj_joint_law.specs.Forms.{AreSo, kind_of}
+use Rattle.arj_wait_law.proofs.AskedRuns.{asked_given}
+use Rattle.arj_wait_law.proofs.Home.{home_keep}
 
 -- ---- addresses
 
@@ -64,12 +71,12 @@ module _ (hd : Header) (form : HeaderInForm hd) where
 -- ---- objects
 
 -- one for each of many
-asked_each : {A : Type 0} (hd : Header) (P : A → Seen → Type 0) → ((x : A) → KeepsAsked hd (P x)) → KeepsAsked hd (λ M. (x : A) → P x M)
-asked_each {A} hd P each = record {
+keeps_each : {A : Type 0} (hd : Header) (P : A → Seen → Type 0) → ((x : A) → Keeps hd (P x)) → Keeps hd (λ M. (x : A) → P x M)
+keeps_each {A} hd P each = record {
   quiet = λ e bs M quiet p x. (each x).quiet e bs M quiet (p x);
   stop = λ e k d live M p x. (each x).stop e k d live M (p x);
   message = λ e k d t v from m outs M p there meant is. many e k outs v d M (λ x. (each x).message e k d t v from m outs M (p x) there meant is);
-  act = λ e k d t i M is asks free p. let did = acts i d.intents t.coord in many e k did.outs (with_coord t did.part) d M (λ x. (each x).act e k d t i M is asks free (p x));
+  act = λ e k d t i M is free p. let did = acts i d.intents t.coord in many e k did.outs (with_coord t did.part) d M (λ x. (each x).act e k d t i M is free (p x));
   begin = λ e k d t l how parent M new may free p.
       let did = begin_action l how parent (parent_of parent t.coord) t.coord in
       many e k did.outs (with_coord t did.part) d (given l (record { node = k; serial = is_serial_kind how }) M) (λ x. (each x).begin e k d t l how parent M new may free (p x));
@@ -84,9 +91,17 @@ asked_each {A} hd P each = record {
 objects_keep : (hd : Header) → KeepsAsked hd (ObjectsAreKnown hd)
 objects_keep hd = asked_both hd (λ M. (IsGood M × BindsAreKnown M) × CallsAreOfHeader hd M) (λ M. (x : ℕ) → HasObject hd x → HaveEntries x M)
     (calls_keep hd)
-    (asked_each {A = ℕ} hd (λ x M. HasObject hd x → HaveEntries x M) (λ x. asked_each {A = HasObject hd x} hd (λ has M. HaveEntries x M) (λ has. keeps_asked hd (HaveEntries x) (keeps_entries x hd (let k = entries_keep hd x has in k.first)))))
+    (keeps_asked hd (λ M. (x : ℕ) → HasObject hd x → HaveEntries x M) (keeps_each {A = ℕ} hd (λ x M. HasObject hd x → HaveEntries x M) (λ x. keeps_each {A = HasObject hd x} hd (λ has M. HaveEntries x M) (λ has. keeps_entries x hd (let k = entries_keep hd x has in k.first)))))
+
+-- states, answers, and what servers have
+askers_keep : (hd : Header) → HeaderInForm hd → KeepsAsked hd (AskersAreKnown hd)
+askers_keep hd form = asked_both hd (λ M. (IsGood M × HaveForms hd M) × WereAsked M) RequestsAreHome
+    (keeps_asked hd (λ M. (IsGood M × HaveForms hd M) × WereAsked M) (kept_both hd (λ M. IsGood M × HaveForms hd M) WereAsked (kept_both hd IsGood (HaveForms hd) (all_keep hd) (keeps_given hd IsGood (HaveForms hd) (keeps_each hd (λ x. AreSo (kind_of hd x)) (λ x. kept_forms hd x form)))) (asked_given hd)))
+    (keeps_asked hd RequestsAreHome (home_keep hd))
 
 pub waits_keep : HandlersKeepWaits
-waits_keep hd form = asked_both hd (λ M. (EndsArePast M × RequestsAreKnown M) × AreAddressed hd M) (ObjectsAreKnown hd)
+waits_keep hd form = asked_both hd (λ M. ((EndsArePast M × RequestsAreKnown M) × AreAddressed hd M) × ObjectsAreKnown hd M) (AskersAreKnown hd)
+    (asked_both hd (λ M. (EndsArePast M × RequestsAreKnown M) × AreAddressed hd M) (ObjectsAreKnown hd)
     (asked_both hd (λ M. EndsArePast M × RequestsAreKnown M) (AreAddressed hd) (asked_both hd EndsArePast RequestsAreKnown (keeps_asked hd EndsArePast (past_keep hd)) (keeps_asked hd RequestsAreKnown (requests_keep hd))) (addressed hd form))
-    (objects_keep hd)
+    (objects_keep hd))
+    (askers_keep hd form)

@@ -3,6 +3,11 @@ pub mod Handling
 pub mod Past
 pub mod Untold
 pub mod Replies
+pub mod Serving
+pub mod AskedServers
+pub mod AskedRuns
+pub mod Home
+pub mod Known
 pub mod Gives
 pub mod Keeping
 pub mod Waiting

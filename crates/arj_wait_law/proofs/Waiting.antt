@@ -30,7 +30,6 @@ none_left M good k c u q m found does now none =
 rest_less : (P Q : Seen → Type 0) → ((M : Seen) → Q M → P M) → AnswersRest P → AnswersRest Q
 rest_less P Q less rest = record {
   calls = λ j d t M c u q s r does now h. rest.calls j d t M c u q s (less (up j d t M) r) does now h;
-  meant = λ j d t M p a x q s r sent to is does now waits. rest.meant j d t M p a x q s (less (up j d t M) r) sent to is does now waits;
   commits = λ j d t M c u q m n r does now left h. rest.commits j d t M c u q m n (less (up j d t M) r) does now left h;
 }
 
@@ -51,4 +50,4 @@ runs_leave_overtaken hd form test keeps rest es e is over last ups k c u q node 
     after = event_asked hd P (keeps_good hd R kept) e (run_all es (format hd)) (runs_asked hd P (keeps_good hd R kept) es)
 
     answer : WaitOvertaken (run_event e (run_all es (format hd)))
-    answer = run_answers hd R kept (known_give_by hd P (λ M p. p.0.0) (rest_less R P (λ M p. p.0) rest)) es e is over last ups
+    answer = run_answers hd R kept (known_give_by hd form P (λ M p. p.0.0) (rest_less R P (λ M p. p.0) rest)) es e is over last ups

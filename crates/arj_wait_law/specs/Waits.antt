@@ -1,20 +1,17 @@
 -- So much is known of whoever waits, in every run; and what is still to be given of requests for which somebody waits.
-use Rattle.std.specs.Prelude.{⊤, ◌≡◌, ◌≢◌, ◌==◌, ◌||◌, ℕ, Bool, true, false, Some, is_some, map}
+use Rattle.std.specs.Prelude.{⊤, ◌≡◌, ◌≢◌, ◌==◌, ◌||◌, ℕ, Bool, true, false, Some, is_some}
 use Rattle.arj_journal.specs.ScriptForm.{HeaderInForm}
-use Rattle.arj_protocol.specs.Words as words
 use Rattle.arj_protocol.specs.Words.{Header, Uid, object}
-use Rattle.arj_protocol.specs.Ask.{Reply, actor, answers, top_of}
-use Rattle.arj_protocol.specs.Asking.{waits_for_call}
-use Rattle.arj_protocol.specs.Call.{At, AtActivate, AtBind, AtInvoke, AtLoad, AtNote, Known, Steps, invoked_op}
-use Rattle.arj_protocol.specs.Commit.{Confirming, Machine, Preparing, Used, Voting, left_of, states_for}
-use Rattle.arj_protocol.specs.Confirm.{has_all}
+use Rattle.arj_protocol.specs.Ask.{actor, top_of}
+use Rattle.arj_protocol.specs.Call.{At, AtActivate, AtBind, AtInvoke, AtLoad, AtNote, Known, Steps}
+use Rattle.arj_protocol.specs.Commit.{Confirming, Machine, Preparing, Voting, left_of, states_for}
 use Rattle.arj_protocol.specs.Coord.{Calling, Committing, Coord, Doing, doing_of}
 use Rattle.arj_protocol.specs.Effect.{Already, Disk, held_at, holder_of, prepare_answer}
 use Rattle.arj_protocol.specs.Named.{Named, note_named}
 use Rattle.arj_protocol.specs.Naming.{Naming}
-use Rattle.arj_protocol.specs.Node.{Parts, are_of_objects, copy_has_op, is_object, reply_is_meant}
-use Rattle.arj_protocol.specs.Order.{at_number, at_uid, binding_less, has}
-use Rattle.arj_protocol.specs.Server.{active_binding, is_below}
+use Rattle.arj_protocol.specs.Node.{Parts}
+use Rattle.arj_protocol.specs.Order.{at_number, binding_less, has}
+use Rattle.arj_protocol.specs.Server.{active_binding}
 use Rattle.arj_address_law.specs.Addresses.{AreAddressed}
 use Rattle.arj_address_law.specs.Binds.{BindsAreKnown}
 use Rattle.arj_disk_run_law.specs.Entries.{HaveEntries}
@@ -23,19 +20,24 @@ use Rattle.arj_lock_whole_law.specs.Called.{CallsAreOfHeader}
 use Rattle.arj_run_law.specs.Worlds.{IsGood}
 use Rattle.arj_lock_fact_law.specs.Requests.{RequestsAreKnown}
 use Rattle.arj_view_law.specs.Keeps.{KeepsAsked}
-use Rattle.arj_view_law.specs.Seen.{In, Post, Seen, up}
+use Rattle.arj_view_law.specs.Seen.{Seen, up}
 use Rattle.arj_round_law.specs.Rounds.{AnswersWaits, HasCome}
 use Rattle.arj_round_law.specs.Waits.{IsOvertaken, IsSaid, want_of_call, want_of_commit}
+use Rattle.arj_wait_law.specs.Asked.{HaveForms, RequestsAreHome, WereAsked}
 use Rattle.arj_wait_law.specs.Told.{EndsArePast}
 
 -- What calls wait for are objects of the header, and naming has each of these.
 abbrev pub ObjectsAreKnown : Header → Seen → Type 0
 ObjectsAreKnown hd M = ((IsGood M × BindsAreKnown M) × CallsAreOfHeader hd M) × ((x : ℕ) → HasObject hd x → HaveEntries x M)
 
--- What is known in every run: whoever was told to have ended has ended; requests are of what waits; messages go to nodes of the header; and
--- calls are on its objects.
+-- States are of objects and of their classes, requests come from where their actors began, and answers and what servers have was asked for.
+abbrev pub AskersAreKnown : Header → Seen → Type 0
+AskersAreKnown hd M = ((IsGood M × HaveForms hd M) × WereAsked M) × RequestsAreHome M
+
+-- What is known in every run: whoever was told to have ended has ended; requests are of what waits; messages go to nodes of the header;
+-- calls are on its objects; and what states, requests and answers are of.
 abbrev pub WaitsAreKnown : Header → Seen → Type 0
-WaitsAreKnown hd M = ((EndsArePast M × RequestsAreKnown M) × AreAddressed hd M) × ObjectsAreKnown hd M
+WaitsAreKnown hd M = (((EndsArePast M × RequestsAreKnown M) × AreAddressed hd M) × ObjectsAreKnown hd M) × AskersAreKnown hd M
 
 -- each handler keeps it
 abbrev pub HandlersKeepWaits : Type 0
@@ -51,28 +53,24 @@ HasStored d x = (is_some (holder_of (object x) d.store) || is_some (held_at (obj
 abbrev pub IsNotedBut : Type 0 → Uid → ℕ → Known → ℕ → Parts → Type 0
 IsNotedBut over top x k i t = (o : Naming) (v : Named) → t.naming ≡ Some o → at_number x o.objects ≡ Some v → (k.grant == o.inc) ≡ true → is_some (note_named x top k.binding i v).reply ≡ false → over
 
--- What is still to be given where the request of a waiting step has come: that a store has a state; that a state that is taken is of an
--- object; that a server or naming refuses only a binding that is overtaken; that the copy's class has the operation, and that the
--- server has run no later request of the action. A bind needs nothing.
+-- What is still to be given where the request of a waiting step has come: that a store has a state; and that a server or naming refuses
+-- only a binding that is overtaken. A bind needs nothing, nor does an invocation.
 abbrev pub LeftOfStep : Disk → Parts → Seen → Steps → At → Type 0
 LeftOfStep d t M s (AtBind avoid) = ⊤
 LeftOfStep d t M s (AtLoad k n rest) = HasStored d s.x
-LeftOfStep d t M s (AtActivate k st) = (is_object st.uid ≡ true) × (binding_less k.binding (active_binding (let u = st.uid in u.num) t.server) ≡ true → IsOvertaken (IsSaid M.lines) s)
+LeftOfStep d t M s (AtActivate k st) = binding_less k.binding (active_binding (let u = st.uid in u.num) t.server) ≡ true → IsOvertaken (IsSaid M.lines) s
 LeftOfStep d t M s (AtNote k i) = IsNotedBut (IsOvertaken (IsSaid M.lines) s) (top_of s.path) s.x k i t
-LeftOfStep d t M s (AtInvoke k i) = (copy_has_op (invoked_op s.goal) (at_number s.x (let v = t.server in v.objects)) ≡ true) × (is_below s.req (at_uid (actor s.path) (let v = t.server in v.kept)) ≡ false)
+LeftOfStep d t M s (AtInvoke k i) = ⊤
 
--- Of a commit: that the states that a store is asked to prepare are of objects, and that it has committed none of this top; that naming has
--- each object that it is asked to confirm. A vote needs nothing.
+-- Of a commit: that a store which is asked to prepare has committed none of this top. A vote needs nothing, nor does a confirmation.
 abbrev pub LeftOfCommit : Disk → Parts → ℕ → Machine → Type 0
 LeftOfCommit d t n (Voting p left) = ⊤
-LeftOfCommit d t n (Preparing p left) = (are_of_objects (states_for n p) ≡ true) × ((u : Uid) → prepare_answer (actor p.path) (states_for n p) d.store ≢ Already u)
-LeftOfCommit d t n (Confirming p) = (o : Naming) → t.naming ≡ Some o → has_all (map {A = Used} {B = ℕ × ℕ} (λ u. (u.x, u.grant)) p.used) o ≡ true
+LeftOfCommit d t n (Preparing p left) = (u : Uid) → prepare_answer (actor p.path) (states_for n p) d.store ≢ Already u
+LeftOfCommit d t n (Confirming p) = ⊤
 
--- So it is of a relation, and the answer for which a call waits can be meant.
+-- So it is of a relation.
 pub record AnswersRest (R : Seen → Type 0) : Type 0 where
   pub calls : (j : ℕ) (d : Disk) (t : Parts) (M : Seen) (c : Coord) (u : Uid) (q : Doing) (s : Steps) → R (up j d t M) → doing_of u c ≡ Some q → q.now ≡ Calling s → HasCome j (up j d t M) c (want_of_call u s) → LeftOfStep d t M s s.at
-  pub meant : (j : ℕ) (d : Disk) (t : Parts) (M : Seen) (p : Post) (a : words.Asked) (r : Reply) (q : Doing) (s : Steps) → R (up j d t M) → In p M.sent → p.to ≡ j → answers p.message ≡ Some (a, r)
-      → doing_of a.act t.coord ≡ Some q → q.now ≡ Calling s → waits_for_call p.from a r s ≡ true → reply_is_meant t.coord a r ≡ true
   pub commits : (j : ℕ) (d : Disk) (t : Parts) (M : Seen) (c : Coord) (u : Uid) (q : Doing) (m : Machine) (n : ℕ) → R (up j d t M) → doing_of u c ≡ Some q → q.now ≡ Committing m → has (left_of m) n ≡ true → HasCome j (up j d t M) c (want_of_commit u m n) → LeftOfCommit d t n m
 
 -- With it no request for which somebody waits is void, but one of a call that is overtaken.
