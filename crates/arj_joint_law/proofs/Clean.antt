@@ -5,7 +5,9 @@ use Rattle.arj_journal.specs.ScriptForm.{HeaderInForm}
 use Rattle.arj_lock.proofs.Members.{In, in_find_none, in_from, in_to}
 use Rattle.arj_model.specs.Actions.{Act, acts}
 use Rattle.arj_model.specs.Calls.{Top, tops}
+use Rattle.arj_model.specs.Clean.{Clean, Disks}
 use Rattle.arj_model.specs.Last.{first_values, object_line}
+use Rattle.arj_model.specs.Serial.{Values}
 use Rattle.arj_protocol.specs.Words.{Header, Line, ObjectLine}
 use Rattle.arj_protocol.specs.World.{Asked, World, format, journal, run_all}
 use Rattle.arj_line_law.specs.Book.{new_book}
@@ -29,7 +31,7 @@ use Rattle.arj_view_law.proofs.Happens.{runs_hold}
 use Rattle.arj_binding_law.specs.Scripts.{most_events}
 use Rattle.arj_disk_run_law.specs.Rest.{KeepsHeard}
 use Rattle.arj_serial_law.specs.Cleaned.{AreDecidedOrLate, HaveForm, IsCleanIn}
-use Rattle.arj_serial_law.specs.Decided.{AreNewestFirst, DecideChanges, Joined, Wrote}
+use Rattle.arj_serial_law.specs.Decided.{AreDecisions, AreNewestFirst, DecideChanges, Joined, Wrote, WroteSo}
 use Rattle.arj_lock_fact_law.specs.Entries.{HasObject}
 use Rattle.arj_lock_whole_law.proofs.WholeRuns.{runs_are_locked, runs_are_tied, runs_include_objects}
 use Rattle.arj_lock_whole_law.specs.Runs.{AreRest}
@@ -39,13 +41,14 @@ use Rattle.arj_serial_law.proofs.Cleaning.{is_clean}
 use Rattle.arj_serial_law.proofs.Including.{are_decided}
 use Rattle.arj_serial_law.proofs.Shown.{files_clean}
 use Rattle.arj_serial_law.proofs.Ties.{Ties, ties_of}
-use Rattle.arj_joint_law.specs.Cleaned.{AreLockTied, DecideSo, DecideThose, DecideThoseOrLate, JoinersAreNewestFirst, RunsAreClean, WholeRunsAreClean, disk_of, is_one_of, number_of}
+use Rattle.arj_joint_law.specs.Cleaned.{AreLockTied, AreNamed, DecideSo, DecideThose, DecideThoseOrLate, JoinersAreNewestFirst, RunsAreClean, WholeRunsAreClean, disk_of, is_one_of, number_of}
 use Rattle.arj_joint_law.specs.Ordered.{AreOnce, AreTurnsOf, IsOrderedSo}
-use Rattle.arj_joint_law.specs.Shown.{IncludesAreThere}
+use Rattle.arj_joint_law.specs.Shown.{FilesAre, IncludesAreThere}
 use Rattle.arj_joint_law.specs.Writers.{WritersAreNewestFirst}
 use Rattle.arj_joint_law.proofs.Called.{decided_writers_stand, decision_of, number_is, one_number, those_of, wrote_something}
 use Rattle.arj_joint_law.proofs.FormRuns.{runs_have_form}
-use Rattle.arj_joint_law.proofs.JoinedRuns.{header_has}
+use Rattle.arj_joint_law.specs.Joined.{AreWritten, IsJoinedSo}
+use Rattle.arj_joint_law.proofs.JoinedRuns.{header_has, runs_are_joined}
 use Rattle.arj_joint_law.proofs.OrderedRuns.{runs_are_ordered}
 use Rattle.arj_joint_law.proofs.Showing.{files_show_disks}
 
@@ -112,8 +115,38 @@ newest_first lines x (t ∷ ts) changed writers joiners = (
     by u i (inl a) (inr b) = joiners.0 u i (inr b)
     by u i (inr a) b = joiners.0 u i (inl a)
 
-module _ (hd : Header) (es : List Asked) (form : HeaderInForm hd) (short : length es ≤ most_events) (test : ℕ → Seen → Bool) (heard : (x : ℕ) → is_some (object_line hd x) ≡ true → KeepsHeard hd x (test x)) (tied : AreLockTied hd (journal hd es))
-    (decide : (x : ℕ) → is_some (object_line hd x) ≡ true → DecideSo hd x es) where
+-- ---- those that are named wrote what they gave
+
+of_filter : (d : Done) (ds : List Done) → disk.In d (filter counts_of ds) → disk.In d ds
+of_filter d [] i = absurd i
+of_filter d (e ∷ ds) i = by e.counts (of_filter d ds) i
+  where
+    by : (b : Bool) → (disk.In d (filter counts_of ds) → disk.In d ds) → disk.In d (cond b (e ∷ filter counts_of ds) (filter counts_of ds)) → disk.In d (e ∷ ds)
+    by true ih (inl same) = inl same
+    by true ih (inr k) = inr (ih k)
+    by false ih k = inr (ih k)
+
+in_behind : (d : Done) (xs ys : List Done) → disk.In d ys → disk.In d (xs ++ ys)
+in_behind d [] ys i = i
+in_behind d (x ∷ xs) ys i = inr (in_behind d xs ys i)
+
+are_decisions : (values : Values) (lines : List Line) (x : ℕ) (ds : List Done) (ts : List Top) → AreNamed lines x ds ts → AreWritten values lines x ds → AreDecisions values lines x ds ts
+are_decisions values lines x [] [] named wrote = tt
+are_decisions values lines x [] (t ∷ ts) named wrote = absurd named
+are_decisions values lines x (d ∷ ds) [] named wrote = absurd named
+are_decisions values lines x (d ∷ ds) (t ∷ ts) named wrote =
+    let n = named.0 in
+    (record { listed = n.listed; number = n.number; wrote = wrote d t (inl refl) n.listed n.number; leaves = n.leaves; joins = n.joins }, are_decisions values lines x ds ts named.1 (λ e u i. wrote e u (inr i)))
+
+-- a state of the disk machine in which decisions are those of the journal
+abbrev pub Held : Header → List Asked → Type 0
+Held hd es = (x : ℕ) → is_some (object_line hd x) ≡ true → Holds hd (IsOrderedSo hd x) (run_all es (format hd))
+
+-- in which they are named, and wrote what they gave
+abbrev pub Decides : (hd : Header) (es : List Asked) → Held hd es → Type 0
+Decides hd es held = (x : ℕ) (there : is_some (object_line hd x) ≡ true) → (d : DecideThoseOrLate hd (journal hd es) x (disk_of (let h = held x there in h.holds))) × AreWritten (first_values hd) (journal hd es) x d.others
+
+module _ (hd : Header) (es : List Asked) (form : HeaderInForm hd) (tied : AreLockTied hd (journal hd es)) (held : Held hd es) (decide : Decides hd es held) where
   abbrev w : World
   w = run_all es (format hd)
 
@@ -124,17 +157,23 @@ module _ (hd : Header) (es : List Asked) (form : HeaderInForm hd) (short : lengt
   ties = ties_of (first_values hd) (journal hd es) tied.called
 
   module _ (x : ℕ) (there : is_some (object_line hd x) ≡ true) where
-    pub h : Holds hd (IsOrderedSo hd x) w
-    h = runs_are_ordered hd x (test x) form there (heard x there) es short
+    abbrev h : Holds hd (IsOrderedSo hd x) w
+    h = held x there
 
-    d : DecideThoseOrLate hd (journal hd es) x (disk_of h.holds)
-    d = decide x there h
+    abbrev d : DecideThoseOrLate hd (journal hd es) x (disk_of h.holds)
+    d = (decide x there).0
+
+    written : AreWritten (first_values hd) (journal hd es) x d.others
+    written = (decide x there).1
 
     turns : AreTurnsOf (journal hd es) d.others
     turns = turns_behind (journal hd es) d.late d.others (subst (AreTurnsOf (journal hd es)) d.are (let o = h.holds in o.turns))
 
     its : DecideThose hd (journal hd es) x (disk_of h.holds) d.others
     its = d.decide
+
+    decisions : AreDecisions (first_values hd) (journal hd es) x (filter counts_of d.others) its.those
+    decisions = are_decisions (first_values hd) (journal hd es) x (filter counts_of d.others) its.those its.each (λ e t i. written e t (of_filter e d.others i))
 
     -- each that wrote the object is one of them
     wrote_all : (t : Top) → In t (tops (journal hd es)) → Wrote (journal hd es) x t → In t its.those
@@ -152,13 +191,17 @@ module _ (hd : Header) (es : List Asked) (form : HeaderInForm hd) (short : lengt
         counts : (e : Done) → disk.In e d.others → e.top ≡ uid_number (let a = k.act in a.uid) → (b : Bool) → e.counts ≡ b → In t its.those
         counts e j same true is =
             let z = tied.listed x there in
-            let r = those_of (first_values hd) (journal hd es) x z.0 right z.1 (filter counts_of d.others) its.those its.each e (counted_in e d.others j is) in
+            let r = those_of (first_values hd) (journal hd es) x z.0 right z.1 (filter counts_of d.others) its.those decisions e (counted_in e d.others j is) in
             let o = r.2 in
             let m = o.its in
             let uids = number_tells m.act.uid k.act.uid (sym o.number ∙ same) in
             let act = one_act (acts (journal hd es)) (let q = its_sound (journal hd es) right in q.distinct) m.act k.act m.there k.there uids in
             subst (λ u. In u its.those) (one_number (first_values hd) (journal hd es) x z.0 right z.1 r.0 t o.listed i (sym m.number ∙ ap (λ (y : Act). y.id) act ∙ k.number)) r.1
-        counts e j same false is = absurd (its.light t (in_to t (tops (journal hd es)) i) (inr (e, j, same ∙ sym number, is)) wrote)
+        counts e j same false is =
+            let core = (let v = journalled.sees.whole in v.core) in
+            let nothing = (let z = core.journal in z.plain e (subst (disk.In e) (sym d.are) (in_behind e d.late d.others j)) is) in
+            let none = subst (WroteSo (first_values hd) (journal hd es) x t) nothing (written e t j (in_to t (tops (journal hd es)) i) (same ∙ sym number)) in
+            absurd (never wrote.2 (none wrote.0 wrote.1 wrote.3))
 
         by : (decided_so (disk_of h.holds) (uid_number (let a = k.act in a.uid)) ≡ true) ⊎ ((let S = disk_of h.holds in S.bare (uid_number (let a = k.act in a.uid))) ≡ true) ⊎ HasNothing (journal hd es) k.act → In t its.those
         by (inl on) =
@@ -167,22 +210,22 @@ module _ (hd : Header) (es : List Asked) (form : HeaderInForm hd) (short : lengt
             (λ early. absurd (d.silent r.0 t early (in_to t (tops (journal hd es)) i) (r.2 ∙ sym number) wrote))
             (λ other. counts r.0 other r.2 (let e = r.0 in e.counts) refl)
             (in_either r.0 d.late d.others (subst (disk.In r.0) d.are r.1))
-        by (inr (inl bare)) = absurd (its.light t (in_to t (tops (journal hd es)) i) (inl (ap (let S = disk_of h.holds in S.bare) number ∙ bare)) wrote)
+        by (inr (inl bare)) = absurd (its.light t (in_to t (tops (journal hd es)) i) (ap (let S = disk_of h.holds in S.bare) number ∙ bare) wrote)
         by (inr (inr none)) = absurd (wrote_something (journal hd es) x t k.act k.number wrote none)
 
     all : (t : Top) → Contains (tops (journal hd es)) t → (is_one_of its.those t ≡ true) ⊎ Wrote (journal hd es) x t → Contains its.those t
     all t c (inl on) =
         let z = tied.listed x there in
         let r = found_there t its.those on in
-        let e = decision_of (first_values hd) (journal hd es) x z.0 right z.1 (filter counts_of d.others) its.those its.each r.0 r.1 in
+        let e = decision_of (first_values hd) (journal hd es) x z.0 right z.1 (filter counts_of d.others) its.those decisions r.0 r.1 in
         in_to t its.those (subst (λ u. In u its.those) (one_number (first_values hd) (journal hd es) x z.0 right z.1 r.0 t (let o = e.2 in o.listed) (in_from t (tops (journal hd es)) c) r.2) r.1)
     all t c (inr wrote) = in_to t its.those (wrote_all t (in_from t (tops (journal hd es)) c) wrote)
 
     changes : DecideChanges hd (journal hd es) x d.others
     changes = record {
       those = its.those;
-      each = its.each;
-      called = newest_first (journal hd es) x its.those its.changed (let t = tied.listed x there in decided_writers_stand (first_values hd) (journal hd es) x t.0 right t.1 d.others its.those turns its.each (once_behind d.late d.others (subst AreOnce d.are (let o = h.holds in o.once)))) its.joiners;
+      each = decisions;
+      called = newest_first (journal hd es) x its.those its.changed (let t = tied.listed x there in decided_writers_stand (first_values hd) (journal hd es) x t.0 right t.1 d.others its.those turns decisions (once_behind d.late d.others (subst AreOnce d.are (let o = h.holds in o.once)))) its.joiners;
       counts = is_one_of its.those;
       counted = λ t i. (is_there t its.those (in_from t its.those i), its.changed t i);
       all = all;
@@ -227,14 +270,21 @@ includes_there hd es i there = let of = runs_include_objects hd es i there in (o
 
 -- ---- the law
 
+module _ (hd : Header) (es : List Asked) (disks : Disks) (form : HeaderInForm hd) (tied : AreLockTied hd (journal hd es)) (held : Held hd es) (decide : Decides hd es held) (files : FilesAre (see [] (run_all es (format hd))) disks) where
+  r : Holds hd IsKept (run_all es (format hd))
+  r = runs_hold hd IsKept (lines_keep hd) es
+
+  are_clean : Clean hd (journal hd es) disks
+  are_clean = files_clean hd (journal hd es) (see r.sent (run_all es (format hd))) disks
+      (λ x there. let c = clean_of hd es form tied held decide x there in record { names = c.names; stores = c.stores })
+      (files_show_disks hd r.sent (run_all es (format hd)) disks form r.stands (includes_there hd es) (record { stores = files.stores; names = files.names }))
+
+-- with the state that the disk half gives
+pub ordered_held : (hd : Header) (es : List Asked) (test : ℕ → Seen → Bool) → HeaderInForm hd → length es ≤ most_events → ((x : ℕ) → is_some (object_line hd x) ≡ true → KeepsHeard hd x (test x)) → Held hd es
+ordered_held hd es test form short heard x there = runs_are_ordered hd x (test x) form there (heard x there) es short
+
 pub runs_are_clean : RunsAreClean
-runs_are_clean hd es disks test form short heard tied decide files =
-    files_clean hd (journal hd es) (see r.sent (run_all es (format hd))) disks
-    (λ x there. let c = clean_of hd es form short test heard tied decide x there in record { names = c.names; stores = c.stores })
-    (files_show_disks hd r.sent (run_all es (format hd)) disks form r.stands (includes_there hd es) (record { stores = files.stores; names = files.names }))
-  where
-    r : Holds hd IsKept (run_all es (format hd))
-    r = runs_hold hd IsKept (lines_keep hd) es
+runs_are_clean hd es disks test form short heard tied decide files = let held = ordered_held hd es test form short heard in are_clean hd es disks form tied held (λ x there. decide x there (held x there)) files
 
 -- ---- with the lock half
 
@@ -244,5 +294,20 @@ lock_tied hd es test short rest = record {
   listed = λ x there. (let has = header_has hd x there in let h = runs_are_locked hd x has (test x) (rest x has) es short in let z = h.holds in locked_tied x (see h.sent (run_all es (format hd))) z.0 z.1 z.2 z.3 (first_values hd));
 }
 
+-- with both machines at once
+pub joined_at : (hd : Header) (es : List Asked) (heard_so : ℕ → Seen → Bool) (test : ℕ → List Action → Seen → Bool) → HeaderInForm hd → length es ≤ most_events → ((x : ℕ) → is_some (object_line hd x) ≡ true → KeepsHeard hd x (heard_so x)) → AreRest hd test
+    → (x : ℕ) → is_some (object_line hd x) ≡ true → Holds hd (IsJoinedSo hd x) (run_all es (format hd))
+joined_at hd es heard_so test form short heard rest x there = runs_are_joined hd x (heard_so x) (test x) form there (heard x there) (rest x (header_has hd x there)) es short
+
+abbrev pub held_in : (hd : Header) (es : List Asked) → ((x : ℕ) → is_some (object_line hd x) ≡ true → Holds hd (IsJoinedSo hd x) (run_all es (format hd))) → Held hd es
+held_in hd es joined x there = let h = joined x there in record { sent = h.sent; stands = h.stands; holds = (let j = h.holds in j.ordered) }
+
+pub decides_in : (hd : Header) (es : List Asked) (joined : (x : ℕ) → is_some (object_line hd x) ≡ true → Holds hd (IsJoinedSo hd x) (run_all es (format hd))) → ((x : ℕ) → is_some (object_line hd x) ≡ true → DecideSo hd x es) → Decides hd es (held_in hd es joined)
+decides_in hd es joined decide x there =
+    let d = decide x there (held_in hd es joined x there) in
+    (d, λ e t i. (let h = joined x there in let j = h.holds in j.wrote e t (subst (disk.In e) (sym d.are) (in_behind e d.late d.others i))))
+
 pub whole_runs_are_clean : WholeRunsAreClean
-whole_runs_are_clean hd es disks heard_so test form short heard rest decide files = runs_are_clean hd es disks heard_so form short heard (lock_tied hd es test short rest) decide files
+whole_runs_are_clean hd es disks heard_so test form short heard rest decide files =
+    let joined = joined_at hd es heard_so test form short heard rest in
+    are_clean hd es disks form (lock_tied hd es test short rest) (held_in hd es joined) (decides_in hd es joined decide) files

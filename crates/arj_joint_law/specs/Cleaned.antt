@@ -1,17 +1,17 @@
 -- Runs whose files are clean, by both machines of each object, with what these are still asked for.
-use Rattle.std.specs.Prelude.{⊤, ◌≡◌, ◌⊎◌, ◌<◌, ◌≤◌, ◌++◌, ◌==◌, ℕ, Bool, true, false, List, [], ◌∷◌, None, Some, filter, is_some, length, Contains}
+use Rattle.std.specs.Prelude.{⊤, ◌≡◌, ◌⊎◌, ◌<◌, ◌≤◌, ◌++◌, ◌==◌, ◌&&◌, not, ℕ, Bool, true, List, [], ◌∷◌, None, Some, filter, is_some, length, Contains}
 use Rattle.std.specs.List.{list_any}
 use Rattle.arj_journal.specs.ScriptForm.{HeaderInForm}
 use Rattle.arj_model.specs.Actions.{acts}
 use Rattle.arj_model.specs.Calls.{Top, tops}
 use Rattle.arj_model.specs.Clean.{Clean, Disks}
-use Rattle.arj_model.specs.Last.{first_values, object_line, serial_tops, uid_of_id}
+use Rattle.arj_model.specs.Last.{first_values, increasing, is_among, joins_of, leaves_of, object_line, serial_tops, uid_of_id}
 use Rattle.arj_protocol.specs.Order.{uid_number}
 use Rattle.arj_protocol.specs.Words.{Header, Line}
 use Rattle.arj_protocol.specs.World.{Asked, format, journal, run_all}
 use Rattle.arj_law.specs.Growth.{IdleInPlace, first_stores}
 use Rattle.arj_disk_law.specs.Order.{counts_of}
-use Rattle.arj_disk_law.specs.State.{Done, Packed, State, entry_in, last_entry}
+use Rattle.arj_disk_law.specs.State.{Done, Packed, State, entry_in, last_entry, target}
 use Rattle.arj_disk_law.specs.Words.{In}
 use Rattle.arj_view_law.specs.Keeps.{Holds}
 use Rattle.arj_view_law.specs.Seen.{Seen, see}
@@ -20,8 +20,9 @@ use Rattle.arj_disk_run_law.specs.Rest.{KeepsHeard}
 use Rattle.arj_lock_law.specs.State as lock
 use Rattle.arj_lock_whole_law.specs.Runs.{AreRest}
 use Rattle.arj_part_law.specs.Actions.{Action}
-use Rattle.arj_serial_law.specs.Decided.{AreDecisions, Joined, Wrote}
+use Rattle.arj_serial_law.specs.Decided.{Joined, Wrote}
 use Rattle.arj_serial_law.specs.Tied.{AreTied, IsTied}
+use Rattle.arj_joint_law.specs.Joined.{AreWritten}
 use Rattle.arj_joint_law.specs.Ordered.{IsOrderedSo}
 use Rattle.arj_joint_law.specs.Shown.{FilesAre}
 
@@ -38,15 +39,29 @@ is_one_of ts t = list_any (λ (u : Top). u.id == t.id) ts
 abbrev pub number_of : List Line → Top → ℕ
 number_of lines t = uid_number (uid_of_id (acts lines) t.id)
 
--- The decided tops of the disk machine that count are these tops of the journal, and each of them changed the object. One that doesn't
--- count, or needed no record, didn't write it. As `DecideChanges` of `arj_serial_law`, but that of the order of commit calls only what
--- includes have to do with is asked, and not that each top which wrote the object is one of these.
+-- A decided top of the machine is this one of the journal, takes out of the list the stores that its commit excluded, and adds those of its surviving
+-- includes: as `IsDecision` of `arj_serial_law` has it, but for what it wrote.
+pub record IsNamed (lines : List Line) (x : ℕ) (d : Done) (t : Top) : Type 0 where
+  pub listed : Contains (tops lines) t
+  pub number : d.top ≡ number_of lines t
+  pub leaves : (s : ℕ) → (target d.plan s && not (d.got s)) ≡ is_among (leaves_of lines t.id x) s
+  pub joins : filter d.got (let p = d.plan in p.joins) ≡ increasing (filter (λ s. not (is_among (leaves_of lines t.id x) s)) (joins_of lines t.id x))
+
+-- so each, one by one
+abbrev pub AreNamed : List Line → ℕ → List Done → List Top → Type 0
+AreNamed lines x [] [] = ⊤
+AreNamed lines x (d ∷ ds) (t ∷ ts) = IsNamed lines x d t × AreNamed lines x ds ts
+AreNamed lines x ds ts = ⊥
+
+-- The decided tops of the disk machine that count are these tops of the journal, and each of them changed the object. One that needed no record
+-- didn't write it. As `DecideChanges` of `arj_serial_law`, but what they wrote isn't asked; of the order of commit calls only what
+-- includes have to do with is, and not that each top which wrote the object is one of these.
 pub record DecideThose (header : Header) (lines : List Line) (x : ℕ) (S : State) (ds : List Done) : Type 0 where
   pub those : List Top
-  pub each : AreDecisions (first_values header) lines x (filter counts_of ds) those
+  pub each : AreNamed lines x (filter counts_of ds) those
   pub joiners : JoinersAreNewestFirst lines x those
   pub changed : (t : Top) → Contains those t → Wrote lines x t ⊎ Joined lines x t
-  pub light : (t : Top) → Contains (tops lines) t → (S.bare (number_of lines t) ≡ true) ⊎ ((d : Done) × In d ds × (d.top ≡ number_of lines t) × (d.counts ≡ false)) → Wrote lines x t → ⊥
+  pub light : (t : Top) → Contains (tops lines) t → S.bare (number_of lines t) ≡ true → Wrote lines x t → ⊥
   pub idle : IdleInPlace lines x (is_one_of those) (first_stores header x) (serial_tops lines)
 
 -- So it is of all but the newest ones: those that the journal doesn't have since their nodes are late to say so, and whoever was decided
@@ -68,22 +83,26 @@ disk_of o = (let b = o.begun in let j = b.journalled in let W = j.machine in W.d
 abbrev pub DecideSo : Header → ℕ → List Asked → Type 0
 DecideSo hd x es = (h : Holds hd (IsOrderedSo hd x) (run_all es (format hd))) → DecideThoseOrLate hd (journal hd es) x (disk_of h.holds)
 
+-- and they wrote what they gave to the stores
+abbrev pub DecideWrittenSo : Header → ℕ → List Asked → Type 0
+DecideWrittenSo hd x es = (h : Holds hd (IsOrderedSo hd x) (run_all es (format hd))) → (d : DecideThoseOrLate hd (journal hd es) x (disk_of h.holds)) × AreWritten (first_values hd) (journal hd es) x d.others
+
 -- The journal is tied to the lock machines: of objects of which a call was answered, and of those of the header.
 pub record AreLockTied (hd : Header) (lines : List Line) : Type 0 where
   pub called : AreTied (first_values hd) lines
   pub listed : (x : ℕ) → is_some (object_line hd x) ≡ true → (S : lock.State) × IsTied (first_values hd) lines x S
 
 -- After the run of each script files are clean that are those of its nodes' pairs: with what the disk machine's half still takes, where the
--- journal is tied to the lock machines, and the tops that the disk machines decided are those of the journal.
+-- journal is tied to the lock machines, and the tops that the disk machines decided are those of the journal, and wrote what they gave.
 abbrev pub RunsAreClean : Type 0
 RunsAreClean = (hd : Header) (es : List Asked) (disks : Disks) (heard : ℕ → Seen → Bool) → HeaderInForm hd → length es ≤ most_events
     → ((x : ℕ) → is_some (object_line hd x) ≡ true → KeepsHeard hd x (heard x))
     → AreLockTied hd (journal hd es)
-    → ((x : ℕ) → is_some (object_line hd x) ≡ true → DecideSo hd x es)
+    → ((x : ℕ) → is_some (object_line hd x) ≡ true → DecideWrittenSo hd x es)
     → FilesAre (see [] (run_all es (format hd))) disks
     → Clean hd (journal hd es) disks
 
--- So the journal is tied with what the lock half still takes.
+-- So the journal is tied with what the lock half still takes, and decided tops wrote what they gave.
 abbrev pub WholeRunsAreClean : Type 0
 WholeRunsAreClean = (hd : Header) (es : List Asked) (disks : Disks) (heard : ℕ → Seen → Bool) (test : ℕ → List Action → Seen → Bool) → HeaderInForm hd → length es ≤ most_events
     → ((x : ℕ) → is_some (object_line hd x) ≡ true → KeepsHeard hd x (heard x))

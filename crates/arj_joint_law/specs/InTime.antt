@@ -13,7 +13,7 @@ use Rattle.arj_lock_whole_law.specs.Runs.{AreRest}
 use Rattle.arj_part_law.specs.Actions.{Action}
 use Rattle.arj_serial_law.specs.Cleaned.{AreDecidedOrLate}
 use Rattle.arj_serial_law.specs.Decided.{Wrote}
-use Rattle.arj_joint_law.specs.Cleaned.{AreLockTied, DecideSo, disk_of}
+use Rattle.arj_joint_law.specs.Cleaned.{AreLockTied, DecideSo, DecideWrittenSo, disk_of}
 use Rattle.arj_joint_law.specs.Excluded.{AreExcludedInTime, IsBehindIncludes, IsNew, TakersAreCommitted}
 use Rattle.arj_joint_law.specs.Ordered.{IsOrderedSo}
 
@@ -29,10 +29,10 @@ abbrev pub RunsExcludeInTime : Type 0
 RunsExcludeInTime = (hd : Header) (es : List Asked) (heard : ℕ → Seen → Bool) → HeaderInForm hd → length es ≤ most_events
     → ((x : ℕ) → is_some (object_line hd x) ≡ true → KeepsHeard hd x (heard x))
     → AreLockTied hd (journal hd es)
-    → ((x : ℕ) → is_some (object_line hd x) ≡ true → DecideSo hd x es)
+    → ((x : ℕ) → is_some (object_line hd x) ≡ true → DecideWrittenSo hd x es)
     → (let w = run_all es (format hd) in ((x : ℕ) → is_some (object_line hd x) ≡ true → AreInTime hd w.event x es) → AreExcludedInTime hd w.event (see [] w))
 
--- So the journal is tied with what the lock half still takes.
+-- So the journal is tied with what the lock half still takes, and decided tops wrote what they gave.
 abbrev pub WholeRunsExcludeInTime : Type 0
 WholeRunsExcludeInTime = (hd : Header) (es : List Asked) (heard : ℕ → Seen → Bool) (test : ℕ → List Action → Seen → Bool) → HeaderInForm hd → length es ≤ most_events
     → ((x : ℕ) → is_some (object_line hd x) ≡ true → KeepsHeard hd x (heard x))
