@@ -164,7 +164,7 @@ module _ (k : ℕ) where
       less a b c is le = omega (arith, is, le)
 
 -- a new label is one more
-one_more : (l : Label) (g : Labelled) (ls : List (Label × Labelled)) → label_at l ls ≡ None → length (insert_entry label_cmp ls l g) ≡ suc (length ls)
+pub one_more : (l : Label) (g : Labelled) (ls : List (Label × Labelled)) → label_at l ls ≡ None → length (insert_entry label_cmp ls l g) ≡ suc (length ls)
 one_more l g [] none = refl
 one_more l g (e ∷ es) none = by (label_cmp l e.0) none (one_more l g es)
   where

@@ -635,6 +635,14 @@ module _ (hd : Header) where
       few : (k m o f : ℕ) → k ≤ most_events → m + 0 ≤ 0 + o + k * most_labels → o ≤ f → f ≤ most_frames → m < 4294967295
       few k m o f short sum less fit = omega (arith, short, sum, less, fit)
 
+-- no more labels are given than there may be
+pub few_labels : (hd : Header) (es : List Asked) → length (let w = run_all es (format hd) in w.labels) ≤ most_labels
+few_labels hd es = room es (format hd) (first_holds hd HaveLabels (labels_go hd), omega arith)
+  where
+    room : (fs : List Asked) (w : World) → Fits hd w → HasRoom (run_all fs w)
+    room [] w fits = fits.1
+    room (f ∷ fs) w fits = room fs (run_event f w) (event_holds hd HaveLabels (labels_go hd) f w fits.0, (event_grew hd f w fits).1)
+
 pub scripts_few : ScriptsMakeFew
 scripts_few hd es short = few_made hd es short
 

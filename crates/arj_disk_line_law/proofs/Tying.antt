@@ -19,7 +19,6 @@ use Rattle.arj_disk_law.proofs.Base.{never, some_is}
 use Rattle.arj_view_law.specs.Keeps.{Holds, Keeps}
 use Rattle.arj_view_law.specs.Seen.{Seen, at, down, given, said, see, up, AreQuiet}
 use Rattle.arj_view_law.specs.Walks.{Up, Walks, halted}
-use Rattle.arj_view_law.proofs.Happens.{runs_hold}
 use Rattle.arj_view_law.proofs.Together.{walks_both, walks_to}
 use Rattle.arj_disk_view_law.specs.Deciding.{nodes_of}
 use Rattle.arj_disk_view_law.specs.Sees.{IsLater, Kinds, SeesDisks}
@@ -27,14 +26,14 @@ use Rattle.arj_names_view_law.specs.Both.{OnlyFound, SeesBoth}
 use Rattle.arj_names_view_law.specs.Handlers.{Answering, Change, Changes, Deciding, Quietly, change_by}
 use Rattle.arj_binding_law.specs.Scripts.{most_events}
 use Rattle.arj_disk_run_law.specs.Rest.{SeesCarried}
+use Rattle.arj_call_law.specs.Runs.{KnowsFew}
 use Rattle.arj_disk_run_law.specs.Bindings.{AreGoodCounted}
 use Rattle.arj_disk_run_law.specs.Part.{Going, HasHeard, IsCarried, KeepsPart, are_recorded, going_of}
 use Rattle.arj_disk_run_law.specs.Kinds.{kinds_of}
 use Rattle.arj_disk_run_law.proofs.Begun.{kinds_agree}
-use Rattle.arj_call_law.specs.Runs.{KnowsFew}
+use Rattle.arj_disk_run_law.specs.Bindings.{KnowsScript}
 use Rattle.arj_call_law.proofs.Given.{kept_both, keeps_given}
-use Rattle.arj_call_law.proofs.WholeRuns.{WhileFew, few_go}
-use Rattle.arj_binding_law.proofs.Events.{scripts_few}
+use Rattle.arj_disk_run_law.proofs.Scripts.{part_few, script_holds}
 use Rattle.arj_disk_run_law.proofs.Given.{gives_votes}
 use Rattle.arj_disk_run_law.specs.Entries.{HaveEntries}
 use Rattle.arj_disk_run_law.proofs.BothEach.{both_each, counted_with, heard_part, with_entries}
@@ -266,17 +265,17 @@ one_act (x ∷ xs) apart a b (inr i) (inr j) same = one_act xs apart.3 a b i j s
 abbrev pub IsJournalledBeside : (Kinds → Office → Seen → Type 0) → ℕ → Seen → Type 0
 IsJournalledBeside P x M = (j : IsJournalled x M) × (A : Office) × (A.world ≡ j.machine) × P j.tops A M × KnowsFew M
 
-pub journalled_beside : (hd : Header) (x : ℕ) (R : Seen → Type 0) (P : Kinds → Office → Seen → Type 0) → Keeps hd R → KeepsPart hd x (λ M. R M × KnowsFew M) P → (es : List Asked) → length es ≤ most_events → Holds hd (IsJournalledBeside P x) (run_all es (format hd))
+pub journalled_beside : (hd : Header) (x : ℕ) (R : Seen → Type 0) (P : Kinds → Office → Seen → Type 0) → Keeps hd R → KeepsPart hd x (λ M. R M × KnowsScript M) P → (es : List Asked) → length es ≤ most_events → Holds hd (IsJournalledBeside P x) (run_all es (format hd))
 journalled_beside hd x R P kept parts es short =
     let Idle : List Line → Uid → Type 0 = λ ls u. IsIdle (book ls) u in
     let idles = knows_idle R in
     let Q : Kinds → Seen → Type 0 = IsCarried (WithTie P Idle) x in
-    let B : Seen → Type 0 = Both hd x R KnowsFew P Idle kept parts idles in
+    let B : Seen → Type 0 = Both hd x R KnowsScript P Idle kept parts idles in
     let Known : Seen → Type 0 = λ M. B M × HaveEntries x M in
-    let tied = tied_part hd x R KnowsFew P Idle kept parts idles in
-    let known = with_entries hd x B (λ M. B M × KnowsFew M) (WithTie P Idle) tied (both_too hd x R KnowsFew P Idle kept parts idles) in
-    let r = runs_hold hd (WhileFew (IsKeptInRun Known Q)) (few_go hd (IsKeptInRun Known Q) (all_keep hd x Known KnowsFew Q known (gives_votes Known) (both_each hd x B KnowsFew (WithTie P Idle) tied))) es in
-    let h = (r.holds.1 (scripts_few hd es short)).1 in
+    let tied = tied_part hd x R KnowsScript P Idle kept parts idles in
+    let known = with_entries hd x B (λ M. B M × KnowsScript M) (WithTie P Idle) tied (both_too hd x R KnowsScript P Idle kept parts idles) in
+    let r = script_holds hd (IsKeptInRun Known Q) (all_keep hd x Known KnowsScript Q known (gives_votes Known) (both_each hd x B KnowsScript (WithTie P Idle) tied)) es short in
+    let h = r.holds.1 in
     let g = h.1 in
     let s = g.5 (kinds_of h.0) (kinds_agree h.0 g.0.begun g.1) in
     let lines = (run_all es (format hd)).lines in
@@ -296,7 +295,7 @@ journalled_beside hd x R P kept parts es short =
         s.0,
         refl,
         s.2.0,
-        (scripts_few hd es short, (r.holds.1 (scripts_few hd es short)).0),
+        r.holds.0,
       );
     }
   where
@@ -309,11 +308,11 @@ journalled_beside hd x R P kept parts es short =
         let same = one_act (acts_of lines) sound.distinct p a (subst (λ xs. Among p xs) b.begun (in_from p (let B = book lines in B.acts) its)) (in_from a (acts_of lines) there) uid in
         absurd (never (ap (λ (y : Act). is_top y.kind) same ∙ top) plain)
 
-journalled : (hd : Header) (x : ℕ) (R : Seen → Type 0) (P : Kinds → Office → Seen → Type 0) → Keeps hd R → KeepsPart hd x (λ M. R M × KnowsFew M) P → (es : List Asked) → length es ≤ most_events → Holds hd (IsJournalled x) (run_all es (format hd))
+journalled : (hd : Header) (x : ℕ) (R : Seen → Type 0) (P : Kinds → Office → Seen → Type 0) → Keeps hd R → KeepsPart hd x (λ M. R M × KnowsScript M) P → (es : List Asked) → length es ≤ most_events → Holds hd (IsJournalled x) (run_all es (format hd))
 journalled hd x R P kept parts es short = let h = journalled_beside hd x R P kept parts es short in record { sent = h.sent; stands = h.stands; holds = h.holds.0 }
 
 pub runs_are_journalled : RunsAreJournalled
-runs_are_journalled hd x part parts es short = journalled hd x IsGood (λ tops A M. part tops A M ≡ true) (parts_good hd) parts es short
+runs_are_journalled hd x part parts es short = journalled hd x IsGood (λ tops A M. part tops A M ≡ true) (parts_good hd) (part_few hd x IsGood (λ tops A M. part tops A M ≡ true) parts) es short
 
 pub heard_runs_are_journalled : HeardRunsAreJournalled
 heard_runs_are_journalled hd x test has rest es short = journalled hd x (λ M. AreGoodCounted M × (test M ≡ true)) (SeesCarried x) (counted_with hd x test rest) (heard_part hd x test has rest) es short

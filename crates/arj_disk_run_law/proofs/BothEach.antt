@@ -19,7 +19,6 @@ use Rattle.arj_disk_law.proofs.Base.{test_same}
 use Rattle.arj_view_law.specs.Keeps.{Holds, Keeps}
 use Rattle.arj_view_law.specs.Seen.{Seen, at, given, see, up}
 use Rattle.arj_view_law.specs.Walks.{Walks, Up}
-use Rattle.arj_view_law.proofs.Happens.{runs_hold}
 use Rattle.arj_view_law.proofs.Together.{walks_both, walks_to}
 use Rattle.arj_disk_view_law.specs.Coordinating.{KnowsNode}
 use Rattle.arj_disk_view_law.specs.Pairs.{packed_entry}
@@ -36,17 +35,15 @@ use Rattle.arj_names_view_law.proofs.StepsFollowed.{restarts_are_followed}
 use Rattle.arj_names_view_law.proofs.StepsKept.{actions_keep_both, ticks_keep_both}
 use Rattle.arj_run_law.specs.Worlds.{IsGood}
 use Rattle.arj_run_law.proofs.AllRuns.{all_keep as parts_good}
-use Rattle.arj_call_law.specs.Runs.{KnowsFew}
 use Rattle.arj_call_law.proofs.Given.{kept_both, keeps_given}
-use Rattle.arj_call_law.proofs.WholeRuns.{WhileFew, few_go}
 use Rattle.arj_binding_law.specs.Scripts.{most_events}
-use Rattle.arj_binding_law.proofs.Events.{scripts_few}
+use Rattle.arj_call_law.specs.Runs.{KnowsFew}
 use Rattle.arj_disk_run_law.specs.Entries.{HaveEntries, IsInStep, KnowsEntries}
 use Rattle.arj_disk_run_law.specs.Kinds.{Agrees, AreOfTops, kinds_of}
 use Rattle.arj_disk_run_law.specs.Part.{HoldsAgain, HoldsFrom, IsCarried, KeepsPart, are_recorded}
 use Rattle.arj_disk_run_law.specs.Runs.{CopiesAgree, HeardRunsAgree, RunsAgree}
 use Rattle.arj_disk_view_law.specs.Formats.{HasObject}
-use Rattle.arj_disk_run_law.specs.Bindings.{AreGoodCounted}
+use Rattle.arj_disk_run_law.specs.Bindings.{AreGoodCounted, KnowsScript}
 use Rattle.arj_disk_run_law.specs.Rest.{IsKnownWith, KeepsHeard, SeesCarried}
 use Rattle.arj_disk_run_law.proofs.Begun.{kinds_agree}
 use Rattle.arj_disk_run_law.proofs.Bindings.{good_counted, names_own, records_free_in}
@@ -56,6 +53,7 @@ use Rattle.arj_disk_run_law.proofs.EntryWalks.{mine_of}
 use Rattle.arj_disk_run_law.proofs.Given.{gives_votes}
 use Rattle.arj_disk_run_law.proofs.HeardKept.{heard_kept}
 use Rattle.arj_disk_run_law.proofs.HeardMessage.{of_top}
+use Rattle.arj_disk_run_law.proofs.Scripts.{part_few, script_holds}
 use Rattle.arj_disk_run_law.proofs.Kept.{IsKeptInRun, KeepsEach, all_keep}
 
 module _ (P : Kinds → Office → Seen → Type 0) (x : ℕ) (tops : Kinds) where
@@ -131,13 +129,11 @@ with_entries hd x R S P parts kept = kept_both hd R (HaveEntries x) kept (keeps_
 
 -- Both halves of the object's machine are carried through a run beside a relation that is kept: so it is with whatever follows where nodes
 -- have their numbers.
-pub runs_beside : (hd : Header) (x : ℕ) (R : Seen → Type 0) (P : Kinds → Office → Seen → Type 0) → Keeps hd R → KeepsPart hd x (λ M. R M × KnowsFew M) P → (G : Seen → Type 0)
+pub runs_beside : (hd : Header) (x : ℕ) (R : Seen → Type 0) (P : Kinds → Office → Seen → Type 0) → Keeps hd R → KeepsPart hd x (λ M. R M × KnowsScript M) P → (G : Seen → Type 0)
     → ((M : Seen) → ((k : ℕ) (n : Node) → M.nodes k ≡ Some n → n.number ≡ k) → KnowsFew M → IsKeptInRun (λ N. R N × HaveEntries x N) (IsCarried P x) M → G M) → (es : List Asked) → length es ≤ most_events → Holds hd G (run_all es (format hd))
 runs_beside hd x R P kept parts G gives es short =
-    let r = runs_hold hd (WhileFew (IsKeptInRun Known Q)) (few_go hd (IsKeptInRun Known Q) (all_keep hd x Known KnowsFew Q known_everywhere (gives_votes Known) (both_each hd x R KnowsFew P parts))) es in
-    let few = scripts_few hd es short in
-    let w = r.holds.1 few in
-    record { sent = r.sent; stands = r.stands; holds = gives (see r.sent (run_all es (format hd))) (let s = r.stands in s.numbers) (few, w.0) w.1 }
+    let r = script_holds hd (IsKeptInRun Known Q) (all_keep hd x Known KnowsScript Q known_everywhere (gives_votes Known) (both_each hd x R KnowsScript P parts)) es short in
+    record { sent = r.sent; stands = r.stands; holds = gives (see r.sent (run_all es (format hd))) (let s = r.stands in s.numbers) r.holds.0 r.holds.1 }
   where
     Q : Kinds → Seen → Type 0
     Q = IsCarried P x
@@ -146,22 +142,22 @@ runs_beside hd x R P kept parts G gives es short =
     Known M = R M × HaveEntries x M
 
     known_everywhere : Keeps hd Known
-    known_everywhere = with_entries hd x R (λ M. R M × KnowsFew M) P parts kept
+    known_everywhere = with_entries hd x R (λ M. R M × KnowsScript M) P parts kept
 
 -- of these actions the kinds agree
 pub kinds_there : (R : Seen → Type 0) (Q : Kinds → Seen → Type 0) (M : Seen) (h : IsKeptInRun R Q M) → Agrees (kinds_of h.0) h.0
 kinds_there R Q M h = let g = h.1 in kinds_agree h.0 (let k = g.0 in k.begun) g.1
 
-agree_beside : (hd : Header) (x : ℕ) (R : Seen → Type 0) (P : Kinds → Office → Seen → Type 0) → Keeps hd R → KeepsPart hd x (λ M. R M × KnowsFew M) P → (es : List Asked) → length es ≤ most_events → Holds hd (CopiesAgree x) (run_all es (format hd))
+agree_beside : (hd : Header) (x : ℕ) (R : Seen → Type 0) (P : Kinds → Office → Seen → Type 0) → Keeps hd R → KeepsPart hd x (λ M. R M × KnowsScript M) P → (es : List Asked) → length es ≤ most_events → Holds hd (CopiesAgree x) (run_all es (format hd))
 agree_beside hd x R P kept parts = runs_beside hd x R P kept parts (CopiesAgree x)
     (λ M numbers few h. let s = h.1.5 (kinds_of h.0) (kinds_there (λ N. R N × HaveEntries x N) (IsCarried P x) M h) in copies_agree x (kinds_of h.0) s.0.world M s.1.disks)
 
 pub runs_agree : RunsAgree
-runs_agree hd x part parts es short = agree_beside hd x IsGood (λ tops A M. part tops A M ≡ true) (parts_good hd) parts es short
+runs_agree hd x part parts es short = agree_beside hd x IsGood (λ tops A M. part tops A M ≡ true) (parts_good hd) (part_few hd x IsGood (λ tops A M. part tops A M ≡ true) parts) es short
 
 -- what is kept beside, where naming's bindings are its own
 pub heard_part : (hd : Header) (x : ℕ) (test : Seen → Bool) → HasObject hd x → KeepsHeard hd x test → KeepsPart hd x (IsKnownWith test) (SeesCarried x)
-heard_part hd x test has rest = heard_kept hd x (IsKnownWith test) (λ M r. ((let g = r.0.0 in g.0.0.0), r.1)) (λ M r. let g = r.0.0 in (names_own M g r.1, g.0.0.1, records_free_in M g r.1)) has rest.naming
+heard_part hd x test has rest = heard_kept hd x (IsKnownWith test) (λ M r. ((let g = r.0.0 in g.0.0.0), (let s = r.1 in s.0))) (λ M r. let g = r.0.0 in let s = r.1 in (names_own M g s.0, g.0.0.1, records_free_in M g s.0)) has rest.naming
 
 -- with a test that is kept nodes are good and bindings counted
 pub counted_with : (hd : Header) (x : ℕ) (test : Seen → Bool) → KeepsHeard hd x test → Keeps hd (λ M. AreGoodCounted M × (test M ≡ true))

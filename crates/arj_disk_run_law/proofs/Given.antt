@@ -5,8 +5,8 @@ use Rattle.arj_protocol.specs.Words.{ObjectState}
 use Rattle.arj_protocol.specs.Commit as commit
 use Rattle.arj_view_law.specs.Seen.{Seen}
 use Rattle.arj_disk_view_law.specs.Pairs.{Among}
-use Rattle.arj_call_law.specs.Runs.{KnowsFew}
 use Rattle.arj_call_law.proofs.WorldRuns.{votes_used}
+use Rattle.arj_disk_run_law.specs.Bindings.{KnowsScript}
 use Rattle.arj_disk_run_law.specs.Facts.{GivesVotes}
 
 pub listed : (s : ObjectState) (states : List ObjectState) → Among s states → list.In s states
@@ -14,5 +14,5 @@ listed s [] i = absurd i
 listed s (t ∷ ts) (inl same) = inl same
 listed s (t ∷ ts) (inr i) = inr (listed s ts i)
 
-pub gives_votes : (R : Seen → Type 0) → GivesVotes (λ M. R M × KnowsFew M)
-gives_votes R acts k d t M h good from m a states sent is q p left found now req on s i = let u = votes_used k d t M h.1.1.1 from m a states sent is q (commit.Voting p left) found now s (listed s states i) in record { used = u.0; found = u.1; server = u.2 }
+pub gives_votes : (R : Seen → Type 0) → GivesVotes (λ M. R M × KnowsScript M)
+gives_votes R acts k d t M h good from m a states sent is q p left found now req on s i = let u = votes_used k d t M h.1.0.1.1 from m a states sent is q (commit.Voting p left) found now s (listed s states i) in record { used = u.0; found = u.1; server = u.2 }

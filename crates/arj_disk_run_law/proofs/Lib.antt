@@ -73,6 +73,7 @@ pub mod FirstCommits
 pub mod SoundPlans
 pub mod Telling
 pub mod TopPaths
+pub mod Scripts
 pub mod StateCoords
 pub mod StateTicks
 pub mod StateWider

@@ -34,7 +34,7 @@ use Rattle.arj_record_law.specs.Claims.{AreFitting}
 use Rattle.arj_record_law.specs.Coords.{KnowsRecords, StepStands}
 use Rattle.arj_record_law.specs.Runs.{KnowsOfRecords, RecordsKnown}
 use Rattle.arj_record_law.specs.Tests.{Tests}
-use Rattle.arj_disk_run_law.specs.Bindings.{AreGoodCounted}
+use Rattle.arj_disk_run_law.specs.Bindings.{AreGoodCounted, KnowsScript}
 use Rattle.arj_disk_run_law.specs.Entries.{HaveEntries}
 use Rattle.arj_disk_run_law.specs.Rest.{IsKnownWith, SeesCarried}
 use Rattle.arj_disk_run_law.specs.Kinds.{Agrees, kinds_of}
@@ -176,5 +176,5 @@ heard_runs_load hd x test has_it rest = runs_beside hd x Base (WithLists x (Sees
     base_everywhere : Keeps hd Base
     base_everywhere = with_entries hd x (λ M. AreGoodCounted M × (test M ≡ true)) (IsKnownWith test) (SeesCarried x) (heard_part hd x test has_it rest) (counted_with hd x test rest)
 
-    listed : KeepsPart hd x (λ M. Base M × KnowsFew M) (WithLists x (SeesCarried x))
-    listed = listed_part hd x (IsKnownWith test) (λ M. Base M × KnowsFew M) (λ M r. (r.0.0, r.1)) (λ M r. ((r.0.0.0, r.0.1), r.1)) (SeesCarried x) (heard_part hd x test has_it rest)
+    listed : KeepsPart hd x (λ M. Base M × KnowsScript M) (WithLists x (SeesCarried x))
+    listed = listed_part hd x (IsKnownWith test) (λ M. Base M × KnowsScript M) (λ M r. (r.0.0, r.1)) (λ M r. ((r.0.0.0, r.0.1), (let s = r.1 in s.0))) (SeesCarried x) (heard_part hd x test has_it rest)

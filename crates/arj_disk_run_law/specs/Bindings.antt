@@ -1,12 +1,14 @@
--- Bindings at naming: each is of its incarnation, and their counts are short. And what is known in every run beside what is kept there.
-use Rattle.std.specs.Prelude.{◌≡◌, ◌<◌, ◌+◌, ℕ, Some}
+-- Bindings at naming: each is of its incarnation, and their counts are short. And what is known in every run of a script beside what is kept there.
+use Rattle.std.specs.Prelude.{◌≡◌, ◌≤◌, ◌<◌, ◌+◌, ℕ, Some, length}
 use Rattle.arj_protocol.specs.Words.{Uid, Binding}
 use Rattle.arj_protocol.specs.Named.{Live, Made, Named}
 use Rattle.arj_protocol.specs.Naming.{Naming}
 use Rattle.arj_protocol.specs.Node.{Parts}
 use Rattle.arj_protocol.specs.Order.{at_number, at_uid}
 use Rattle.arj_protocol.specs.Step.{Node}
+use Rattle.arj_protocol.specs.World.{most_labels}
 use Rattle.arj_call_law.specs.Bindings.{AreSaid}
+use Rattle.arj_call_law.specs.Runs.{KnowsFew}
 use Rattle.arj_coord_law.specs.Uses.{KnowsTops}
 use Rattle.arj_lock_fact_law.specs.Uppers.{ObjectsAreHeld}
 use Rattle.arj_run_law.specs.Worlds.{IsGood}
@@ -41,3 +43,11 @@ AllKnowTops M = (k : ℕ) (n : Node) (t : Parts) → M.nodes k ≡ Some n → n.
 -- are few, Records and Confirms are known
 abbrev pub AreGoodCounted : Seen → Type 0
 AreGoodCounted M = ((IsGood M × AllKnowTops M) × RecordsRun M) × (ObjectsAreHeld M × AreSaid M)
+
+-- no more labels were given than there may be
+abbrev pub HasFewLabels : Seen → Type 0
+HasFewLabels M = length M.labels ≤ most_labels
+
+-- few bindings were made, with what is known of calls then, and few labels were given
+abbrev pub KnowsScript : Seen → Type 0
+KnowsScript M = KnowsFew M × HasFewLabels M

@@ -13,13 +13,12 @@ use Rattle.arj_protocol.specs.Step.{is_committing}
 use Rattle.arj_disk_law.specs.Names.{Office}
 use Rattle.arj_view_law.specs.Keeps.{Keeps}
 use Rattle.arj_view_law.specs.Seen.{In, Seen, up}
-use Rattle.arj_call_law.specs.Runs.{KnowsFew}
 use Rattle.arj_disk_view_law.specs.Confirming.{IsNewConfirm}
 use Rattle.arj_disk_view_law.specs.Coordinating.{KnowsNode}
 use Rattle.arj_disk_view_law.specs.Sees.{Kinds}
 use Rattle.arj_names_view_law.specs.Booked.{IsNext}
 use Rattle.arj_names_view_law.specs.Both.{SeesBoth}
-use Rattle.arj_disk_run_law.specs.Bindings.{AreGoodCounted}
+use Rattle.arj_disk_run_law.specs.Bindings.{AreGoodCounted, KnowsScript}
 use Rattle.arj_disk_run_law.specs.Heard.{SeesHeard}
 use Rattle.arj_disk_run_law.specs.Versions.{EndsRaise, IsKnownVersion, SeesVersions, most_version}
 
@@ -48,9 +47,9 @@ pub record GivesNaming (x : ℕ) (R : Seen → Type 0) : Type 0 where
 abbrev pub answers_commit : Asked → Coord → Bool
 answers_commit a c = is_committing (doing_of a.act c)
 
--- what is known in every run of a script while few bindings were made, with such a test
+-- what is known in every run of a script, with such a test
 abbrev pub IsKnownWith : (Seen → Bool) → Seen → Type 0
-IsKnownWith test M = (AreGoodCounted M × (test M ≡ true)) × KnowsFew M
+IsKnownWith test M = (AreGoodCounted M × (test M ≡ true)) × KnowsScript M
 
 -- A test that each handler keeps; and where it holds beside what is known in every run, what naming and servers count on is given.
 pub record KeepsHeard (hd : Header) (x : ℕ) (test : Seen → Bool) : Type 0 where

@@ -20,7 +20,7 @@ use Rattle.arj_view_law.specs.Walks.{Up, Walks}
 use Rattle.arj_view_law.proofs.Happens.{runs_hold}
 use Rattle.arj_view_law.proofs.Together.{walks_to}
 use Rattle.arj_binding_law.specs.Scripts.{most_events}
-use Rattle.arj_call_law.specs.Runs.{KnowsFew}
+use Rattle.arj_disk_run_law.proofs.Scripts.{part_few}
 use Rattle.arj_run_law.specs.Worlds.{IsGood}
 use Rattle.arj_run_law.proofs.AllRuns.{all_keep as parts_good}
 use Rattle.arj_disk_view_law.specs.Sees.{IsLater, Kinds}
@@ -28,7 +28,7 @@ use Rattle.arj_names_view_law.specs.Both.{OnlyFound, SeesBoth}
 use Rattle.arj_names_view_law.specs.Handlers.{Change, Changes, Quietly, change_by}
 use Rattle.arj_disk_run_law.specs.Rest.{SeesCarried}
 use Rattle.arj_disk_run_law.specs.Part.{Going, HasHeard, KeepsPart, are_recorded, going_of}
-use Rattle.arj_disk_run_law.specs.Bindings.{AreGoodCounted}
+use Rattle.arj_disk_run_law.specs.Bindings.{AreGoodCounted, KnowsScript}
 use Rattle.arj_disk_run_law.proofs.BothEach.{counted_with, heard_part}
 use Rattle.arj_disk_line_law.proofs.Tying.{goes_by, journalled_beside}
 use Rattle.arj_disk_run_law.proofs.Decisions.{goes_along}
@@ -102,9 +102,9 @@ first_begins hd x form there tops A walk both none =
     one : (nat_le 1 1 && nat_le 1 hd.nodes) ≡ true
     one = let n = (let f = form.nodes in f.0) in grind (arith, nat_tests, n)
 
-begun_beside : (hd : Header) (x : ℕ) (R : Seen → Type 0) (P : Kinds → Office → Seen → Type 0) → HeaderInForm hd → is_some (object_line hd x) ≡ true → Keeps hd R → KeepsPart hd x (λ M. R M × KnowsFew M) P → (es : List Asked) → length es ≤ most_events → Holds hd (IsBegunSo hd x) (run_all es (format hd))
+begun_beside : (hd : Header) (x : ℕ) (R : Seen → Type 0) (P : Kinds → Office → Seen → Type 0) → HeaderInForm hd → is_some (object_line hd x) ≡ true → Keeps hd R → KeepsPart hd x (λ M. R M × KnowsScript M) P → (es : List Asked) → length es ≤ most_events → Holds hd (IsBegunSo hd x) (run_all es (format hd))
 begun_beside hd x R P form there kept parts es short =
-    let h = journalled_beside hd x R (WithFirst hd x P) kept (first_part hd x (λ M. R M × KnowsFew M) P parts (first_begins hd x form there)) es short in
+    let h = journalled_beside hd x R (WithFirst hd x P) kept (first_part hd x (λ M. R M × KnowsScript M) P parts (first_begins hd x form there)) es short in
     let b = h.holds in
     record { sent = h.sent; stands = h.stands; holds = record { journalled = b.0; begins = subst (λ (W : machine.World). BeginsSo hd x W.disk) b.2 (let z = b.3 in z.1) } }
 
@@ -112,4 +112,4 @@ pub runs_begin_so : RunsBeginSo
 runs_begin_so hd x test form there rest es short = begun_beside hd x (λ M. AreGoodCounted M × (test M ≡ true)) (SeesCarried x) form there (counted_with hd x test rest) (heard_part hd x test (line_there hd x form there).0 rest) es short
 
 pub runs_begin_beside : RunsBeginSoBeside
-runs_begin_beside hd x part form there parts es short = begun_beside hd x IsGood (λ tops A M. part tops A M ≡ true) form there (parts_good hd) parts es short
+runs_begin_beside hd x part form there parts es short = begun_beside hd x IsGood (λ tops A M. part tops A M ≡ true) form there (parts_good hd) (part_few hd x IsGood (λ tops A M. part tops A M ≡ true) parts) es short

@@ -57,7 +57,7 @@ runs_are_joined hd x heard test form there kept rest es short =
     Joined tops A M = WithLocks x R (SeesCarried x) tops A M
 
     part : KeepsPart hd x (IsKnownWith heard) Joined
-    part = locks_part hd x (IsKnownWith heard) KnowsFew R (SeesCarried x) (λ M r. r.1) (kept_of_all hd x has E rest) (λ f. gives_locks hd x has E f (rest.gives f)) (λ M few. votes_in M few.1.1) (λ M few. few.1.1) (heard_part hd x heard (line_there hd x form there).0 kept) (λ tops A M p. p.0)
+    part = locks_part hd x (IsKnownWith heard) KnowsFew R (SeesCarried x) (λ M r. let s = r.1 in s.0) (kept_of_all hd x has E rest) (λ f. gives_locks hd x has E f (rest.gives f)) (λ M few. votes_in M few.1.1) (λ M few. few.1.1) (heard_part hd x heard (line_there hd x form there).0 kept) (λ tops A M p. p.0)
 
     joined : (sent : List Post) → IsOrderedBeside Joined hd x (see sent (run_all es (format hd))) → IsJoinedSo hd x (see sent (run_all es (format hd)))
     joined sent (o, tops, A, same, p, few) = record {

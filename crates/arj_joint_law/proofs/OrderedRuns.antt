@@ -16,10 +16,11 @@ use Rattle.arj_view_law.specs.Seen.{Seen}
 use Rattle.arj_view_law.proofs.Happens.{runs_hold}
 use Rattle.arj_binding_law.specs.Scripts.{most_events}
 use Rattle.arj_call_law.specs.Runs.{KnowsFew}
+use Rattle.arj_disk_run_law.proofs.Scripts.{part_few}
 use Rattle.arj_run_law.specs.Worlds.{IsGood}
 use Rattle.arj_run_law.proofs.AllRuns.{all_keep as parts_good}
 use Rattle.arj_disk_view_law.specs.Sees.{Kinds}
-use Rattle.arj_disk_run_law.specs.Bindings.{AreGoodCounted}
+use Rattle.arj_disk_run_law.specs.Bindings.{AreGoodCounted, KnowsScript}
 use Rattle.arj_disk_run_law.specs.Rest.{SeesCarried}
 use Rattle.arj_disk_run_law.specs.Part.{KeepsPart}
 use Rattle.arj_disk_run_law.proofs.BothEach.{counted_with, heard_part}
@@ -62,13 +63,13 @@ turns_of lines right (d ∷ ds) turns = (λ e a b i in_a in_b ea db top apart. b
 abbrev pub IsOrderedBeside : (Kinds → Office → Seen → Type 0) → Header → ℕ → Seen → Type 0
 IsOrderedBeside P hd x M = (o : IsOrderedSo hd x M) × (tops : Kinds) × (A : Office) × (A.world ≡ world_of o) × P tops A M × KnowsFew M
 
-pub ordered_beside : (hd : Header) (x : ℕ) (R : Seen → Type 0) (P : Kinds → Office → Seen → Type 0) → HeaderInForm hd → is_some (object_line hd x) ≡ true → Keeps hd R → KeepsPart hd x (λ M. R M × KnowsFew M) P → (es : List Asked) → length es ≤ most_events → Holds hd (IsOrderedBeside P hd x) (run_all es (format hd))
+pub ordered_beside : (hd : Header) (x : ℕ) (R : Seen → Type 0) (P : Kinds → Office → Seen → Type 0) → HeaderInForm hd → is_some (object_line hd x) ≡ true → Keeps hd R → KeepsPart hd x (λ M. R M × KnowsScript M) P → (es : List Asked) → length es ≤ most_events → Holds hd (IsOrderedBeside P hd x) (run_all es (format hd))
 ordered_beside hd x R P form there kept parts es short =
-    let first : KeepsPart hd x (λ M. R M × KnowsFew M) (WithFirst hd x P) = first_part hd x (λ M. R M × KnowsFew M) P parts (first_begins hd x form there) in
+    let first : KeepsPart hd x (λ M. R M × KnowsScript M) (WithFirst hd x P) = first_part hd x (λ M. R M × KnowsScript M) P parts (first_begins hd x form there) in
     let idles : KnowsIdle R Idle = knows_idle R in
-    let tied = tied_part hd x R KnowsFew (WithFirst hd x P) Idle kept first idles in
-    let ordered = ordered_part hd x (λ M. R M × IsKept M) KnowsFew (WithTie (WithFirst hd x P) Idle) Idle (both_too hd x R KnowsFew (WithFirst hd x P) Idle kept first idles) (λ M r. r.1) (knows_idle (λ M. R M × IsKept M)) tied (λ tops A M p. (p.1).1) in
-    let h = journalled_beside hd x (λ M. R M × IsKept M) _ (both_too hd x R KnowsFew (WithFirst hd x P) Idle kept first idles) ordered es short in
+    let tied = tied_part hd x R KnowsScript (WithFirst hd x P) Idle kept first idles in
+    let ordered = ordered_part hd x (λ M. R M × IsKept M) KnowsScript (WithTie (WithFirst hd x P) Idle) Idle (both_too hd x R KnowsScript (WithFirst hd x P) Idle kept first idles) (λ M r. r.1) (knows_idle (λ M. R M × IsKept M)) tied (λ tops A M p. (p.1).1) in
+    let h = journalled_beside hd x (λ M. R M × IsKept M) _ (both_too hd x R KnowsScript (WithFirst hd x P) Idle kept first idles) ordered es short in
     let b = h.holds in
     let order = (let z = b.3 in z.1) in
     let right = (let r = runs_hold hd IsKept (lines_keep hd) es in let k = r.holds in let w = k.1 in w.right) in
@@ -97,4 +98,4 @@ pub runs_are_ordered : RunsAreOrdered
 runs_are_ordered hd x test form there rest es short = ordered hd x (SeesCarried x) es (ordered_beside hd x (λ M. AreGoodCounted M × (test M ≡ true)) (SeesCarried x) form there (counted_with hd x test rest) (heard_part hd x test (line_there hd x form there).0 rest) es short)
 
 pub runs_are_ordered_beside : RunsAreOrderedBeside
-runs_are_ordered_beside hd x part form there parts es short = ordered hd x (λ tops A M. part tops A M ≡ true) es (ordered_beside hd x IsGood (λ tops A M. part tops A M ≡ true) form there (parts_good hd) parts es short)
+runs_are_ordered_beside hd x part form there parts es short = ordered hd x (λ tops A M. part tops A M ≡ true) es (ordered_beside hd x IsGood (λ tops A M. part tops A M ≡ true) form there (parts_good hd) (part_few hd x IsGood (λ tops A M. part tops A M ≡ true) parts) es short)
