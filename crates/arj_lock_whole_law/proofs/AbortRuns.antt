@@ -10,14 +10,14 @@ use Rattle.arj_protocol.specs.Words.message
 use Rattle.arj_protocol.specs.Ask.{Reply, actor, asked_by, response}
 use Rattle.arj_protocol.specs.Asking.{again_all, begin_action, heard}
 use Rattle.arj_protocol.specs.Coord.{Coord}
-use Rattle.arj_protocol.specs.Effect.{Disk, Do, Effect, Intent, Look, PutInc, PutIntent, Say, Send, Work}
+use Rattle.arj_protocol.specs.Effect.{Disk, Do, Effect, Intent, Look, PutInc, PutIntent, Say, Send}
 use Rattle.arj_protocol.specs.Effect as effect
 use Rattle.arj_protocol.specs.Ending.{acked, answer_query}
 use Rattle.arj_protocol.specs.Follow.{tick_outs}
 use Rattle.arj_protocol.specs.Node.{Parts, Took, handle, holders, query_about, with_coord}
 use Rattle.arj_protocol.specs.Order.{at_uid}
 use Rattle.arj_protocol.specs.Says.{AreAll}
-use Rattle.arj_protocol.specs.Step.{Input, Node, acts, begin_refusal, first_disk, first_node, numbers_to, parent_of, parts_in, refusal_up, restart_outs, tolds_again}
+use Rattle.arj_protocol.specs.Step.{Input, Node, acts, first_disk, first_node, numbers_to, parent_of, parts_in, refusal_up, restart_outs, tolds_again}
 use Rattle.arj_protocol.specs.Step as input
 use Rattle.arj_protocol.specs.Tree.{Tree, at_place, branch_of, is_own, root_of}
 use Rattle.arj_protocol.specs.World.{format, is_serial_kind}

@@ -61,9 +61,6 @@ never {P} {b} holds fails = let no_way : true ≡ false = sym holds ∙ fails in
 later_said : (e : ℕ) (bs : List Body) (M : Seen) → Later (book M.lines) (book (let N = said e bs M in N.lines))
 later_said e bs M = subst (Later (book M.lines)) (sym (book_more new_book M.lines (numbered e bs))) (later_from (book M.lines) (numbered e bs))
 
-told_more : (r : Post) (sent : List Post) (u : Uid) (to : ℕ) → IsAbortTold sent u to → IsAbortTold (r ∷ sent) u to
-told_more r sent u to p = (p.0, inr p.1, p.2, p.3)
-
 part_more : (r : Post) (sent : List Post) (u : Uid) (to : ℕ) → IsPartAsked sent u to → IsPartAsked (r ∷ sent) u to
 part_more r sent u to q = record { post = q.post; head = q.head; ask = q.ask; there = inr q.there; to_it = q.to_it; is = q.is; part = q.part; by = q.by }
 

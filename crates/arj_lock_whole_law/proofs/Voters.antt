@@ -19,7 +19,7 @@ use Rattle.arj_protocol.specs.Naming.{Naming}
 use Rattle.arj_protocol.specs.Node.{Parts, Handled, Took, Void, sends_answer, with_server, with_naming, with_coord, if_naming, load_held, load_by, prepare_by, serve, handle_ends, by_reply, coord_heard, handle_other, handle_answer, handle_ask, handle}
 use Rattle.arj_protocol.specs.Order.{at_number, at_uid, binding_eq, binding_less}
 use Rattle.arj_protocol.specs.Server as server
-use Rattle.arj_protocol.specs.Server.{Server, Kept, active_binding, changed_by, end_new, end_one, first_unbound, has_ended, invoke, invoke_kept, invoke_new, invoke_now, is_below, is_told, keeps, on_copy, other_inc, taken_end, told, took_copy, vote, vote_now}
+use Rattle.arj_protocol.specs.Server.{Server, Kept, active_binding, changed_by, end_new, end_one, first_unbound, has_ended, invoke, invoke_kept, invoke_new, invoke_now, is_below, is_told, keeps, on_copy, other_inc, taken_end, told, took_copy, vote_now}
 use Rattle.arj_part_law.proofs.Keys.{on_drop, on_with}
 use Rattle.arj_lock_fact_law.specs.Parted.{asks_part}
 
