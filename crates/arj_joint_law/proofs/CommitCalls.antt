@@ -7,12 +7,13 @@ use Rattle.std.proofs.lemmas.Bool.{and_parts}
 use Rattle.std.proofs.lemmas.Bool.Decides.{nat_tests}
 use Rattle.arj_address_law.proofs.Lists.{all_append}
 use Rattle.arj_lock_whole_law.specs.Called.{SayOf}
-use Rattle.arj_lock_whole_law.proofs.CalledSays.{acts_fine, calls_commit, message_fine, restart_fine, tick_fine}
+use Rattle.arj_lock_whole_law.proofs.CalledSays.{acts_fine, calls_commit, is_apart, message_fine, restart_fine, tick_fine}
 use Rattle.arj_protocol.proofs.Steps.{steps_lines}
 use Rattle.arj_protocol.proofs.Taken.{taken_took}
 use Rattle.arj_protocol.specs.Asking.{again_all, end_line}
 use Rattle.arj_protocol.specs.Call as calls
 use Rattle.arj_protocol.specs.Call.{CallEnd, Goal, Include, Run}
+use Rattle.arj_protocol.specs.Commit as commit
 use Rattle.arj_protocol.specs.Coord.{Doing, doing_of}
 use Rattle.arj_protocol.specs.Effect.{Disk, Do, Effect, Pair, Say, Send, Stop, held_at, holder_of, worked}
 use Rattle.arj_protocol.specs.Ending.{say_for, says as says_of}
@@ -38,6 +39,14 @@ use Rattle.arj_joint_law.specs.Excluded.{CommitsBeginIt}
 -- the line calls no commit
 abbrev NoCall : Body → Type 0
 NoCall b = calls_commit b ≡ false
+
+no_call : (b : Body) → is_apart b ≡ false → NoCall b
+no_call (body.Committing l) none = absurd (cc none)
+no_call b none = refl
+
+marks_quiet : (d : Doing) (marks : List (ℕ × ℕ)) → AllByRecursion (λ (z : ℕ × ℕ). NoCall (body.Excluded d.label z.0 z.1)) marks
+marks_quiet d [] = tt
+marks_quiet d (z ∷ marks) = (refl, marks_quiet d marks)
 
 abbrev Quiet : List Effect → Type 0
 Quiet outs = AllByRecursion (SayOf NoCall) outs
@@ -85,7 +94,7 @@ looks_quiet (Say b ∷ es) looks = absurd (cc looks)
 
 taken_quiet : (n from : ℕ) (d : Disk) (t : Parts) (m : Message) → (v : Handled) → LooksAlone v → taken n d t from m ≡ v → Quiet (elim v [ Void outs ↦ outs | Took u outs ↦ outs ])
 taken_quiet n from d t m (Void outs) looks is = looks_quiet outs looks
-taken_quiet n from d t m (Took u outs) looks is = message_fine NoCall (λ b a c. c) n d t u from m outs (taken_took n d t u from m outs is) (λ a r q s of found now its e ends l. end_quiet s.x s.goal e l)
+taken_quiet n from d t m (Took u outs) looks is = message_fine NoCall no_call n d t u from m outs (taken_took n d t u from m outs is) (λ a r q s of found now its e ends l. end_quiet s.x s.goal e l) (λ a r q c of found now. marks_quiet q (commit.answered from c r).marks)
 
 handled_quiet : (n : ℕ) (h : Here) (v : Handled) → Quiet (elim v [ Void outs ↦ outs | Took u outs ↦ outs ]) → Quiet (ran_handled n h v).outs
 handled_quiet n h (Void outs) q = ran_quiet n h.parts outs h.disk q
@@ -144,7 +153,7 @@ acts_both n t i = let a = acts i n.disk.intents t.coord in did_both (is_commit i
         one (Some d) = inr (is, d.label, es, refl, q)
 
     other : (j : Input) → ((l : Label) (q : Kind) (parent : Option Label) → j ≢ input.Begin l q parent) → Calls (is_commit j) (let a = acts j n.disk.intents t.coord in a.outs)
-    other j apart = acts_fine NoCall (λ b a c. c) (Calls (is_commit j)) (λ es q. inl q) t.coord j n.disk.intents apart (λ u d s found is e ends l. end_quiet s.x s.goal e l) (λ l same u es q. called j (ap is_commit same) u es q)
+    other j apart = acts_fine NoCall no_call (Calls (is_commit j)) (λ es q. inl q) t.coord j n.disk.intents apart (λ u d s found is e ends l. end_quiet s.x s.goal e l) (λ u d m found is. marks_quiet d (commit.given_up m).marks) (λ l same u es q. called j (ap is_commit same) u es q)
 
     by : (j : Input) → i ≡ j → Calls (is_commit j) (let a = acts j n.disk.intents t.coord in a.outs)
     by (input.Begin l q parent) is = inl (refl, tt)
@@ -179,7 +188,7 @@ show_quiet n x d = all_append (SayOf NoCall) (show_entry n x d.names) (shown (co
 
 up_both : (n : Node) (t : Parts) (i : Input) → Both (is_commit i) (step_up i n t)
 up_both n t (input.Frame k from m) = frame_both k from n t m
-up_both n t input.Tick = did_both false n (with_coord t (let a = again_all t.coord.doings t.coord in a.part)) (tick_outs n t) (inl (tick_fine NoCall (λ b a c. c) n t))
+up_both n t input.Tick = did_both false n (with_coord t (let a = again_all t.coord.doings t.coord in a.part)) (tick_outs n t) (inl (tick_fine NoCall no_call n t))
 up_both n t input.Restart = (inl tt, inl tt)
 up_both n t input.Crash = (inl (refl, tt), inl (refl, tt))
 up_both n t (input.Show x) = (inl (show_quiet n.number x n.disk), inl (show_quiet n.number x n.disk))
@@ -192,7 +201,7 @@ up_both n t (input.GiveUp l) = acts_both n t (input.GiveUp l)
 
 down_both : (hd : Header) (n : Node) (i : Input) → Both (is_commit i) (step_down hd i n)
 down_both hd n (input.Frame k from m) = void_both false k n [] tt
-down_both hd n input.Restart = did_both false n (parts_in n.number (n.disk.inc + 1) n.disk) (restart_outs hd n.number (n.disk.inc + 1) n.disk) (inl (restart_fine NoCall (λ b a c. c) hd n.number (n.disk.inc + 1) n.disk))
+down_both hd n input.Restart = did_both false n (parts_in n.number (n.disk.inc + 1) n.disk) (restart_outs hd n.number (n.disk.inc + 1) n.disk) (inl (restart_fine NoCall no_call hd n.number (n.disk.inc + 1) n.disk))
 down_both hd n i = (inl tt, inl tt)
 
 step_both : (hd : Header) (n : Node) (i : Input) → Both (is_commit i) (step hd n i)

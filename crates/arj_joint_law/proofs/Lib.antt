@@ -15,6 +15,9 @@ pub mod CommitCalls
 pub mod Excluding
 pub mod InTime
 pub mod NewWriters
+pub mod MarkStates
+pub mod MarkMoves
+pub mod MarkRuns
 pub mod RunsInTime
 pub mod Dropping
 pub mod Joining

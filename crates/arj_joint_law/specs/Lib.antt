@@ -3,6 +3,7 @@ pub mod Cleaned
 pub mod Forms
 pub mod Ordered
 pub mod Shown
+pub mod Marked
 pub mod Writers
 pub mod Outcome
 pub mod Samples

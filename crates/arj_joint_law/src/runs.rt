@@ -2,6 +2,7 @@
 ghost use Rattle.arj_joint_law.specs.Begun.{ObjectsAreThere, RunsBeginSo, RunsBeginSoBeside};
 ghost use Rattle.arj_joint_law.specs.Cleaned.{RunsAreClean, WholeRunsAreClean};
 ghost use Rattle.arj_joint_law.specs.Joined.{RunsAreJoined};
+ghost use Rattle.arj_joint_law.specs.Marked.{RunsSayMarks};
 ghost use Rattle.arj_joint_law.specs.Ordered.{RunsAreOrdered, RunsAreOrderedBeside};
 ghost use Rattle.arj_joint_law.specs.Shown.{FilesShowDisks, IncludesAreListed};
 
@@ -43,4 +44,11 @@ pub fn runs_are_clean()
 /// decided top of the journal gave to the stores what it wrote. What both halves still take is taken. It does nothing when it runs.
 pub fn runs_have_both_machines()
     ensures { RunsAreJoined }
+{}
+
+/// In the run of every script each commit under way at a node that is up has said what it excludes: while its votes are collected, and while
+/// its prepare step runs, no line says an exclusion of it; and behind that the lines say exactly the stores that its plan has marked, by
+/// object. It does nothing when it runs.
+pub fn commits_say_what_they_exclude()
+    ensures { RunsSayMarks }
 {}

@@ -10,6 +10,7 @@ use Rattle.arj_lock.proofs.Members.{In as Listed}
 use Rattle.arj_protocol.specs.Words.{Body, Header, Kind, Label, Line, Message, Op}
 use Rattle.arj_protocol.specs.Words.body
 use Rattle.arj_protocol.specs.Asking.{again_all, begin_action}
+use Rattle.arj_protocol.specs.Commit as commit
 use Rattle.arj_protocol.specs.Call.{Goal, Include, Run}
 use Rattle.arj_protocol.specs.Effect.{Disk, Do, Effect, Say, Send, stopped, worked}
 use Rattle.arj_protocol.specs.Follow.{tick_outs}
@@ -35,7 +36,7 @@ use Rattle.arj_lock_fact_law.proofs.Kept.{Place}
 use Rattle.arj_serial_law.specs.Seen.{IsCalled}
 use Rattle.arj_lock_whole_law.specs.Called.{CallsAreOfHeader, CallsOf, IsIncluded, IsOfHeader, LinesOf, SayOf, SaysOf, UsesOf, WaitFor}
 use Rattle.arj_lock_whole_law.proofs.Called.{found_object, uses_acked, uses_acts, uses_again, uses_begun, uses_heard, wait_acked, wait_acts, wait_again, wait_begin, wait_heard, wait_new}
-use Rattle.arj_lock_whole_law.proofs.CalledSays.{acts_say, message_fine, message_says, plain_says, restart_fine, tick_fine}
+use Rattle.arj_lock_whole_law.proofs.CalledSays.{acts_say, marks_say, message_fine, message_says, plain_says, restart_fine, tick_fine}
 use Rattle.arj_lock_whole_law.proofs.CoordCases.{Acks, Asks, CoordCase, Heard, OfParts, coord_case}
 use Rattle.arj_protocol.specs.Coord.{Coord}
 
@@ -115,7 +116,7 @@ module _ (P : ℕ → Goal → Type 0) (O : ℕ → Type 0) where
 
     pub message_walk : (from : ℕ) (m : Message) (v : Parts) (outs : List Effect) → In (record { from = from; to = k; message = m }) M.sent → handle k d t from m ≡ Took v outs → Walks (CallsOf P O) e k outs (Up (CallsOf P O) k v) d M
     message_walk from m v outs there is = walk_on v outs
-        (message_fine (SaysOf P) (plain_says P) k d t v from m outs is (λ a r q s of. message_says P t.coord own.0 from a r q s (answers_fit begun e k d t M good bound_all from m there a r of)))
+        (message_fine (SaysOf P) (plain_says P) k d t v from m outs is (λ a r q s of. message_says P t.coord own.0 from a r q s (answers_fit begun e k d t M good bound_all from m there a r of)) (λ a r q c of found now. marks_say P q (commit.answered from c r).marks))
         (by (coord_case k d t v from m outs is))
       where
         by : CoordCase d t from m v outs → AsksOf v.coord

@@ -1,0 +1,41 @@
+-- What lines say of the exclusions of a commit under way.
+use Rattle.std.specs.Prelude.{◌≡◌, ◌==◌, ◌&&◌, ℕ, Bool, false, List, [], Some}
+use Rattle.std.specs.List.{list_any}
+use Rattle.std.specs.Str.{bytes_eq}
+use Rattle.arj_protocol.specs.Words.{Body, Header, Line, Uid, name}
+use Rattle.arj_protocol.specs.Words.body
+use Rattle.arj_protocol.specs.Commit.{Confirming, Machine, Preparing, Voting, is_empty, is_marked}
+use Rattle.arj_protocol.specs.Coord.{Committing, Doing, doing_of}
+use Rattle.arj_protocol.specs.Node.{Parts}
+use Rattle.arj_protocol.specs.Step.{Node}
+use Rattle.arj_protocol.specs.World.{Asked, format, run_all}
+use Rattle.arj_view_law.specs.Keeps.{Holds}
+use Rattle.arj_view_law.specs.Seen.{Seen}
+
+-- the line says that the commit of the action with this name excludes the store for the object
+abbrev pub excludes : List ℕ → ℕ → ℕ → Body → Bool
+excludes l x s (body.Excluded m y n) = bytes_eq (name m) l && ((y == x) && (n == s))
+excludes l x s _ = false
+
+-- so does one of these lines
+abbrev pub was_marked : List Line → List ℕ → ℕ → ℕ → Bool
+was_marked lines l x s = list_any (λ (k : Line). excludes l x s k.body) lines
+
+-- None is said while the votes are collected, and the plan has none; nor while a prepare step runs, which is for some object; and behind
+-- that what the plan has marked is said.
+abbrev pub FitsMarks : (ℕ → ℕ → Bool) → Machine → Type 0
+FitsMarks f (Voting p left) = ((x s : ℕ) → f x s ≡ false) × (p.excluded ≡ [])
+FitsMarks f (Preparing p left) = ((x s : ℕ) → f x s ≡ false) × (is_empty p.used ≡ false)
+FitsMarks f (Confirming p) = (x s : ℕ) → f x s ≡ is_marked x s p
+
+-- so it is of what an action at work waits for
+abbrev pub SaysMarks : List Line → Doing → Type 0
+SaysMarks lines d = (m : Machine) → d.now ≡ Committing m → FitsMarks (was_marked lines (name d.label)) m
+
+-- and of each commit under way at a node that is up
+abbrev pub MarksAreSaid : Seen → Type 0
+MarksAreSaid M = (j : ℕ) (n : Node) (t : Parts) (u : Uid) (d : Doing) → M.nodes j ≡ Some n → n.live ≡ Some t → doing_of u t.coord ≡ Some d → SaysMarks M.lines d
+
+-- So it is in every run.
+abbrev pub RunsSayMarks : Type 0
+RunsSayMarks = (hd : Header) (es : List Asked) → Holds hd MarksAreSaid (run_all es (format hd))
