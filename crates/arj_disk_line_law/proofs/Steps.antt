@@ -16,7 +16,7 @@ use Rattle.arj_view_law.specs.Walks.{Up, Walks}
 use Rattle.arj_disk_run_law.proofs.Plain.{Plain, is_plain}
 use Rattle.arj_line_law.specs.Book.{Book, book, book_from, new_book, turned}
 use Rattle.arj_disk_line_law.specs.Said.{IsPlain}
-use Rattle.arj_line_law.proofs.Books.{Later, book_more, later_from}
+use Rattle.arj_line_law.proofs.Books.{book_more}
 
 -- ---- what it leaves
 
@@ -45,9 +45,6 @@ and_more (x ∷ xs) ys zs = ap (λ ws. x ∷ ws) (and_more xs ys zs)
 
 pub near_same : (M : Seen) → IsNear M M
 near_same M = record { more = []; lines = nothing_more M.lines; nodes = λ j. refl }
-
-pub later_lines : (ls ks : List Line) → Later (book ls) (book (ls ++ ks))
-later_lines ls ks = subst (Later (book ls)) (sym (book_more new_book ls ks)) (later_from (book ls) ks)
 
 near_said : (e : ℕ) (bs : List Body) (M N : Seen) → IsNear M N → IsNear M (said e bs N)
 near_said e bs M N near = record { more = near.more ++ numbered e bs; lines = ap (λ ls. ls ++ numbered e bs) near.lines ∙ and_more M.lines near.more (numbered e bs); nodes = near.nodes }

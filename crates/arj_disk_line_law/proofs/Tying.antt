@@ -25,9 +25,8 @@ use Rattle.arj_disk_view_law.specs.Sees.{IsLater, Kinds, SeesDisks}
 use Rattle.arj_names_view_law.specs.Both.{OnlyFound, SeesBoth}
 use Rattle.arj_names_view_law.specs.Handlers.{Answering, Change, Changes, Deciding, Quietly, change_by}
 use Rattle.arj_binding_law.specs.Scripts.{most_events}
-use Rattle.arj_disk_run_law.specs.Rest.{SeesCarried}
+use Rattle.arj_disk_run_law.specs.Rest.{IsCountedWith, SeesCarried}
 use Rattle.arj_call_law.specs.Runs.{KnowsFew}
-use Rattle.arj_disk_run_law.specs.Bindings.{AreGoodCounted}
 use Rattle.arj_disk_run_law.specs.Part.{Going, HasHeard, IsCarried, KeepsPart, are_recorded, going_of}
 use Rattle.arj_disk_run_law.specs.Kinds.{kinds_of}
 use Rattle.arj_disk_run_law.proofs.Begun.{kinds_agree}
@@ -47,8 +46,9 @@ use Rattle.arj_line_law.proofs.Runs.{lines_keep, act_turns, message_turns, rest_
 use Rattle.arj_disk_line_law.specs.Said.{AreSaid, HeardRunsAreJournalled, IsJournalled, IsLate, IsTied, RunsAreJournalled, AreDone, IsDoneBy, WithTie}
 use Rattle.arj_disk_line_law.proofs.IdleKnown.{KnowsIdle, knows_idle}
 use Rattle.arj_disk_line_law.proofs.Owners.{decided_begun, whose_it_is}
+use Rattle.arj_disk_run_law.proofs.Grows.{later_lines}
 use Rattle.arj_disk_run_law.proofs.Decisions.{Goes, Turns, goes_along}
-use Rattle.arj_disk_line_law.proofs.Steps.{IsNear, IsStep, later_lines, near_same, step_halted, step_walk, nothing_more}
+use Rattle.arj_disk_line_law.proofs.Steps.{IsNear, IsStep, near_same, step_halted, step_walk, nothing_more}
 use Rattle.arj_model.specs.Actions.{Act, acts as acts_of}
 use Rattle.arj_disk_view_law.proofs.Frames.{node_here}
 use Rattle.arj_line_law.specs.Idle.{HasNothing, IsIdle}
@@ -315,4 +315,4 @@ pub runs_are_journalled : RunsAreJournalled
 runs_are_journalled hd x part parts es short = journalled hd x IsGood (λ tops A M. part tops A M ≡ true) (parts_good hd) (part_few hd x IsGood (λ tops A M. part tops A M ≡ true) parts) es short
 
 pub heard_runs_are_journalled : HeardRunsAreJournalled
-heard_runs_are_journalled hd x test has rest es short = journalled hd x (λ M. AreGoodCounted M × (test M ≡ true)) (SeesCarried x) (counted_with hd x test rest) (heard_part hd x test has rest) es short
+heard_runs_are_journalled hd x test has rest es short = journalled hd x (IsCountedWith test) (SeesCarried x) (counted_with hd x test rest) (heard_part hd x test has rest) es short

@@ -44,7 +44,9 @@ use Rattle.arj_disk_run_law.specs.Part.{HoldsAgain, HoldsFrom, IsCarried, KeepsP
 use Rattle.arj_disk_run_law.specs.Runs.{CopiesAgree, HeardRunsAgree, RunsAgree}
 use Rattle.arj_disk_view_law.specs.Formats.{HasObject}
 use Rattle.arj_disk_run_law.specs.Bindings.{AreGoodCounted, KnowsScript}
-use Rattle.arj_disk_run_law.specs.Rest.{IsKnownWith, KeepsHeard, SeesCarried}
+use Rattle.arj_line_law.specs.Knows.{IsKept}
+use Rattle.arj_line_law.proofs.Runs.{lines_keep}
+use Rattle.arj_disk_run_law.specs.Rest.{IsCountedWith, IsKnownWith, KeepsHeard, SeesCarried}
 use Rattle.arj_disk_run_law.proofs.Begun.{kinds_agree}
 use Rattle.arj_disk_run_law.proofs.Bindings.{good_counted, names_own, records_free_in}
 use Rattle.arj_disk_run_law.proofs.Copies.{copies_agree}
@@ -157,11 +159,11 @@ runs_agree hd x part parts es short = agree_beside hd x IsGood (λ tops A M. par
 
 -- what is kept beside, where naming's bindings are its own
 pub heard_part : (hd : Header) (x : ℕ) (test : Seen → Bool) → HasObject hd x → KeepsHeard hd x test → KeepsPart hd x (IsKnownWith test) (SeesCarried x)
-heard_part hd x test has rest = heard_kept hd x (IsKnownWith test) (λ M r. ((let g = r.0.0 in g.0.0.0), (let s = r.1 in s.0))) (λ M r. let g = r.0.0 in let s = r.1 in (names_own M g s.0, g.0.0.1, records_free_in M g s.0)) has rest.naming
+heard_part hd x test has rest = heard_kept hd x (IsKnownWith test) (λ M r. ((let g = r.0.0.0 in g.0.0.0), (let s = r.1 in s.0))) (λ M r. let g = r.0.0.0 in let s = r.1 in (names_own M g s.0, g.0.0.1, records_free_in M g s.0, r.0.0.1, s.1)) has rest.naming
 
 -- with a test that is kept nodes are good and bindings counted
-pub counted_with : (hd : Header) (x : ℕ) (test : Seen → Bool) → KeepsHeard hd x test → Keeps hd (λ M. AreGoodCounted M × (test M ≡ true))
-counted_with hd x test rest = kept_both hd AreGoodCounted (λ M. test M ≡ true) (good_counted hd) (keeps_given hd AreGoodCounted (λ M. test M ≡ true) rest.kept)
+pub counted_with : (hd : Header) (x : ℕ) (test : Seen → Bool) → KeepsHeard hd x test → Keeps hd (IsCountedWith test)
+counted_with hd x test rest = kept_both hd (λ M. AreGoodCounted M × IsKept M) (λ M. test M ≡ true) (kept_both hd AreGoodCounted IsKept (good_counted hd) (keeps_given hd AreGoodCounted IsKept (lines_keep hd))) (keeps_given hd (λ M. AreGoodCounted M × IsKept M) (λ M. test M ≡ true) rest.kept)
 
 pub heard_runs_agree : HeardRunsAgree
-heard_runs_agree hd x test has rest es short = agree_beside hd x (λ M. AreGoodCounted M × (test M ≡ true)) (SeesCarried x) (counted_with hd x test rest) (heard_part hd x test has rest) es short
+heard_runs_agree hd x test has rest es short = agree_beside hd x (IsCountedWith test) (SeesCarried x) (counted_with hd x test rest) (heard_part hd x test has rest) es short

@@ -73,6 +73,8 @@ pub mod FirstCommits
 pub mod SoundPlans
 pub mod Telling
 pub mod TopPaths
+pub mod FewDecided
+pub mod Grows
 pub mod Scripts
 pub mod StateCoords
 pub mod StateTicks

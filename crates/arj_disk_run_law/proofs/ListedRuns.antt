@@ -34,9 +34,9 @@ use Rattle.arj_record_law.specs.Claims.{AreFitting}
 use Rattle.arj_record_law.specs.Coords.{KnowsRecords, StepStands}
 use Rattle.arj_record_law.specs.Runs.{KnowsOfRecords, RecordsKnown}
 use Rattle.arj_record_law.specs.Tests.{Tests}
-use Rattle.arj_disk_run_law.specs.Bindings.{AreGoodCounted, KnowsScript}
+use Rattle.arj_disk_run_law.specs.Bindings.{KnowsScript}
 use Rattle.arj_disk_run_law.specs.Entries.{HaveEntries}
-use Rattle.arj_disk_run_law.specs.Rest.{IsKnownWith, SeesCarried}
+use Rattle.arj_disk_run_law.specs.Rest.{IsCountedWith, IsKnownWith, SeesCarried}
 use Rattle.arj_disk_run_law.specs.Kinds.{Agrees, kinds_of}
 use Rattle.arj_disk_run_law.specs.Listed.{AnswersList, HeardRunsLoad, IsCurrent, IsLoading, LoadsAgree, LoadsListed, PassesListed, PassesLists, TellsLists}
 use Rattle.arj_disk_run_law.specs.Part.{IsCarried, KeepsPart}
@@ -167,14 +167,14 @@ heard_runs_load hd x test has_it rest = runs_beside hd x Base (WithLists x (Sees
     let g = h.1 in
     let agree = kinds_there (λ N. Base N × HaveEntries x N) (IsCarried (WithLists x (SeesCarried x)) x) M h in
     let s = g.5 (kinds_of h.0) agree in
-    let known = (let b = g.4.0.0.0 in let z = b.0.1 in z.1 (let f = few in f.0)).1 in
+    let known = (let b = g.4.0.0.0.0 in let z = b.0.1 in z.1 (let f = few in f.0)).1 in
     loads_agree x (kinds_of h.0) s.0 M s.1 (λ l. loading_listed x (kinds_of h.0) h.0 s.0 M agree g.0 g.2 g.3 few s.1 numbers l s.2.1 known))
   where
     Base : Seen → Type 0
-    Base M = (AreGoodCounted M × (test M ≡ true)) × HaveEntries x M
+    Base M = IsCountedWith test M × HaveEntries x M
 
     base_everywhere : Keeps hd Base
-    base_everywhere = with_entries hd x (λ M. AreGoodCounted M × (test M ≡ true)) (IsKnownWith test) (SeesCarried x) (heard_part hd x test has_it rest) (counted_with hd x test rest)
+    base_everywhere = with_entries hd x (IsCountedWith test) (IsKnownWith test) (SeesCarried x) (heard_part hd x test has_it rest) (counted_with hd x test rest)
 
     listed : KeepsPart hd x (λ M. Base M × KnowsScript M) (WithLists x (SeesCarried x))
-    listed = listed_part hd x (IsKnownWith test) (λ M. Base M × KnowsScript M) (λ M r. (r.0.0, r.1)) (λ M r. ((r.0.0.0, r.0.1), (let s = r.1 in s.0))) (SeesCarried x) (heard_part hd x test has_it rest)
+    listed = listed_part hd x (IsKnownWith test) (λ M. Base M × KnowsScript M) (λ M r. (r.0.0, r.1)) (λ M r. ((r.0.0.0.0, r.0.1), (let s = r.1 in s.0))) (SeesCarried x) (heard_part hd x test has_it rest)

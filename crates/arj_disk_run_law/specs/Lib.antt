@@ -1,4 +1,5 @@
 pub mod Bindings
+pub mod Decided
 pub mod Entries
 pub mod Facts
 pub mod Heard

@@ -1,5 +1,5 @@
 -- What is still taken of what coordinators have of naming's answers: what naming and servers count on beside what messages claim.
-use Rattle.std.specs.Prelude.{◌≡◌, ◌<◌, ℕ, Bool, true, Some, None}
+use Rattle.std.specs.Prelude.{◌≡◌, ℕ, Bool, true, Some, None}
 use Rattle.arj_protocol.specs.Words.{Asked, Head, Header, Message, asks}
 use Rattle.arj_protocol.specs.Words.ask
 use Rattle.arj_protocol.specs.Ask.{top_of}
@@ -11,6 +11,7 @@ use Rattle.arj_protocol.specs.Node.{Parts}
 use Rattle.arj_protocol.specs.Order.{uid_number}
 use Rattle.arj_protocol.specs.Step.{is_committing}
 use Rattle.arj_disk_law.specs.Names.{Office}
+use Rattle.arj_line_law.specs.Knows.{IsKept}
 use Rattle.arj_view_law.specs.Keeps.{Keeps}
 use Rattle.arj_view_law.specs.Seen.{In, Seen, up}
 use Rattle.arj_disk_view_law.specs.Confirming.{IsNewConfirm}
@@ -19,8 +20,9 @@ use Rattle.arj_disk_view_law.specs.Sees.{Kinds}
 use Rattle.arj_names_view_law.specs.Booked.{IsNext}
 use Rattle.arj_names_view_law.specs.Both.{SeesBoth}
 use Rattle.arj_disk_run_law.specs.Bindings.{AreGoodCounted, KnowsScript}
+use Rattle.arj_disk_run_law.specs.Decided.{SeesDecided}
 use Rattle.arj_disk_run_law.specs.Heard.{SeesHeard}
-use Rattle.arj_disk_run_law.specs.Versions.{EndsRaise, IsKnownVersion, SeesVersions, most_version}
+use Rattle.arj_disk_run_law.specs.Versions.{EndsRaise, IsKnownVersion, SeesVersions}
 
 -- a node of which is known what the disk half counts on, where the relation holds of the machine's state
 pub record IsHeardAt (x : ℕ) (R : Seen → Type 0) (tops : Kinds) (A : Office) (s : ℕ × Disk × Parts) (M : Seen) : Type 0 where
@@ -31,25 +33,31 @@ pub record IsHeardAt (x : ℕ) (R : Seen → Type 0) (tops : Kinds) (A : Office)
   pub heard : SeesHeard x tops A (up s.0 s.1 s.2 M)
   pub versions : SeesVersions x tops A (up s.0 s.1 s.2 M)
 
+-- versions, and what is decided
+abbrev pub SeesMore : ℕ → Kinds → Office → Seen → Type 0
+SeesMore x tops A M = SeesVersions x tops A M × SeesDecided tops A M
+
 -- what is carried beside the machine's state
 abbrev pub SeesCarried : ℕ → Kinds → Office → Seen → Type 0
-SeesCarried x tops A M = SeesHeard x tops A M × SeesVersions x tops A M
+SeesCarried x tops A M = SeesHeard x tops A M × SeesMore x tops A M
 
--- What naming counts on, and servers. Of a new Confirm the locks of servers give the next version; the ends of a message raise no copy of the
--- object but to a version that was known; and versions that were known are short.
+-- What naming counts on, and servers. Of a new Confirm the locks of servers give the next version; and the ends of a message raise no copy of
+-- the object but to a version that was known.
 pub record GivesNaming (x : ℕ) (R : Seen → Type 0) : Type 0 where
   pub next : (tops : Kinds) (k : ℕ) (d : Disk) (t : Parts) (n : Naming) (from : ℕ) (m : Message) (h : Head) (grants : Grants) (excluded included : Marks) (M : Seen) (A : Office) → IsHeardAt x R tops A (k, d, t) M → In (record { from = from; to = k; message = m }) M.sent → t.naming ≡ Some n → asks m ≡ Some (h, ask.Confirm grants excluded included)
       → IsNewConfirm h.path grants excluded included d.names n → IsNext A.world.disk (uid_number (top_of h.path))
   pub raised : (tops : Kinds) (k : ℕ) (d : Disk) (t : Parts) (from : ℕ) (m : Message) (M : Seen) (A : Office) → IsHeardAt x R tops A (k, d, t) M → In (record { from = from; to = k; message = m }) M.sent → EndsRaise x (IsKnownVersion A.world.disk) k t.server m
-  pub short : (tops : Kinds) (k : ℕ) (d : Disk) (t : Parts) (M : Seen) (A : Office) → IsHeardAt x R tops A (k, d, t) M → (v : ℕ) → IsKnownVersion A.world.disk v → v < most_version
 
 -- the answer is to one whose commit is under way
 abbrev pub answers_commit : Asked → Coord → Bool
 answers_commit a c = is_committing (doing_of a.act c)
 
--- what is known in every run of a script, with such a test
+-- what is kept everywhere, with such a test; and what is known in every run of a script
+abbrev pub IsCountedWith : (Seen → Bool) → Seen → Type 0
+IsCountedWith test M = (AreGoodCounted M × IsKept M) × (test M ≡ true)
+
 abbrev pub IsKnownWith : (Seen → Bool) → Seen → Type 0
-IsKnownWith test M = (AreGoodCounted M × (test M ≡ true)) × KnowsScript M
+IsKnownWith test M = IsCountedWith test M × KnowsScript M
 
 -- A test that each handler keeps; and where it holds beside what is known in every run, what naming and servers count on is given.
 pub record KeepsHeard (hd : Header) (x : ℕ) (test : Seen → Bool) : Type 0 where

@@ -26,9 +26,9 @@ use Rattle.arj_run_law.proofs.AllRuns.{all_keep as parts_good}
 use Rattle.arj_disk_view_law.specs.Sees.{IsLater, Kinds}
 use Rattle.arj_names_view_law.specs.Both.{OnlyFound, SeesBoth}
 use Rattle.arj_names_view_law.specs.Handlers.{Change, Changes, Quietly, change_by}
-use Rattle.arj_disk_run_law.specs.Rest.{SeesCarried}
+use Rattle.arj_disk_run_law.specs.Rest.{IsCountedWith, SeesCarried}
 use Rattle.arj_disk_run_law.specs.Part.{Going, HasHeard, KeepsPart, are_recorded, going_of}
-use Rattle.arj_disk_run_law.specs.Bindings.{AreGoodCounted, KnowsScript}
+use Rattle.arj_disk_run_law.specs.Bindings.{KnowsScript}
 use Rattle.arj_disk_run_law.proofs.BothEach.{counted_with, heard_part}
 use Rattle.arj_disk_line_law.proofs.Tying.{goes_by, journalled_beside}
 use Rattle.arj_disk_run_law.proofs.Decisions.{goes_along}
@@ -109,7 +109,7 @@ begun_beside hd x R P form there kept parts es short =
     record { sent = h.sent; stands = h.stands; holds = record { journalled = b.0; begins = subst (λ (W : machine.World). BeginsSo hd x W.disk) b.2 (let z = b.3 in z.1) } }
 
 pub runs_begin_so : RunsBeginSo
-runs_begin_so hd x test form there rest es short = begun_beside hd x (λ M. AreGoodCounted M × (test M ≡ true)) (SeesCarried x) form there (counted_with hd x test rest) (heard_part hd x test (line_there hd x form there).0 rest) es short
+runs_begin_so hd x test form there rest es short = begun_beside hd x (IsCountedWith test) (SeesCarried x) form there (counted_with hd x test rest) (heard_part hd x test (line_there hd x form there).0 rest) es short
 
 pub runs_begin_beside : RunsBeginSoBeside
 runs_begin_beside hd x part form there parts es short = begun_beside hd x IsGood (λ tops A M. part tops A M ≡ true) form there (parts_good hd) (part_few hd x IsGood (λ tops A M. part tops A M ≡ true) parts) es short

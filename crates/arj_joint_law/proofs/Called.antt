@@ -42,7 +42,8 @@ use Rattle.arj_serial_law.proofs.Locks.{number_uid, read_below, read_taken}
 use Rattle.arj_serial_law.proofs.Order.{IsShown, IsTopOf, before_top, called_first, conflict_of, in_order, its_top, listed, off_one, place_of_top, same_number, shown, stage_of_top, top_item, top_plain}
 use Rattle.arj_serial_law.proofs.Ties.{Tie, tie_of}
 use Rattle.arj_serial_law.proofs.Turning.{one_call}
-use Rattle.arj_joint_law.specs.Ordered.{AreOnce, AreTurnsOf}
+use Rattle.arj_disk_run_law.specs.Decided.{AreOnce}
+use Rattle.arj_joint_law.specs.Ordered.{AreTurnsOf}
 use Rattle.arj_joint_law.specs.Writers.{DecidedWritersStand, IsWriter, WritersAreCalledFirst, WritersAreNewestFirst}
 
 -- ---- the front of a journal

@@ -42,7 +42,8 @@ use Rattle.arj_serial_law.proofs.Including.{are_decided}
 use Rattle.arj_serial_law.proofs.Shown.{files_clean}
 use Rattle.arj_serial_law.proofs.Ties.{Ties, ties_of}
 use Rattle.arj_joint_law.specs.Cleaned.{AreLockTied, AreNamed, DecideSo, DecideThose, DecideThoseOrLate, JoinersAreNewestFirst, RunsAreClean, WholeRunsAreClean, disk_of, is_one_of, number_of}
-use Rattle.arj_joint_law.specs.Ordered.{AreOnce, AreTurnsOf, IsOrderedSo}
+use Rattle.arj_disk_run_law.specs.Decided.{AreOnce}
+use Rattle.arj_joint_law.specs.Ordered.{AreTurnsOf, IsOrderedSo}
 use Rattle.arj_joint_law.specs.Shown.{FilesAre, IncludesAreThere}
 use Rattle.arj_joint_law.specs.Writers.{WritersAreNewestFirst}
 use Rattle.arj_joint_law.proofs.Called.{decided_writers_stand, decision_of, number_is, one_number, those_of, wrote_something}

@@ -3,10 +3,9 @@ use Rattle.std.proofs.Common.{◌≡◌, ◌==◌, ℕ, true, List, is_some, sub
 use Rattle.arj_joint_law.specs.Joined.{IsJoinedSo, RunsAreJoined, world_of}
 use Rattle.arj_joint_law.proofs.Joining.{HasLocks, WithLocks, locks_part}
 use Rattle.arj_joint_law.proofs.OrderedRuns.{IsOrderedBeside, ordered_beside}
-use Rattle.arj_disk_run_law.specs.Bindings.{AreGoodCounted}
 use Rattle.arj_disk_run_law.proofs.BothEach.{counted_with, heard_part}
 use Rattle.arj_disk_run_law.specs.Part.{KeepsPart}
-use Rattle.arj_disk_run_law.specs.Rest.{IsKnownWith, SeesCarried}
+use Rattle.arj_disk_run_law.specs.Rest.{IsCountedWith, IsKnownWith, SeesCarried}
 use Rattle.arj_call_law.specs.Runs.{KnowsFew}
 use Rattle.arj_lock_whole_law.specs.Whole.{KnowsWhole}
 use Rattle.arj_lock_whole_law.proofs.WholeRuns.{kept_of_all}
@@ -41,7 +40,7 @@ header_has hd x there = by (object_line hd x) refl there
 
 pub runs_are_joined : RunsAreJoined
 runs_are_joined hd x heard test form there kept rest es short =
-    let h = ordered_beside hd x (λ M. AreGoodCounted M × (heard M ≡ true)) Joined form there (counted_with hd x heard kept) part es short in
+    let h = ordered_beside hd x (IsCountedWith heard) Joined form there (counted_with hd x heard kept) part es short in
     record { sent = h.sent; stands = h.stands; holds = joined h.sent h.holds }
   where
     has : HasObject hd x

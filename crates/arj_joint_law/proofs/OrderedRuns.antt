@@ -20,8 +20,8 @@ use Rattle.arj_disk_run_law.proofs.Scripts.{part_few}
 use Rattle.arj_run_law.specs.Worlds.{IsGood}
 use Rattle.arj_run_law.proofs.AllRuns.{all_keep as parts_good}
 use Rattle.arj_disk_view_law.specs.Sees.{Kinds}
-use Rattle.arj_disk_run_law.specs.Bindings.{AreGoodCounted, KnowsScript}
-use Rattle.arj_disk_run_law.specs.Rest.{SeesCarried}
+use Rattle.arj_disk_run_law.specs.Bindings.{KnowsScript}
+use Rattle.arj_disk_run_law.specs.Rest.{IsCountedWith, SeesCarried}
 use Rattle.arj_disk_run_law.specs.Part.{KeepsPart}
 use Rattle.arj_disk_run_law.proofs.BothEach.{counted_with, heard_part}
 use Rattle.arj_line_law.specs.Book.{book, is_top, new_book}
@@ -36,7 +36,8 @@ use Rattle.arj_disk_line_law.specs.Said.{IsPlain, WithTie}
 use Rattle.arj_disk_line_law.proofs.IdleKnown.{KnowsIdle, knows_idle}
 use Rattle.arj_disk_line_law.proofs.Tying.{both_too, journalled_beside, one_act, tied_part}
 use Rattle.arj_serial_law.specs.Cleaned.{BeginsSo}
-use Rattle.arj_joint_law.specs.Ordered.{AreCalled, AreOnce, AreTurns, AreTurnsOf, IsCalledFirst, IsOrderedSo, RunsAreOrdered, RunsAreOrderedBeside}
+use Rattle.arj_disk_run_law.specs.Decided.{AreCalled, AreOnce}
+use Rattle.arj_joint_law.specs.Ordered.{AreTurns, AreTurnsOf, IsCalledFirst, IsOrderedSo, RunsAreOrdered, RunsAreOrderedBeside}
 use Rattle.arj_joint_law.proofs.Beginning.{WithFirst, first_begins, first_part}
 use Rattle.arj_joint_law.proofs.Firsts.{line_there}
 use Rattle.arj_joint_law.proofs.Ordering.{ordered_part}
@@ -95,7 +96,7 @@ ordered : (hd : Header) (x : ℕ) (P : Kinds → Office → Seen → Type 0) (es
 ordered hd x P es h = record { sent = h.sent; stands = h.stands; holds = (let z = h.holds in z.0) }
 
 pub runs_are_ordered : RunsAreOrdered
-runs_are_ordered hd x test form there rest es short = ordered hd x (SeesCarried x) es (ordered_beside hd x (λ M. AreGoodCounted M × (test M ≡ true)) (SeesCarried x) form there (counted_with hd x test rest) (heard_part hd x test (line_there hd x form there).0 rest) es short)
+runs_are_ordered hd x test form there rest es short = ordered hd x (SeesCarried x) es (ordered_beside hd x (IsCountedWith test) (SeesCarried x) form there (counted_with hd x test rest) (heard_part hd x test (line_there hd x form there).0 rest) es short)
 
 pub runs_are_ordered_beside : RunsAreOrderedBeside
 runs_are_ordered_beside hd x part form there parts es short = ordered hd x (λ tops A M. part tops A M ≡ true) es (ordered_beside hd x IsGood (λ tops A M. part tops A M ≡ true) form there (parts_good hd) (part_few hd x IsGood (λ tops A M. part tops A M ≡ true) parts) es short)

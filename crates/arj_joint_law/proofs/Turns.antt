@@ -1,43 +1,31 @@
 -- Tops that a step decides come behind those that were decided: by the journal their turns are kept.
-use Rattle.std.proofs.Common.{◌≡◌, ◌⊎◌, ◌==◌, ℕ, List, [], ◌∷◌, ◌++◌, Bool, true, false, refl, sym, ◌∙◌, ap, subst, inl, inr, ⊎_elim}
+use Rattle.std.proofs.Common.{◌≡◌, ◌⊎◌, ℕ, List, [], ◌∷◌, ◌++◌, true, false, refl, sym, ◌∙◌, ap, subst, inl, inr, ⊎_elim}
 use Rattle.arj_base.specs.Rows.{is_on}
 use Rattle.arj_protocol.specs.Words.{Line, Uid}
 use Rattle.arj_protocol.specs.Order.{uid_number}
 use Rattle.arj_disk_law.specs.Effects as machine
-use Rattle.arj_disk_law.specs.Effects.{Effect, Follows, Whole, World, after, done_of, run}
-use Rattle.arj_disk_law.specs.Guards.{AreOnlyOf, Decides, Note, is_only_of}
-use Rattle.arj_disk_law.specs.State.{Done, decided, decided_in}
+use Rattle.arj_disk_law.specs.Effects.{Whole, World}
+use Rattle.arj_disk_law.specs.State.{Done, decided}
 use Rattle.arj_disk_law.specs.Words.{In}
-use Rattle.arj_disk_law.proofs.Base.{bool_cases, never, or_right}
+use Rattle.arj_disk_law.proofs.Base.{bool_cases, never}
 use Rattle.arj_disk_law.proofs.History.{in_decided}
 use Rattle.arj_view_law.specs.Seen.{Seen}
 use Rattle.arj_disk_view_law.specs.Sees.{IsLater}
 use Rattle.arj_line_law.specs.Book.{book, is_decided}
 use Rattle.arj_line_law.specs.Knows.{IsKept}
-use Rattle.arj_line_law.proofs.Books.{Later, decided_later}
+use Rattle.arj_line_law.proofs.Books.{decided_later}
 use Rattle.arj_disk_line_law.specs.Said.{AreDone, IsDoneBy, IsPlain}
 use Rattle.arj_disk_line_law.proofs.IdleKnown.{KnowsIdle}
-use Rattle.arj_disk_line_law.proofs.Steps.{later_lines, plain_more}
-use Rattle.arj_joint_law.specs.Ordered.{AreCalled, AreOnce, AreTurns, IsCalledFirst, IsOrdered, IsTurn, NewTops}
+use Rattle.arj_disk_line_law.proofs.Steps.{plain_more}
+use Rattle.arj_disk_run_law.specs.Decided.{AreCalled, NewTops}
+use Rattle.arj_disk_run_law.proofs.Grows.{called_later, in_both, in_front, later_lines}
+use Rattle.arj_joint_law.specs.Ordered.{AreTurns, IsCalledFirst, IsOrdered, IsTurn}
 
 and_more : (xs ys zs : List Line) → (xs ++ ys) ++ zs ≡ xs ++ (ys ++ zs)
 and_more [] ys zs = refl
 and_more (x ∷ xs) ys zs = ap (λ ws. x ∷ ws) (and_more xs ys zs)
 
-in_both : (d : Done) (xs ys : List Done) → In d (xs ++ ys) → In d xs ⊎ In d ys
-in_both d [] ys i = inr i
-in_both d (x ∷ xs) ys (inl same) = inl (inl same)
-in_both d (x ∷ xs) ys (inr i) = ⊎_elim (λ a. inl (inr a)) (λ b. inr b) (in_both d xs ys i)
-
-in_front : (d : Done) (xs ys : List Done) → In d xs → In d (xs ++ ys)
-in_front d [] ys i = absurd i
-in_front d (x ∷ xs) ys (inl same) = inl same
-in_front d (x ∷ xs) ys (inr i) = inr (in_front d xs ys i)
-
 -- ---- more lines
-
-called_later : (ls ks : List Line) (u : Uid) → is_on (book ls).called u ≡ true → is_on (book (ls ++ ks)).called u ≡ true
-called_later ls ks u on = let l : Later (book ls) (book (ls ++ ks)) = later_lines ls ks in l.called u on
 
 module _ (Idle : List Line → Uid → Type 0) (ls ks : List Line) (stays : (u : Uid) → Idle ls u → Idle (ls ++ ks) u) where
   turn_later : (e d : ℕ) → IsTurn Idle ls e d → IsTurn Idle (ls ++ ks) e d
@@ -97,71 +85,3 @@ module _ (R : Seen → Type 0) (Idle : List Line → Uid → Type 0) (idles : Kn
     where
       called_so : AreCalled (M.lines ++ more) (n.new ++ W.disk.tops)
       called_so d i u ud = called_later M.lines more u (⊎_elim (λ a. n.called d a u ud) (λ b. o.called d b u ud) (in_both d n.new W.disk.tops i))
-
--- ---- what a walk of the machine decides
-
--- tops that weren't decided, and that may be
-pub record Grew (f : Note → Bool) (W V : World) : Type 0 where
-  pub new : List Done
-  pub are : V.disk.tops ≡ new ++ W.disk.tops
-  pub undone : (d : Done) → In d new → decided W.disk d.top ≡ false
-  pub once : AreOnce W.disk.tops → AreOnce V.disk.tops
-  pub noted : (d : Done) → In d new → f (Decides d.top) ≡ true
-
-module _ (f : Note → Bool) where
-  same_tops : (W V : World) → V.disk.tops ≡ W.disk.tops → Grew f W V
-  same_tops W V is = record { new = []; are = is; undone = λ d i. absurd i; once = λ o. subst AreOnce (sym is) o; noted = λ d i. absurd i }
-
-  effect_grows : (W : World) (e : Effect) → is_only_of f e ≡ true → machine.Allowed W e → Grew f W (after W e)
-  effect_grows W (machine.Decide t) only can = record { new = done_of W.disk t ∷ []; are = refl; undone = λ d i. by d i; once = λ o. (can.1, o); noted = λ d i. on d i }
-    where
-      by : (d : Done) → In d (done_of W.disk t ∷ []) → decided W.disk d.top ≡ false
-      by d (inl same) = ap (λ (c : Done). decided W.disk c.top) (sym same) ∙ can.1
-      by d (inr i) = absurd i
-
-      on : (d : Done) → In d (done_of W.disk t ∷ []) → f (Decides d.top) ≡ true
-      on d (inl same) = ap (λ (c : Done). f (Decides c.top)) (sym same) ∙ only
-      on d (inr i) = absurd i
-  effect_grows W (machine.Begin t p) only can = same_tops W (after W (machine.Begin t p)) refl
-  effect_grows W (machine.Take t s) only can = same_tops W (after W (machine.Take t s)) refl
-  effect_grows W (machine.Seal t) only can = same_tops W (after W (machine.Seal t)) refl
-  effect_grows W (machine.Intend t nodes) only can = same_tops W (after W (machine.Intend t nodes)) refl
-  effect_grows W (machine.Remove t nodes) only can = same_tops W (after W (machine.Remove t nodes)) refl
-  effect_grows W (machine.EndBare t) only can = same_tops W (after W (machine.EndBare t)) refl
-  effect_grows W (machine.Halt t) only can = same_tops W (after W (machine.Halt t)) refl
-  effect_grows W (machine.Keep t s) only can = same_tops W (after W (machine.Keep t s)) refl
-  effect_grows W (machine.Move s h) only can = same_tops W (after W (machine.Move s h)) refl
-  effect_grows W (machine.Finish s h) only can = same_tops W (after W (machine.Finish s h)) refl
-  effect_grows W (machine.Drop s h) only can = same_tops W (after W (machine.Drop s h)) refl
-  effect_grows W (machine.Agree t) only can = same_tops W (after W (machine.Agree t)) refl
-  effect_grows W (machine.Pass t) only can = same_tops W (after W (machine.Pass t)) refl
-  effect_grows W (machine.Enter t) only can = same_tops W (after W (machine.Enter t)) refl
-  effect_grows W (machine.MoveEntry h) only can = same_tops W (after W (machine.MoveEntry h)) refl
-  effect_grows W (machine.FinishEntry h) only can = same_tops W (after W (machine.FinishEntry h)) refl
-  effect_grows W (machine.DropEntry h) only can = same_tops W (after W (machine.DropEntry h)) refl
-  effect_grows W (machine.Forget r h) only can = same_tops W (after W (machine.Forget r h)) refl
-  effect_grows W (machine.Send m) only can = same_tops W (after W (machine.Send m)) refl
-
-  grown_on : (W U V : World) → Grew f W U → Grew f U V → Grew f W V
-  grown_on W U V a b = record {
-    new = b.new ++ a.new;
-    are = b.are ∙ ap (λ ds. b.new ++ ds) a.are ∙ sym (dones_more b.new a.new W.disk.tops);
-    undone = λ d i. ⊎_elim (λ here. earlier d (b.undone d here)) (λ there. a.undone d there) (in_both d b.new a.new i);
-    once = λ o. b.once (a.once o);
-    noted = λ d i. ⊎_elim (λ here. b.noted d here) (λ there. a.noted d there) (in_both d b.new a.new i);
-  }
-    where
-      dones_more : (xs ys zs : List Done) → (xs ++ ys) ++ zs ≡ xs ++ (ys ++ zs)
-      dones_more [] ys zs = refl
-      dones_more (x ∷ xs) ys zs = ap (λ ws. x ∷ ws) (dones_more xs ys zs)
-
-      among : (t : ℕ) (xs ys : List Done) → decided_in ys t ≡ true → decided_in (xs ++ ys) t ≡ true
-      among t [] ys on = on
-      among t (x ∷ xs) ys on = or_right (x.top == t) (decided_in (xs ++ ys) t) (among t xs ys on)
-
-      earlier : (d : Done) → decided U.disk d.top ≡ false → decided W.disk d.top ≡ false
-      earlier d off = ⊎_elim (λ on. absurd (never (ap (λ ds. decided_in ds d.top) a.are ∙ among d.top a.new W.disk.tops on) off)) (λ no. no) (bool_cases (decided W.disk d.top))
-
-  pub effects_grow : (W : World) (es : List Effect) → AreOnlyOf f es → Follows W es → Grew f W (run W es)
-  effects_grow W [] only follows = same_tops W W refl
-  effects_grow W (e ∷ es) only follows = grown_on W (after W e) (run W (e ∷ es)) (effect_grows W e only.0 follows.0) (effects_grow (after W e) es only.1 follows.1)

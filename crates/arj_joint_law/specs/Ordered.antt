@@ -9,13 +9,14 @@ use Rattle.arj_protocol.specs.Order.{uid_number}
 use Rattle.arj_protocol.specs.World.{Asked, format, run_all}
 use Rattle.arj_disk_law.specs.Effects.{World}
 use Rattle.arj_disk_law.specs.Names.{Office}
-use Rattle.arj_disk_law.specs.State.{Done, decided, decided_in}
+use Rattle.arj_disk_law.specs.State.{Done, decided}
 use Rattle.arj_disk_law.specs.Words.{In}
 use Rattle.arj_view_law.specs.Keeps.{Holds}
 use Rattle.arj_view_law.specs.Seen.{Seen}
 use Rattle.arj_binding_law.specs.Scripts.{most_events}
 use Rattle.arj_call_law.specs.Runs.{KnowsFew}
 use Rattle.arj_disk_view_law.specs.Sees.{Kinds}
+use Rattle.arj_disk_run_law.specs.Decided.{AreCalled, AreOnce}
 use Rattle.arj_disk_run_law.specs.Part.{KeepsPart}
 use Rattle.arj_disk_run_law.specs.Rest.{KeepsHeard}
 use Rattle.arj_disk_line_law.specs.Said.{IsPlain}
@@ -40,30 +41,11 @@ abbrev pub AreTurns : (List Line → Uid → Type 0) → List Line → List Done
 AreTurns Idle lines [] = ⊤
 AreTurns Idle lines (d ∷ ds) = ((e : Done) → In e ds → IsTurn Idle lines e.top d.top) × AreTurns Idle lines ds
 
--- the commit of each was called
-abbrev pub AreCalled : List Line → List Done → Type 0
-AreCalled lines ds = (d : Done) → In d ds → (u : Uid) → uid_number u ≡ d.top → is_on (let B = book lines in B.called) u ≡ true
-
--- no top is decided twice
-abbrev pub AreOnce : List Done → Type 0
-AreOnce [] = ⊤
-AreOnce (d ∷ ds) = (decided_in ds d.top ≡ false) × AreOnce ds
-
 -- The machine's decided tops, each decided once, had their commits called, each before any that was decided after it was decided itself.
 pub record IsOrdered (Idle : List Line → Uid → Type 0) (W : World) (M : Seen) : Type 0 where
   pub once : AreOnce (let S = W.disk in S.tops)
   pub called : AreCalled M.lines (let S = W.disk in S.tops)
   pub turns : AreTurns Idle M.lines (let S = W.disk in S.tops)
-
--- ---- a step
-
--- What a step of the machine decided: tops that weren't, each once, and whose commits had been called by these lines.
-pub record NewTops (W V : World) (lines : List Line) : Type 0 where
-  pub new : List Done
-  pub are : (let S = V.disk in S.tops) ≡ new ++ (let S = W.disk in S.tops)
-  pub undone : (d : Done) → In d new → decided W.disk d.top ≡ false
-  pub once : AreOnce (let S = W.disk in S.tops) → AreOnce (let S = V.disk in S.tops)
-  pub called : AreCalled lines new
 
 -- ---- runs
 

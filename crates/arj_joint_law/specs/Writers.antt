@@ -11,7 +11,8 @@ use Rattle.arj_line_law.specs.Right.{AreRight}
 use Rattle.arj_lock_law.specs.State.{State}
 use Rattle.arj_serial_law.specs.Decided.{AreDecisions, Wrote}
 use Rattle.arj_serial_law.specs.Tied.{IsTied}
-use Rattle.arj_joint_law.specs.Ordered.{AreOnce, AreTurnsOf, IsCalledFirst}
+use Rattle.arj_disk_run_law.specs.Decided.{AreOnce}
+use Rattle.arj_joint_law.specs.Ordered.{AreTurnsOf, IsCalledFirst}
 
 -- a top of the journal that wrote the object, with its action
 pub record IsWriter (lines : List Line) (x : ℕ) (t : Top) (a : Act) : Type 0 where
