@@ -241,7 +241,7 @@ module _ (hd : Header) (x : ℕ) (R G : Seen → Type 0) (P : Kinds → Office �
         both_along tops (OnlyFound (are_recorded d.intents) A) e k outs v d M (parts.restart tops e k d M A walk (r.0.0, r.1) both part)
         (tied_walk R Idle idles x tops A.world (down k d M) tie.0 tie.1 (OnlyFound (are_recorded d.intents) A) (λ B c. goes_along (are_recorded d.intents) A.world B.world (let z = both.disks in z.whole) c.along) (λ u. (i : Intent) × Among (u, i) d.intents) e k outs v d M (found tops M k d)
         (both_too.restart e k d M r.0) (step_walk k d None M e v outs d M (near_same M) (λ down. restart_plain [] hd k d) (λ down. refl)) (turns (λ u. (i : Intent) × Among (u, i) d.intents) e k outs d M M refl g.late));
-    first = λ tops walk kinds. let f = parts.first tops walk kinds in (f.0, f.1, (f.2, tied_first Idle f.0.world (see [] (format hd)) f.3 refl), f.3);
+    first = λ tops walk kinds. let f = parts.first tops walk kinds in (f.0, f.1, (f.2, tied_first Idle f.0.world (see [] (format hd)) f.3 refl), f.3, f.4);
   }
     where
       quiet_step : (e : ℕ) (bs : List Body) (M : Seen) → IsStep M (said e bs M)

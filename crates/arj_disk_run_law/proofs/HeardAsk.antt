@@ -87,6 +87,7 @@ pub answers_memory : (A D : Office) → OnlyAnswers A D → LeavesRoots A D → 
 answers_memory A D only roots = record {
   later = subst (λ W. IsLater A.world W) (sym only.world) (later_same A.world);
   tops = ap (λ W. let S = W in S.disk.tops) only.world;
+  bare = λ t is. ap (λ W. let S = W in S.disk.bare t) (sym only.world) ∙ is;
   had = roots.0;
   kept = roots.1;
   answers = only.answers;

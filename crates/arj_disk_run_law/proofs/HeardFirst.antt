@@ -87,5 +87,5 @@ module _ (hd : Header) (x : ℕ) (tops : Kinds) (kinds : KnowsKinds tops) (A : O
     posts = λ q i. absurd i;
   }
 
-pub heard_first : (hd : Header) (x : ℕ) (tops : Kinds) → HasObject hd x → tops.walk ≡ None → KnowsKinds tops → (A : Office) × SeesBoth x tops A (see [] (format hd)) × SeesHeard x tops A (see [] (format hd)) × (A.world.disk.tops ≡ []) × (A.world.disk.first.version ≡ 0)
-heard_first hd x tops has unwalked kinds = let f = formats_have_first hd x tops unwalked has kinds.alone kinds.plain kinds.idem (first_entries hd) in (f.0, f.1, first_heard hd x tops kinds f.0 f.1 f.2 f.3 f.4, f.3, f.5)
+pub heard_first : (hd : Header) (x : ℕ) (tops : Kinds) → HasObject hd x → tops.walk ≡ None → KnowsKinds tops → (A : Office) × SeesBoth x tops A (see [] (format hd)) × SeesHeard x tops A (see [] (format hd)) × (A.world.disk.tops ≡ []) × (A.world.disk.first.version ≡ 0) × ((t : ℕ) → A.world.disk.bare t ≡ false)
+heard_first hd x tops has unwalked kinds = let f = formats_have_first hd x tops unwalked has kinds.alone kinds.plain kinds.idem (first_entries hd) in (f.0, f.1, first_heard hd x tops kinds f.0 f.1 f.2 f.3 f.4, f.3, f.5, f.6)

@@ -157,5 +157,5 @@ heard_kept hd x R good knows_more has gives = record {
       (versions_walk x (IsKnownVersion A.world.disk) k M (rest_of x (IsKnownVersion A.world.disk) k d None M w.0) e outs v d M refl (let q = w.0 in q.posts) (starts_so x (IsKnownVersion A.world.disk) k (d.inc + 1) d)
       (sends_so x (IsKnownVersion A.world.disk) outs (restart_so (fits_of x (IsKnownVersion A.world.disk)) (keep x (IsKnownVersion A.world.disk)) hd k d))))
       (decided_from x tops C A (down k d M) w.1 (λ B c. ((goes_along (are_recorded d.intents) A.world B.world (let s = both.disks in s.whole) c.along).1, along_new (are_recorded d.intents) M.lines A.world B.world (λ z on u uz. found_there k d M (knows_more _ r).3 z on u uz) c.along)) e k outs v d M ([], sym (none_more M.lines))));
-  first = λ tops walk kinds. let f = heard_first hd x tops has walk kinds in (f.0, f.1, (f.2, (first_versions hd x (IsKnownVersion (let A = f.0 in A.world.disk)), first_decided hd tops f.0 f.3 f.4)), f.3);
+  first = λ tops walk kinds. let f = heard_first hd x tops has walk kinds in (f.0, f.1, (f.2, (first_versions hd x (IsKnownVersion (let A = f.0 in A.world.disk)), first_decided hd tops f.0 f.3 f.4)), f.3, f.5);
 }

@@ -31,7 +31,7 @@ use Rattle.arj_coord_law.specs.Uses.{KnowsUses}
 use Rattle.arj_disk_law.specs.Names.{Names, Office}
 use Rattle.arj_disk_law.specs.State as disk
 use Rattle.arj_disk_law.specs.Words.{In as InList}
-use Rattle.arj_disk_law.proofs.Base.{falls_to, never, or_left, test_is, test_same}
+use Rattle.arj_disk_law.proofs.Base.{bool_cases, falls_to, never, or_left, test_is, test_same}
 use Rattle.arj_view_law.specs.Seen.{In, Seen, up}
 use Rattle.arj_view_law.specs.Walks.{Up}
 use Rattle.arj_disk_view_law.specs.Coordinating.{KnowsNode}
@@ -56,6 +56,8 @@ use Rattle.arj_disk_run_law.proofs.HeardDecisions.{heard_decided}
 use Rattle.arj_disk_run_law.proofs.HeardOther.{took_to}
 use Rattle.arj_disk_run_law.proofs.VersionWalks.{voted_based}
 use Rattle.arj_disk_run_law.proofs.HeardVotes.{heard_refused, heard_store, heard_vote}
+use Rattle.arj_disk_law.specs.Guards.{only_decides}
+use Rattle.arj_names_view_law.proofs.BareEnds.{none_ended}
 
 -- ---- an abort has no work on the disk
 
@@ -146,6 +148,7 @@ module _ (x : ℕ) (tops : Kinds) (e k : ℕ) (d : Disk) (t : Parts) (M : Seen) 
           undecided z = record {
             later = later;
             tops = z.tops;
+            bare = λ y on. ⊎_elim (λ (own : (y == uid_number u) ≡ true). let same = test_is y (uid_number u) own in ap C.world.disk.bare same ∙ z.bare (ap B.world.disk.bare (sym same) ∙ on)) (λ (other : (y == uid_number u) ≡ false). none_ended (only_decides (λ k. k == uid_number u)) y other C.world B.world c.along on) (bool_cases (y == uid_number u));
             had = ap (λ (m : Names). m.had) z.names;
             kept = ap (λ (m : Names). m.kept) z.names;
             answers = λ a i. subst (λ (m : Names). InList a m.answers) (sym z.names) i;

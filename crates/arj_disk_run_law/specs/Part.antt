@@ -1,6 +1,6 @@
 -- What coordinators have of naming's answers, and what messages claim of them, as a relation between the machine's state and what
 -- is seen: what it has to give so that naming's half is kept beside the disk half, and what has to be kept of it.
-use Rattle.std.specs.Prelude.{◌≡◌, ◌+◌, ◌==◌, ℕ, Bool, true, List, [], Option, None, Some}
+use Rattle.std.specs.Prelude.{◌≡◌, ◌+◌, ◌==◌, ℕ, Bool, true, false, List, [], Option, None, Some}
 use Rattle.std.specs.List.{list_any}
 use Rattle.arj_protocol.specs.Words.{Uid, Body, Header, Kind, Label, Message}
 use Rattle.arj_protocol.specs.Asking.{again_all, begin_action}
@@ -85,7 +85,7 @@ pub record KeepsPart (hd : Header) (x : ℕ) (R : Seen → Type 0) (P : Kinds �
   pub tick : (tops : Kinds) (e k : ℕ) (d : Disk) (t : Parts) (M : Seen) (A : Office) → tops.walk ≡ None → KnowsNode tops k d t M → R (up k d t M) → SeesBoth x tops A (up k d t M) → P tops A (up k d t M) → HoldsAlong (HoldsFrom P x tops Quietly A) (ticking e k d t) M
   pub restart : (tops : Kinds) (e k : ℕ) (d : Disk) (M : Seen) (A : Office) → tops.walk ≡ None → R (down k d M) → SeesBoth x tops A (down k d M) → P tops A (down k d M)
       → Walks (HoldsAgain P x tops (are_recorded d.intents) A) e k (restart_outs hd k (d.inc + 1) d) (Up (HoldsAgain P x tops (are_recorded d.intents) A) k (parts_in k (d.inc + 1) d)) d M
-  pub first : (tops : Kinds) → tops.walk ≡ None → KnowsKinds tops → (A : Office) × SeesBoth x tops A (see [] (format hd)) × P tops A (see [] (format hd)) × (A.world.disk.tops ≡ [])
+  pub first : (tops : Kinds) → tops.walk ≡ None → KnowsKinds tops → (A : Office) × SeesBoth x tops A (see [] (format hd)) × P tops A (see [] (format hd)) × (A.world.disk.tops ≡ []) × ((t : ℕ) → A.world.disk.bare t ≡ false)
 
 -- the state of the machine that is carried through a run: both halves are seen in it, and the relation holds of it
 abbrev pub IsCarried : (Kinds → Office → Seen → Type 0) → ℕ → Kinds → Seen → Type 0

@@ -84,7 +84,7 @@ module _ (hd : Header) (x : ℕ) (R : Seen → Type 0) (P : Kinds → Office →
     restart = λ tops e k d M A walk r both (part, b).
         along tops (OnlyFound (are_recorded d.intents) A) (λ B c. begins_later hd x A.world B.world (goes_along (are_recorded d.intents) A.world B.world (let z = both.disks in z.whole) c.along).1 b) e k (restart_outs hd k (d.inc + 1) d) (parts_in k (d.inc + 1) d) d M
         (parts.restart tops e k d M A walk r both part);
-    first = λ tops walk kinds. let f = parts.first tops walk kinds in (f.0, f.1, (f.2, first tops f.0 walk f.1 f.3), f.3);
+    first = λ tops walk kinds. let f = parts.first tops walk kinds in (f.0, f.1, (f.2, first tops f.0 walk f.1 f.3), f.3, f.4);
   }
 
 -- ---- every run

@@ -48,7 +48,7 @@ use Rattle.arj_joint_law.specs.Shown.{FilesAre, IncludesAreThere}
 use Rattle.arj_joint_law.specs.Writers.{WritersAreNewestFirst}
 use Rattle.arj_joint_law.proofs.Called.{decided_writers_stand, decision_of, number_is, one_number, those_of, wrote_something}
 use Rattle.arj_joint_law.proofs.FormRuns.{runs_have_form}
-use Rattle.arj_joint_law.specs.Joined.{AreWritten, IsJoinedSo}
+use Rattle.arj_joint_law.specs.Joined.{AreBareSo, AreWritten, IsJoinedSo}
 use Rattle.arj_joint_law.proofs.JoinedRuns.{header_has, runs_are_joined}
 use Rattle.arj_joint_law.proofs.OrderedRuns.{runs_are_ordered}
 use Rattle.arj_joint_law.proofs.Showing.{files_show_disks}
@@ -145,7 +145,7 @@ Held hd es = (x : ℕ) → is_some (object_line hd x) ≡ true → Holds hd (IsO
 
 -- in which they are named, and wrote what they gave
 abbrev pub Decides : (hd : Header) (es : List Asked) → Held hd es → Type 0
-Decides hd es held = (x : ℕ) (there : is_some (object_line hd x) ≡ true) → (d : DecideThoseOrLate hd (journal hd es) x (disk_of (let h = held x there in h.holds))) × AreWritten (first_values hd) (journal hd es) x d.others
+Decides hd es held = (x : ℕ) (there : is_some (object_line hd x) ≡ true) → (d : DecideThoseOrLate hd (journal hd es) x (disk_of (let h = held x there in h.holds))) × AreWritten (first_values hd) (journal hd es) x d.others × AreBareSo (journal hd es) x (disk_of (let h = held x there in h.holds))
 
 module _ (hd : Header) (es : List Asked) (form : HeaderInForm hd) (tied : AreLockTied hd (journal hd es)) (held : Held hd es) (decide : Decides hd es held) where
   abbrev w : World
@@ -211,7 +211,7 @@ module _ (hd : Header) (es : List Asked) (form : HeaderInForm hd) (tied : AreLoc
             (λ early. absurd (d.silent r.0 t early (in_to t (tops (journal hd es)) i) (r.2 ∙ sym number) wrote))
             (λ other. counts r.0 other r.2 (let e = r.0 in e.counts) refl)
             (in_either r.0 d.late d.others (subst (disk.In r.0) d.are r.1))
-        by (inr (inl bare)) = absurd (its.light t (in_to t (tops (journal hd es)) i) (ap (let S = disk_of h.holds in S.bare) number ∙ bare) wrote)
+        by (inr (inl bare)) = absurd (let d3 = decide x there in d3.2 t (in_to t (tops (journal hd es)) i) (ap (let S = disk_of h.holds in S.bare) number ∙ bare) wrote)
         by (inr (inr none)) = absurd (wrote_something (journal hd es) x t k.act k.number wrote none)
 
     all : (t : Top) → Contains (tops (journal hd es)) t → (is_one_of its.those t ≡ true) ⊎ Wrote (journal hd es) x t → Contains its.those t
@@ -306,7 +306,8 @@ held_in hd es joined x there = let h = joined x there in record { sent = h.sent;
 pub decides_in : (hd : Header) (es : List Asked) (joined : (x : ℕ) → is_some (object_line hd x) ≡ true → Holds hd (IsJoinedSo hd x) (run_all es (format hd))) → ((x : ℕ) → is_some (object_line hd x) ≡ true → DecideSo hd x es) → Decides hd es (held_in hd es joined)
 decides_in hd es joined decide x there =
     let d = decide x there (held_in hd es joined x there) in
-    (d, λ e t i. (let h = joined x there in let j = h.holds in j.wrote e t (subst (disk.In e) (sym d.are) (in_behind e d.late d.others i))))
+    let j = (let h = joined x there in h.holds) in
+    (d, (λ e t i. j.wrote e t (subst (disk.In e) (sym d.are) (in_behind e d.late d.others i))), j.bare)
 
 pub whole_runs_are_clean : WholeRunsAreClean
 whole_runs_are_clean hd es disks heard_so test form short heard rest decide files =

@@ -26,7 +26,7 @@ use Rattle.arj_line_law.specs.Book.{new_book}
 use Rattle.arj_line_law.specs.Right.{AreRight}
 use Rattle.arj_line_law.proofs.Runs.{run_written}
 use Rattle.arj_serial_law.specs.Seen.{RequestsAreOne}
-use Rattle.arj_joint_law.proofs.Written.{wrote}
+use Rattle.arj_joint_law.proofs.Written.{bare, wrote}
 use Rattle.arj_lock_fact_law.specs.Entries.{HasObject}
 
 pub header_has : (hd : Header) (x : ℕ) → is_some (object_line hd x) ≡ true → HasObject hd x
@@ -66,6 +66,7 @@ runs_are_joined hd x heard test form there kept rest es short =
       seen = locks.3;
       requests = requests;
       wrote = (let b = o.begun in let j = b.journalled in wrote hd es x (first_values hd) right sent j.tops j.machine j.sees locks.0 locks.1 (λ f a. let z = locks.3 f a in (z.0, z.1, z.2, z.4)) requests);
+      bare = (let b = o.begun in let j = b.journalled in bare hd es x (first_values hd) right sent j.tops j.machine j.sees locks.0 locks.1 (λ f a. let z = locks.3 f a in (z.0, z.1, z.2, z.4)) requests);
     }
       where
         M : Seen

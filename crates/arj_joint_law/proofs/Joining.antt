@@ -1,6 +1,6 @@
 -- Both machines of an object beside each other, through each handler: what the disk machine has in the plans of decided tops is what was voted, by
 -- the lock machine.
-use Rattle.std.proofs.Common.{◌≡◌, ℕ, ◌+◌, true, List, [], ◌∷◌, Option, None, Some, is_some, refl, sym, ◌∙◌, ap, subst, inl, inr, ⊎_elim}
+use Rattle.std.proofs.Common.{◌≡◌, ◌⊎◌, ℕ, ◌+◌, Bool, true, false, List, [], ◌∷◌, Option, None, Some, is_some, refl, sym, ◌∙◌, ap, subst, inl, inr, ⊎_elim}
 use Rattle.std.specs.Prelude.{⊤}
 use Rattle.arj_base.proofs.Uids.{uid_is}
 use Rattle.arj_lock.proofs.Members as list
@@ -19,7 +19,7 @@ use Rattle.arj_part_law.proofs.Keys.{at_in}
 use Rattle.arj_disk_law.specs.Effects as machine
 use Rattle.arj_disk_law.specs.Effects.{World}
 use Rattle.arj_disk_law.specs.Names.{Office}
-use Rattle.arj_disk_law.specs.State.{decided, decided_in}
+use Rattle.arj_disk_law.specs.State.{Plan, decided, decided_in}
 use Rattle.arj_disk_law.proofs.Base.{never}
 use Rattle.arj_lock_law.specs.Machine.{Run, stay}
 use Rattle.arj_lock_law.specs.State.{State}
@@ -56,6 +56,7 @@ use Rattle.arj_lock_run_law.specs.Votes.{AreVotedAt}
 use Rattle.arj_lock_run_law.proofs.KeptSteps.{LocksFrom, LocksSo, agree_older, first_kept, kept_act, kept_begin, kept_message, kept_restart, kept_tick, quiet_kept, stop_kept}
 use Rattle.arj_joint_law.specs.Joined.{ArePlannedSo, ChangesCalled, IsPlannedSo, IsRecordedAt}
 use Rattle.arj_joint_law.proofs.Counting.{at_commit, changed_counted}
+use Rattle.arj_joint_law.proofs.Ending.{Ends, ends_along, ends_by, ends_of, message_ends, record_of}
 use Rattle.arj_joint_law.proofs.Recording.{AreOfTheirs, AreRecordedBy, IsConfirming, acts_put, here_then, message_puts, others_then, plainly, recorded_at, records_walk, tick_puts}
 
 -- ---- what is kept
@@ -136,14 +137,24 @@ planned_here f x k d t M begun S tops A knows both heard seen voted known u c = 
 
 -- ---- a step
 
+-- The disk machine goes on, and may decide these, with a record or without one.
+abbrev pub Moves : (ℕ → Bool) → World → World → Type 0
+Moves g W V = Goes W V × Ends g W V
+
 -- What a step comes to, of a world of the disk machine and a state of the lock machine that stand beside each other: who is newly decided has
--- its record, and who newly has one is such a top.
-module _ (f : Fixed) (x : ℕ) (C : Uid → Type 0) (W : World) (S : State) (M : Seen) (before : ArePlannedSo f x S W M) (waiting : (u : Uid) → C u → IsPlannedSo f x S W u) where
-  pub planned_then : (tops : Kinds) (V : World) (T : State) (N : Seen) → Run S T → Goes W V → SeesDisks x tops V N → AreRecordedBy C M N → IsStep M N → ArePlannedSo f x T V N
-  planned_then tops V T N run goes sees recs step = record { decisions = decisions; records = records }
+-- its record; who newly has one is such a top, and so is who ended without one, or had one before.
+module _ (f : Fixed) (x : ℕ) (C : Uid → Type 0) (g : ℕ → Bool) (W : World) (S : State) (M : Seen) (whose : (u : Uid) → g (uid_number u) ≡ true → IsRecordedAt M u ⊎ C u) (before : ArePlannedSo f x S W M) (waiting : (u : Uid) → C u → IsPlannedSo f x S W u) where
+  pub planned_then : (tops : Kinds) (V : World) (T : State) (N : Seen) → Run S T → Moves g W V → SeesDisks x tops V N → AreRecordedBy C M N → IsStep M N → ArePlannedSo f x T V N
+  planned_then tops V T N run (goes, ends) sees recs step = record { decisions = decisions; records = records; bares = bares }
     where
       records : (u : Uid) → IsRecordedAt N u → IsPlannedSo f x T V u
       records u r = planned_later f x S T W V run goes.1 u (⊎_elim (λ (old : IsRecordedAt M u). before.records u old) (λ (new : C u). waiting u new) (recs u r))
+
+      bares : (u : Uid) → V.disk.bare (uid_number u) ≡ true → IsPlannedSo f x T V u × ((let p = V.disk.plan (uid_number u) in p.writes) ≡ None)
+      bares u on = ⊎_elim
+          (λ (old : W.disk.bare (uid_number u) ≡ true). let p = before.bares u old in let q = p.0 in (planned_later f x S T W V run goes.1 u q, ap (λ (k : Plan). k.writes) (goes.1.plan (uid_number u) q.begun) ∙ p.1))
+          (λ (new : (g (uid_number u) ≡ true) × ((let p = V.disk.plan (uid_number u) in p.writes) ≡ None)). (planned_later f x S T W V run goes.1 u (⊎_elim (λ (r : IsRecordedAt M u). before.records u r) (λ (c : C u). waiting u c) (whose u new.0)), new.1))
+          (ends (uid_number u) on)
 
       decisions : (u : Uid) (n : Node) → N.nodes u.node ≡ Some n → decided V.disk (uid_number u) ≡ true → IsPlannedSo f x T V u
       decisions u n here d = ⊎_elim
@@ -172,18 +183,18 @@ module _ (hd : Header) (x : ℕ) (K G : Seen → Type 0) (R : List Action → Se
   abbrev OfEach : Kinds → (Office → Type 0) → (Kinds → Office → Seen → Type 0) → Seen → Type 0
   OfEach tops D O Z = (B : Office) → D B → SeesBoth x tops B Z → O tops B Z
 
-  module _ (tops : Kinds) (D : Office → Type 0) (C : Uid → Type 0) (W : World) (M : Seen) (begun : List Action) (sent : List Post) (from : (f : Fixed) → Agrees f x begun sent → State)
-      (goes : (B : Office) → D B → Goes W B.world) (before : (f : Fixed) (a : Agrees f x begun sent) → ArePlannedSo f x (from f a) W M × ((u : Uid) → C u → IsPlannedSo f x (from f a) W u)) where
+  module _ (tops : Kinds) (D : Office → Type 0) (C : Uid → Type 0) (g : ℕ → Bool) (W : World) (M : Seen) (begun : List Action) (sent : List Post) (from : (f : Fixed) → Agrees f x begun sent → State)
+      (goes : (B : Office) → D B → Moves g W B.world) (whose : (u : Uid) → g (uid_number u) ≡ true → IsRecordedAt M u ⊎ C u) (before : (f : Fixed) (a : Agrees f x begun sent) → ArePlannedSo f x (from f a) W M × ((u : Uid) → C u → IsPlannedSo f x (from f a) W u)) where
     locks_next : (Z : Seen) → LocksFrom ⊤ x R begun sent from Z → AreRecordedBy C M Z → IsStep M Z → (B : Office) → D B → SeesBoth x tops B Z → HasLocks x R B.world Z
     locks_next Z l recs step B c seen = (
       begun,
       l.0,
       l.1,
       (λ f agrees.
-          let g = l.2 f agrees in
-          let a = g.4 in
+          let z = l.2 f agrees in
+          let a = z.4 in
           let b = before f a.0 in
-          (g.0, g.1, g.2, g.3 tt, planned_then f x C W (from f a.0) M b.0 b.1 tops B.world g.0 Z a.1 (goes B c) seen.disks recs step)),
+          (z.0, z.1, z.2, z.3 tt, planned_then f x C g W (from f a.0) M whose b.0 b.1 tops B.world z.0 Z a.1 (goes B c) seen.disks recs step)),
       l.3,
     )
 
@@ -210,19 +221,28 @@ module _ (hd : Header) (x : ℕ) (K G : Seen → Type 0) (R : List Action → Se
   abbrev none : Uid → Type 0
   none u = ⊥
 
-  goes_from : (o : Change) (A B : Office) → OnlyAnswers A B → machine.Whole A.world → (Z : Office) → Changes o B Z → Goes A.world Z.world
-  goes_from o A B only whole Z c = (let same = only.world in subst (λ W. Goes W Z.world) same (goes_by o B Z (subst machine.Whole (sym same) whole) c))
+  moves_by : (o : Change) (A B : Office) → machine.Whole A.world → Changes o A B → Moves (ends_of o) A.world B.world
+  moves_by o A B whole c = (goes_by o A B whole c, ends_by o A B whole c)
+
+  moves_from : (o : Change) (A B : Office) → OnlyAnswers A B → machine.Whole A.world → (Z : Office) → Changes o B Z → Moves (ends_of o) A.world Z.world
+  moves_from o A B only whole Z c = (let same = only.world in subst (λ W. Moves (ends_of o) W Z.world) same (moves_by o B Z (subst machine.Whole (sym same) whole) c))
+
+  abbrev nobody : ℕ → Bool
+  nobody t = false
+
+  no_one : (C : Uid → Type 0) (M : Seen) (u : Uid) → false ≡ true → IsRecordedAt M u ⊎ C u
+  no_one C M u is = absurd (never is refl)
 
   pub locks_part : KeepsPart hd x K Q
   locks_part = record {
     quiet = λ tops e bs M A walk quiet r both (part, j) B changed seen. (
       parts.quiet tops e bs M A walk quiet r both part B changed seen,
-      locks_next tops (Changes Quietly A) none A.world M j.0 M.sent (λ f a. let g = j.3 f a in g.0) (λ Z c. goes_by Quietly A Z (let z = both.disks in z.whole) c) (known_before none A.world M j (λ f a u never. absurd never)) (said e bs M)
+      locks_next tops (Changes Quietly A) none nobody A.world M j.0 M.sent (λ f a. let g = j.3 f a in g.0) (λ Z c. moves_by Quietly A Z (let z = both.disks in z.whole) c) (no_one none M) (known_before none A.world M j (λ f a u never. absurd never)) (said e bs M)
           (quiet_kept hd x G R keeps gives ⊤ votes_used e bs M quiet (to M r) (locks_of A.world M j)) (λ u c. inl (record { place = c.place; node = c.node; intent = c.intent; here = c.here; there = c.there })) (quiet_step e bs M) B changed seen,
     );
     stop = λ tops e k d live M A walk r both (part, j) B changed seen. (
       parts.stop tops e k d live M A walk r both part B changed seen,
-      locks_next tops (Changes Quietly A) none A.world (at k d live M) j.0 M.sent (λ f a. let g = j.3 f a in g.0) (λ Z c. goes_by Quietly A Z (let z = both.disks in z.whole) c) (known_before none A.world (at k d live M) j (λ f a u never. absurd never)) (halted e k d M)
+      locks_next tops (Changes Quietly A) none nobody A.world (at k d live M) j.0 M.sent (λ f a. let g = j.3 f a in g.0) (λ Z c. moves_by Quietly A Z (let z = both.disks in z.whole) c) (no_one none (at k d live M)) (known_before none A.world (at k d live M) j (λ f a u never. absurd never)) (halted e k d M)
           (stop_kept hd x G R keeps gives ⊤ votes_used e k d live M (to (at k d live M) r) (locks_of A.world (at k d live M) j)) (recorded_at none (at k d live M) k d None M (halted e k d M) (λ i. refl) (others_then none k d live M) (here_then none k d live M)) (step_halted k d live M e d M (near_same M) (λ down. refl)) B changed seen,
     );
     message = λ tops e k d t v from m outs M A walk n r sent meant is of own both (part, j).
@@ -234,7 +254,7 @@ module _ (hd : Header) (x : ℕ) (K G : Seen → Type 0) (R : List Action → Se
             office = h.office;
             only = h.only;
             both = h.both;
-            along = along tops (Changes o h.office) C A.world (up k d t M) j.0 M.sent (λ f a. let g = j.3 f a in g.0) (goes_from o A h.office h.only (let z = both.disks in z.whole)) (known_before C A.world (up k d t M) j (waits_here tops k d t M A n both part (runs (up k d t M) (to (up k d t M) r)) j)) e k outs v d M h.along
+            along = along tops (Changes o h.office) C (ends_of o) A.world (up k d t M) j.0 M.sent (λ f a. let g = j.3 f a in g.0) (moves_from o A h.office h.only (let z = both.disks in z.whole)) (λ u is. inr (message_ends x d t u m is)) (known_before C A.world (up k d t M) j (waits_here tops k d t M A n both part (runs (up k d t M) (to (up k d t M) r)) j)) e k outs v d M h.along
                 (kept_message hd x G R keeps gives ⊤ votes_used e k d t v from m outs M (to (up k d t M) r) (locks_of A.world (up k d t M) j) sent meant is)
                 (records_walk C (up k d t M) k e v outs d M (others_then C k d (Some t) M) (message_puts k d t (theirs tops k d t M n) from m v outs is) (here_then C k d (Some t) M)) (step_walk k d (Some t) M e v outs d M (near_same M) (was_up t) (was_up t));
           },
@@ -250,7 +270,7 @@ module _ (hd : Header) (x : ℕ) (K G : Seen → Type 0) (R : List Action → Se
             office = h.office;
             only = h.only;
             both = h.both;
-            along = along tops (Changes Quietly h.office) C A.world (up k d t M) j.0 M.sent (λ f a. let g = j.3 f a in g.0) (goes_from Quietly A h.office h.only (let z = both.disks in z.whole)) (known_before C A.world (up k d t M) j (waits_here tops k d t M A n both part (runs (up k d t M) (to (up k d t M) r)) j)) e k did.outs (with_coord t did.part) d M h.along
+            along = along tops (Changes Quietly h.office) C nobody A.world (up k d t M) j.0 M.sent (λ f a. let g = j.3 f a in g.0) (moves_from Quietly A h.office h.only (let z = both.disks in z.whole)) (no_one C (up k d t M)) (known_before C A.world (up k d t M) j (waits_here tops k d t M A n both part (runs (up k d t M) (to (up k d t M) r)) j)) e k did.outs (with_coord t did.part) d M h.along
                 (kept_act hd x G R keeps gives ⊤ votes_used e k d t i M is free (to (up k d t M) r) (locks_of A.world (up k d t M) j))
                 (records_walk C (up k d t M) k e (with_coord t did.part) did.outs d M (others_then C k d (Some t) M) (acts_put t.coord (theirs tops k d t M n) d.intents i) (here_then C k d (Some t) M)) (step_walk k d (Some t) M e (with_coord t did.part) did.outs d M (near_same M) (was_up t) (was_up t));
           },
@@ -261,7 +281,7 @@ module _ (hd : Header) (x : ℕ) (K G : Seen → Type 0) (R : List Action → Se
         let N : Seen = given l (record { node = k; serial = is_serial_kind how }) M in
         let a = begins_in how parent t in
         let older : (f : Fixed) → Agrees f x (a ∷ j.0) M.sent → Agrees f x j.0 M.sent = λ f w. agree_older f x a j.0 M.sent w in
-        along tops (Changes Quietly A) none A.world (up k d t M) (a ∷ j.0) M.sent (λ f w. let g = j.3 f (older f w) in g.0) (λ B c. goes_by Quietly A B (let z = both.disks in z.whole) c) (λ f w. known_before none A.world (up k d t M) j (λ f b u never. absurd never) f (older f w)) e k did.outs (with_coord t did.part) d N
+        along tops (Changes Quietly A) none nobody A.world (up k d t M) (a ∷ j.0) M.sent (λ f w. let g = j.3 f (older f w) in g.0) (λ B c. moves_by Quietly A B (let z = both.disks in z.whole) c) (no_one none (up k d t M)) (λ f w. known_before none A.world (up k d t M) j (λ f b u never. absurd never) f (older f w)) e k did.outs (with_coord t did.part) d N
         (parts.begin tops e k d t l how parent M A walk n r new may free kind both part)
         (kept_begin hd x G R keeps gives ⊤ votes_used e k d t l how parent M new may free (to (up k d t M) r) (locks_of A.world (up k d t M) j))
         (records_walk none (up k d t M) k e (with_coord t did.part) did.outs d N (others_then none k d (Some t) M) (tt, tt) (here_then none k d (Some t) M)) (step_walk k d (Some t) M e (with_coord t did.part) did.outs d N (given_near l how k M) (was_up t) (was_up t));
@@ -269,19 +289,21 @@ module _ (hd : Header) (x : ℕ) (K G : Seen → Type 0) (R : List Action → Se
         let outs = tick_outs (record { number = k; disk = d; live = Some t }) t in
         let v = with_coord t (let z = again_all t.coord.doings t.coord in z.part) in
         let C : Uid → Type 0 = λ u. IsConfirming t.coord u in
-        along tops (Changes Quietly A) C A.world (up k d t M) j.0 M.sent (λ f a. let g = j.3 f a in g.0) (λ B c. goes_by Quietly A B (let z = both.disks in z.whole) c) (known_before C A.world (up k d t M) j (waits_here tops k d t M A n both part (runs (up k d t M) (to (up k d t M) r)) j)) e k outs v d M
+        along tops (Changes Quietly A) C nobody A.world (up k d t M) j.0 M.sent (λ f a. let g = j.3 f a in g.0) (λ B c. moves_by Quietly A B (let z = both.disks in z.whole) c) (no_one C (up k d t M)) (known_before C A.world (up k d t M) j (waits_here tops k d t M A n both part (runs (up k d t M) (to (up k d t M) r)) j)) e k outs v d M
         (parts.tick tops e k d t M A walk n r both part) (kept_tick hd x G R keeps gives ⊤ votes_used e k d t M (to (up k d t M) r) (locks_of A.world (up k d t M) j))
         (records_walk C (up k d t M) k e v outs d M (others_then C k d (Some t) M) (tick_puts k d t (theirs tops k d t M n)) (here_then C k d (Some t) M)) (step_walk k d (Some t) M e v outs d M (near_same M) (was_up t) (was_up t));
     restart = λ tops e k d M A walk r both (part, j).
         let outs = restart_outs hd k (d.inc + 1) d in
         let v = parts_in k (d.inc + 1) d in
-        along tops (OnlyFound (are_recorded d.intents) A) none A.world (down k d M) j.0 M.sent (λ f a. let g = j.3 f a in g.0) (λ B c. goes_along (are_recorded d.intents) A.world B.world (let z = both.disks in z.whole) c.along) (known_before none A.world (down k d M) j (λ f a u never. absurd never)) e k outs v d M
+        along tops (OnlyFound (are_recorded d.intents) A) none (are_recorded d.intents) A.world (down k d M) j.0 M.sent (λ f a. let g = j.3 f a in g.0)
+        (λ B c. (goes_along (are_recorded d.intents) A.world B.world (let z = both.disks in z.whole) c.along, ends_along (are_recorded d.intents) A.world B.world (let z = both.disks in z.whole) c.along))
+        (λ u is. let r = record_of u d.intents is in inl (record { place = k; node = record { number = k; disk = d; live = None }; intent = r.0; here = node_here M k (record { number = k; disk = d; live = None }); there = r.1 })) (known_before none A.world (down k d M) j (λ f a u never. absurd never)) e k outs v d M
         (parts.restart tops e k d M A walk r both part) (kept_restart hd x G R keeps gives ⊤ votes_used e k d M (to (down k d M) r) (locks_of A.world (down k d M) j))
         (records_walk none (down k d M) k e v outs d M (others_then none k d None M) (plainly none outs (restart_plain [] hd k d)) (here_then none k d None M)) (step_walk k d None M e v outs d M (near_same M) (λ down. restart_plain [] hd k d) (λ down. refl));
     first = λ tops walk kinds.
         let f = parts.first tops walk kinds in
         let z = first_kept hd x G R keeps gives ⊤ votes_used in
-        (f.0, f.1, (f.2, (z.0, z.1, z.2, (λ w agrees. let g = z.3 w agrees in (g.0, g.1, g.2, g.3 tt, nothing_yet w g.0 f.0 f.3)), z.4)), f.3);
+        (f.0, f.1, (f.2, (z.0, z.1, z.2, (λ w agrees. let g = z.3 w agrees in (g.0, g.1, g.2, g.3 tt, nothing_yet w g.0 f.0 f.3 f.4)), z.4)), f.3, f.4);
   }
     where
       quiet_step : (e : ℕ) (bs : List Body) (M : Seen) → IsStep M (said e bs M)
@@ -293,10 +315,11 @@ module _ (hd : Header) (x : ℕ) (K G : Seen → Type 0) (R : List Action → Se
       was_up : {X : Type 0} (t : Parts) → Some t ≡ None → X
       was_up t is = absurd (let no_way : ◌≡◌ {A = Option Parts} (Some t) None = is in cc no_way)
 
-      nothing_yet : (f : Fixed) (S : State) (A : Office) → (let W = A.world in let D = W.disk in D.tops) ≡ [] → ArePlannedSo f x S A.world (see [] (format hd))
-      nothing_yet f S A empty = record {
+      nothing_yet : (f : Fixed) (S : State) (A : Office) → (let W = A.world in let D = W.disk in D.tops) ≡ [] → ((t : ℕ) → A.world.disk.bare t ≡ false) → ArePlannedSo f x S A.world (see [] (format hd))
+      nothing_yet f S A empty none_bare = record {
         decisions = λ u n here d. absurd (never d (ap (λ ds. decided_in ds (uid_number u)) empty));
         records = λ u r. absurd (no_record u r);
+        bares = λ u on. absurd (never on (none_bare (uid_number u)));
       }
         where
           no_record : (u : Uid) → IsRecordedAt (see [] (format hd)) u → ⊥

@@ -26,3 +26,4 @@ pub mod Counting
 pub mod JoinedRuns
 pub mod Writing
 pub mod Written
+pub mod Ending

@@ -110,7 +110,7 @@ module _ (hd : Header) (x : ℕ) (R G : Seen → Type 0) (P : Kinds → Office �
         along tops (OnlyFound (are_recorded d.intents) A) A (down k d M)
         (λ B c. ((goes_along (are_recorded d.intents) A.world B.world (let z = both.disks in z.whole) c.along).1, along_new (are_recorded d.intents) M.lines A.world B.world (λ z on u uz. found_there k d M (known (down k d M) r.0) z on u uz) c.along))
         (ties tops A (down k d M) part) order e k outs v d M (parts.restart tops e k d M A walk r both part) (kept.restart e k d M r.0) (step_walk k d None M e v outs d M (near_same M) (λ down. restart_plain [] hd k d) (λ down. refl));
-    first = λ tops walk kinds. let f = parts.first tops walk kinds in (f.0, f.1, (f.2, nothing_yet f.0 f.3), f.3);
+    first = λ tops walk kinds. let f = parts.first tops walk kinds in (f.0, f.1, (f.2, nothing_yet f.0 f.3), f.3, f.4);
   }
     where
       quiet_step : (e : ℕ) (bs : List Body) (M : Seen) → IsStep M (said e bs M)

@@ -1,8 +1,8 @@
 -- Decided tops wrote what their plans have, in the words of the journal.
-use Rattle.std.proofs.Common.{◌≡◌, ◌==◌, ◌||◌, ℕ, Bool, true, false, List, [], ◌∷◌, Option, Some, None, refl, sym, ◌∙◌, ap, subst, inl, inr, arith, eq-eqb}
+use Rattle.std.proofs.Common.{Contains, ◌≡◌, ◌==◌, ◌||◌, ℕ, Bool, true, false, List, [], ◌∷◌, Option, Some, None, refl, sym, ◌∙◌, ap, subst, inl, inr, arith, eq-eqb}
 use Rattle.arj_lock.proofs.Members.{In, in_from, in_to}
 use Rattle.arj_model.specs.Actions.{acts}
-use Rattle.arj_model.specs.Calls.{tops}
+use Rattle.arj_model.specs.Calls.{Top, tops}
 use Rattle.arj_model.specs.Last.{uid_of_id}
 use Rattle.arj_model.specs.Serial.{Values}
 use Rattle.arj_protocol.specs.Words.{Header, Uid}
@@ -36,8 +36,9 @@ use Rattle.arj_serial_law.proofs.Votes.{votes_give}
 use Rattle.arj_base.specs.Uid.{nobody}
 use Rattle.arj_line_law.proofs.Models.{its_acts}
 use Rattle.arj_lock_view_law.specs.Families.{acts_of}
-use Rattle.arj_joint_law.specs.Joined.{ArePlannedSo, AreWritten, IsPlannedSo}
+use Rattle.arj_joint_law.specs.Joined.{AreBareSo, ArePlannedSo, AreWritten, IsPlannedSo}
 use Rattle.arj_joint_law.proofs.Writing.{VotedIn, planned_voted}
+use Rattle.arj_line_law.proofs.Books.{never}
 
 decided_there : (ds : List Done) (d : Done) → disk.In d ds → decided_in ds d.top ≡ true
 decided_there [] d i = absurd i
@@ -84,9 +85,10 @@ module _ (hd : Header) (es : List Asked) (x : ℕ) (values : Values) (right : Ar
   voted u None v = v
   voted u (Some w) v = v
 
-  pub wrote : AreWritten values M.lines x W.disk.tops
+  -- a top of the journal that had planned so wrote what its plan has
+  its_plan : (u : Top) (listed : Contains (tops M.lines) u) → (let k = top_item M.lines right u (in_from u (tops M.lines) listed) in IsPlannedSo f x S W (let a = k.act in a.uid)) → WroteSo values M.lines x u (let k = W.disk.plan (uid_number (uid_of_id (acts M.lines) u.id)) in k.writes)
   unfolding tied
-  wrote d u i listed number = subst (WroteSo values M.lines x u) (sym (ap (λ (k : Plan). k.writes) plan)) (votes_give values M.lines right x S tied u there _ (subst (λ (v : Uid). VotedSo values M.lines x S tied v (let k = W.disk.plan (uid_number own) in k.writes)) (sym is_own) (voted own _ its)))
+  its_plan u listed planned_its = votes_give values M.lines right x S tied u there _ (subst (λ (v : Uid). VotedSo values M.lines x S tied v (let p = W.disk.plan (uid_number v) in p.writes)) (sym is_own) (voted own _ its))
     where
       there : In u (tops M.lines)
       there = in_from u (tops M.lines) listed
@@ -100,20 +102,44 @@ module _ (hd : Header) (es : List Asked) (x : ℕ) (values : Values) (right : Ar
       is_own : uid_of_id (acts M.lines) u.id ≡ own
       is_own = ap (uid_of_id (acts M.lines)) (sym k.number) ∙ number_uid k.act (acts M.lines) (λ y j e. same_number M.lines right y k.act j k.there e) k.there
 
-      number_is : d.top ≡ uid_number own
-      number_is = number ∙ ap uid_number is_own
-
-      plan : d.plan ≡ W.disk.plan (uid_number own)
-      plan = (let c = (let w = disks.whole in w.core) in let j = c.journal in j.plan d i) ∙ ap W.disk.plan number_is
-
-      node : IsOfNode (run_all es (format hd)) k.act
-      node = have_nodes hd es k.act (in_to k.act (acts M.lines) k.there)
-
-      planned_its : IsPlannedSo f x S W own
-      planned_its = planned.decisions own node.node node.there (ap (decided_in W.disk.tops) (sym number_is) ∙ decided_there W.disk.tops d i)
-
       stage : (let a = S.action (f.act own) in a.stage) ≡ 3
       stage = stage_of_top values M.lines right x S (tie values M.lines right x S tied) u k
 
       its : VotedIn f S own (let p = W.disk.plan (uid_number own) in p.writes)
       its = planned_voted f x S W own (let t = agrees.whole in let a = t.alike in a.one) planned_its (omega (arith, stage)) (omega (arith, stage))
+
+  pub bare : AreBareSo M.lines x W.disk
+  bare u listed on wrote = absurd (never wrote.2 (none wrote.0 wrote.1 wrote.3))
+    where
+      k : IsTopOf M.lines u
+      k = top_item M.lines right u (in_from u (tops M.lines) listed)
+
+      is_own : uid_of_id (acts M.lines) u.id ≡ (let a = k.act in a.uid)
+      is_own = ap (uid_of_id (acts M.lines)) (sym k.number) ∙ number_uid k.act (acts M.lines) (λ y j e. same_number M.lines right y k.act j k.there e) k.there
+
+      planned_its : IsPlannedSo f x S W (let a = k.act in a.uid) × ((let p = W.disk.plan (uid_number (let a = k.act in a.uid)) in p.writes) ≡ None)
+      planned_its = planned.bares (let a = k.act in a.uid) (ap (λ (v : Uid). W.disk.bare (uid_number v)) (sym is_own) ∙ on)
+
+      none : WroteSo values M.lines x u None
+      none = subst (WroteSo values M.lines x u) (ap (λ (v : Uid). let p = W.disk.plan (uid_number v) in p.writes) is_own ∙ planned_its.1) (its_plan u listed planned_its.0)
+
+  pub wrote : AreWritten values M.lines x W.disk.tops
+  wrote d u i listed number = subst (WroteSo values M.lines x u) (sym (ap (λ (k : Plan). k.writes) plan)) (its_plan u listed planned_its)
+    where
+      k : IsTopOf M.lines u
+      k = top_item M.lines right u (in_from u (tops M.lines) listed)
+
+      own : Uid
+      own = let a = k.act in a.uid
+
+      is_own : uid_of_id (acts M.lines) u.id ≡ own
+      is_own = ap (uid_of_id (acts M.lines)) (sym k.number) ∙ number_uid k.act (acts M.lines) (λ y j e. same_number M.lines right y k.act j k.there e) k.there
+
+      plan : d.plan ≡ W.disk.plan (uid_number (uid_of_id (acts M.lines) u.id))
+      plan = (let c = (let w = disks.whole in w.core) in let j = c.journal in j.plan d i) ∙ ap W.disk.plan number
+
+      node : IsOfNode (run_all es (format hd)) k.act
+      node = have_nodes hd es k.act (in_to k.act (acts M.lines) k.there)
+
+      planned_its : IsPlannedSo f x S W own
+      planned_its = planned.decisions own node.node node.there (ap (λ (v : Uid). decided_in W.disk.tops (uid_number v)) (sym is_own) ∙ (ap (decided_in W.disk.tops) (sym number) ∙ decided_there W.disk.tops d i))

@@ -22,7 +22,7 @@ use Rattle.arj_lock_whole_law.specs.Runs.{AreRest}
 use Rattle.arj_part_law.specs.Actions.{Action}
 use Rattle.arj_serial_law.specs.Decided.{Joined, Wrote}
 use Rattle.arj_serial_law.specs.Tied.{AreTied, IsTied}
-use Rattle.arj_joint_law.specs.Joined.{AreWritten}
+use Rattle.arj_joint_law.specs.Joined.{AreBareSo, AreWritten}
 use Rattle.arj_joint_law.specs.Ordered.{IsOrderedSo}
 use Rattle.arj_joint_law.specs.Shown.{FilesAre}
 
@@ -53,15 +53,14 @@ AreNamed lines x [] [] = ⊤
 AreNamed lines x (d ∷ ds) (t ∷ ts) = IsNamed lines x d t × AreNamed lines x ds ts
 AreNamed lines x ds ts = ⊥
 
--- The decided tops of the disk machine that count are these tops of the journal, and each of them changed the object. One that needed no record
--- didn't write it. As `DecideChanges` of `arj_serial_law`, but what they wrote isn't asked; of the order of commit calls only what
--- includes have to do with is, and not that each top which wrote the object is one of these.
+-- The decided tops of the disk machine that count are these tops of the journal, and each of them changed the object. As
+-- `DecideChanges` of `arj_serial_law`, but what they wrote isn't asked; of the order of commit calls only what includes have to do with is, and not
+-- that each top which wrote the object is one of these.
 pub record DecideThose (header : Header) (lines : List Line) (x : ℕ) (S : State) (ds : List Done) : Type 0 where
   pub those : List Top
   pub each : AreNamed lines x (filter counts_of ds) those
   pub joiners : JoinersAreNewestFirst lines x those
   pub changed : (t : Top) → Contains those t → Wrote lines x t ⊎ Joined lines x t
-  pub light : (t : Top) → Contains (tops lines) t → S.bare (number_of lines t) ≡ true → Wrote lines x t → ⊥
   pub idle : IdleInPlace lines x (is_one_of those) (first_stores header x) (serial_tops lines)
 
 -- So it is of all but the newest ones: those that the journal doesn't have since their nodes are late to say so, and whoever was decided
@@ -83,9 +82,9 @@ disk_of o = (let b = o.begun in let j = b.journalled in let W = j.machine in W.d
 abbrev pub DecideSo : Header → ℕ → List Asked → Type 0
 DecideSo hd x es = (h : Holds hd (IsOrderedSo hd x) (run_all es (format hd))) → DecideThoseOrLate hd (journal hd es) x (disk_of h.holds)
 
--- and they wrote what they gave to the stores
+-- and they wrote what they gave to the stores, and those without a record nothing
 abbrev pub DecideWrittenSo : Header → ℕ → List Asked → Type 0
-DecideWrittenSo hd x es = (h : Holds hd (IsOrderedSo hd x) (run_all es (format hd))) → (d : DecideThoseOrLate hd (journal hd es) x (disk_of h.holds)) × AreWritten (first_values hd) (journal hd es) x d.others
+DecideWrittenSo hd x es = (h : Holds hd (IsOrderedSo hd x) (run_all es (format hd))) → (d : DecideThoseOrLate hd (journal hd es) x (disk_of h.holds)) × AreWritten (first_values hd) (journal hd es) x d.others × AreBareSo (journal hd es) x (disk_of h.holds)
 
 -- The journal is tied to the lock machines: of objects of which a call was answered, and of those of the header.
 pub record AreLockTied (hd : Header) (lines : List Line) : Type 0 where

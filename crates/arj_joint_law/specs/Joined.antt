@@ -1,6 +1,6 @@
 -- The disk machine and the lock machine of one object beside each other in one run: what a top that the disk machine decided has in its plan is
 -- what was voted for it, by the lock machine.
-use Rattle.std.specs.Prelude.{◌≡◌, ◌≤◌, ℕ, Bool, true, List, [], Some, Contains, is_some, length}
+use Rattle.std.specs.Prelude.{◌≡◌, ◌≤◌, ℕ, Bool, true, List, [], None, Some, Contains, is_some, length}
 use Rattle.arj_journal.specs.ScriptForm.{HeaderInForm}
 use Rattle.arj_model.specs.Actions.{acts}
 use Rattle.arj_model.specs.Calls.{Top, tops}
@@ -15,7 +15,7 @@ use Rattle.arj_protocol.specs.Step.{Node}
 use Rattle.arj_protocol.specs.World.{Asked, format, run_all}
 use Rattle.arj_part_law.specs.Actions.{Action}
 use Rattle.arj_disk_law.specs.Effects.{World}
-use Rattle.arj_disk_law.specs.State.{Done, decided}
+use Rattle.arj_disk_law.specs.State.{Done, State, decided}
 use Rattle.arj_disk_law.specs.Words as disk
 use Rattle.arj_disk_view_law.specs.Plans.{plan_at, used_at}
 use Rattle.arj_lock_law.specs.Actions.{In, top}
@@ -32,7 +32,7 @@ use Rattle.arj_lock_run_law.specs.Sees.{SeesLocks}
 use Rattle.arj_lock_run_law.specs.Tied.{AreTied}
 use Rattle.arj_lock_run_law.specs.Votes.{AreVotedAt}
 use Rattle.arj_joint_law.specs.Ordered.{IsOrderedSo}
-use Rattle.arj_serial_law.specs.Decided.{WroteSo}
+use Rattle.arj_serial_law.specs.Decided.{Wrote, WroteSo}
 use Rattle.arj_serial_law.specs.Seen.{RequestsAreOne}
 use Rattle.arj_disk_run_law.specs.Rest.{KeepsHeard}
 use Rattle.arj_lock_whole_law.specs.Runs.{IsRest}
@@ -70,10 +70,12 @@ pub record IsRecordedAt (M : Seen) (u : Uid) : Type 0 where
   pub here : M.nodes place ≡ Some node
   pub there : list.In {X = Uid × Intent} (u, intent) (let d = node.disk in d.intents)
 
--- So it is of each top that is decided, at a node that is there, and of each that has a record.
+-- So it is of each top that is decided, at a node that is there, of each that has a record, and of each whose commit ended without one, which wrote
+-- nothing.
 pub record ArePlannedSo (f : Fixed) (x : ℕ) (S : lock.State) (W : World) (M : Seen) : Type 0 where
   pub decisions : (u : Uid) (n : Node) → M.nodes u.node ≡ Some n → decided W.disk (uid_number u) ≡ true → IsPlannedSo f x S W u
   pub records : (u : Uid) → IsRecordedAt M u → IsPlannedSo f x S W u
+  pub bares : (u : Uid) → W.disk.bare (uid_number u) ≡ true → IsPlannedSo f x S W u × ((let p = W.disk.plan (uid_number u) in p.writes) ≡ None)
 
 -- ---- the run
 
@@ -85,9 +87,13 @@ world_of o = (let b = o.begun in let j = b.journalled in j.machine)
 abbrev pub AreWritten : Values → List Line → ℕ → List Done → Type 0
 AreWritten values lines x ds = (d : Done) (u : Top) → disk.In d ds → Contains (tops lines) u → d.top ≡ uid_number (uid_of_id (acts lines) u.id) → WroteSo values lines x u (let p = d.plan in p.writes)
 
+-- each top of the journal whose commit ended without a record has no surviving write
+abbrev pub AreBareSo : List Line → ℕ → State → Type 0
+AreBareSo lines x S = (u : Top) → Contains (tops lines) u → S.bare (uid_number (uid_of_id (acts lines) u.id)) ≡ true → Wrote lines x u → ⊥
+
 -- Both machines of the object at once: the disk machine, whose decisions are those of the journal in their order; and for all that may be fixed and
 -- agrees with what was begun the lock machine, to which the journal is tied, in which commits under way have the votes that came, and by which
--- decided tops had planned. So these wrote what their plans have.
+-- decided tops had planned. So these wrote what their plans have, and those without a record nothing.
 pub record IsJoinedSo (hd : Header) (x : ℕ) (M : Seen) : Type 0 where
   pub ordered : IsOrderedSo hd x M
   pub begun : List Action
@@ -95,6 +101,7 @@ pub record IsJoinedSo (hd : Header) (x : ℕ) (M : Seen) : Type 0 where
   pub seen : (f : Fixed) → Agrees f x begun M.sent → (S : lock.State) × SeesLocks f x begun S M × AreTied f x M.lines S × AreVotedAt f x S M × ArePlannedSo f x S (world_of ordered) M
   pub requests : RequestsAreOne M
   pub wrote : AreWritten (first_values hd) M.lines x (let W = world_of ordered in W.disk.tops)
+  pub bare : AreBareSo M.lines x (let W = world_of ordered in W.disk)
 
 -- So it is in the run of every script, of each object of the header, with what is still taken of both halves.
 abbrev pub RunsAreJoined : Type 0

@@ -27,8 +27,8 @@ pub fn decisions_come_behind_calls()
 
 /// After the run of each script whose header is in form, of at most 1,000,000 events, files that are those of its nodes' pairs are clean:
 /// with what the disk machine's half still takes, where the journal is tied to the lock machines, as it is with what their half takes, and where
-/// the decided tops that count are those of the journal (`DecideThose`), and wrote what they gave to the stores, which is given with both halves
-/// (`runs_have_both_machines`). That machines began as the header says, that all states are of their class, that decided writers stand as their
+/// the decided tops that count are those of the journal (`DecideThose`), and wrote what they gave to the stores, and those without a record
+/// nothing, which is given with both halves (`runs_have_both_machines`). That machines began as the header says, that all states are of their class, that decided writers stand as their
 /// commits were called, and that each include names a node of the header, is given here. It does nothing when it runs.
 pub fn runs_are_clean()
     ensures clean { RunsAreClean }
@@ -41,7 +41,8 @@ pub fn runs_are_clean()
 /// machines at once: of the disk machine, as `decisions_come_behind_calls` has it; and of the lock machine, to which the journal is tied, in
 /// which commits under way have the votes that came. Each top that is decided, or has a record, has in the disk machine the plan with which it
 /// waited for naming in an earlier state of the lock machine: what it changes the object to is what the server voted that was called. So each
-/// decided top of the journal gave to the stores what it wrote. What both halves still take is taken. It does nothing when it runs.
+/// decided top of the journal gave to the stores what it wrote, and one whose commit ended without a record wrote nothing. What both halves
+/// still take is taken. It does nothing when it runs.
 pub fn runs_have_both_machines()
     ensures { RunsAreJoined }
 {}

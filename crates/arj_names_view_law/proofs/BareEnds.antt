@@ -1,14 +1,15 @@
 -- Effects in which naming's half has no part, and commits that end without a record.
-use Rattle.std.proofs.Common.{◌≡◌, ℕ, true, false, Option, Some, None, refl, sym, ◌∙◌, ap, subst, inl, inr, ⊎_elim, is_some}
+use Rattle.std.proofs.Common.{◌≡◌, ℕ, Bool, List, [], ◌∷◌, true, false, Option, Some, None, refl, sym, ◌∙◌, ap, subst, inl, inr, ⊎_elim, is_some}
 use Rattle.std.specs.Prelude.{if◌then◌else◌}
 use Rattle.arj_disk_law.specs.Core.{Core}
 use Rattle.arj_disk_law.specs.Effects as machine
 use Rattle.arj_disk_law.specs.Effects.{World, Whole, Allowed, after}
-use Rattle.arj_disk_law.specs.Guards.{is_only_of}
+use Rattle.arj_disk_law.specs.Guards.{AreOnlyOf, Decides, Note, is_only_of}
 use Rattle.arj_disk_law.specs.Messages as mail
 use Rattle.arj_disk_law.specs.State.{State, Hold, Idle, Confirming, Gone, is_open, IsExcused, Listed, Packed, decided, effective_by, is_gone, last_entry, open_by, undecided}
 use Rattle.arj_disk_law.specs.Words.{has}
 use Rattle.arj_disk_law.proofs.Base.{falls_to, never, open_done, open_made, open_parts, put_cases, some_is}
+use Rattle.arj_disk_view_law.specs.Sees.{Along}
 
 pub begun_bare : (t : ℕ) (W : World) → Whole W → W.disk.bare t ≡ true → W.disk.begun t ≡ true
 begun_bare t W whole bare = ⊎_elim (whole.core.fresh.conf t) (whole.core.fresh.light t) (whole.core.bare.taken t bare)
@@ -35,6 +36,37 @@ plain_bare S (machine.FinishEntry h) is = refl
 plain_bare S (machine.DropEntry h) is = refl
 plain_bare S (machine.Forget r h) is = refl
 plain_bare S (machine.Send m) is = refl
+
+-- who may not be decided doesn't end without a record
+module _ (f : Note → Bool) (z : ℕ) (none : f (Decides z) ≡ false) where
+  unended : (S : State) (a : machine.Effect) → is_only_of f a ≡ true → (machine.changed S a).bare z ≡ true → S.bare z ≡ true
+  unended S (machine.Begin t p) is on = on
+  unended S (machine.Take t s) is on = on
+  unended S (machine.Seal t) is on = on
+  unended S (machine.Intend t nodes) is on = on
+  unended S (machine.Decide t) is on = on
+  unended S (machine.Remove t nodes) is on = on
+  unended S (machine.EndBare t) is on = put_cases (λ b. b ≡ true → S.bare z ≡ true) t true S.bare z (λ same b. absurd (never (ap (λ k. f (Decides k)) same ∙ is) none)) (λ other b. b) on
+  unended S (machine.Halt t) is on = on
+  unended S (machine.Keep t s) is on = on
+  unended S (machine.Move s h) is on = on
+  unended S (machine.Finish s h) is on = on
+  unended S (machine.Drop s h) is on = on
+  unended S (machine.Agree t) is on = on
+  unended S (machine.Pass t) is on = on
+  unended S (machine.Enter t) is on = on
+  unended S (machine.MoveEntry h) is on = on
+  unended S (machine.FinishEntry h) is on = on
+  unended S (machine.DropEntry h) is on = on
+  unended S (machine.Forget r h) is on = on
+  unended S (machine.Send m) is on = on
+
+  all_unended : (W : World) (es : List machine.Effect) → AreOnlyOf f es → (machine.run W es).disk.bare z ≡ true → W.disk.bare z ≡ true
+  all_unended W [] only on = on
+  all_unended W (a ∷ es) only on = unended W.disk a only.0 (all_unended (after W a) es only.1 on)
+
+  pub none_ended : (W V : World) → Along (record { from = W; noted = f }) V → V.disk.bare z ≡ true → W.disk.bare z ≡ true
+  none_ended W V a on = all_unended W a.effects a.only (ap (λ (U : World). U.disk.bare z) a.here ∙ on)
 
 -- plain effects open no outcome, and nobody is idle again
 pub record StaysShut (S T : State) : Type 0 where

@@ -1,5 +1,5 @@
 -- A Confirm at naming, walked with both halves.
-use Rattle.std.proofs.Common.{◌≡◌, ◌⊎◌, ◌&&◌, ℕ, List, [], ◌∷◌, ◌++◌, true, false, Option, Some, None, refl, sym, ◌∙◌, ap, subst, inl, inr, ⊎_elim}
+use Rattle.std.proofs.Common.{◌≡◌, ◌⊎◌, ◌&&◌, ℕ, List, [], ◌∷◌, ◌++◌, Bool, true, false, Option, Some, None, refl, sym, ◌∙◌, ap, subst, inl, inr, ⊎_elim}
 use Rattle.std.specs.List.{list_all}
 use Rattle.std.specs.Prelude.{option_map}
 use Rattle.std.proofs.lemmas.Bool.{and_parts}
@@ -56,11 +56,11 @@ naming_leaves (Say b ∷ es) all = naming_leaves es (and_parts (is_naming_effect
 naming_leaves (Send to m ∷ es) all = absurd (never (and_parts (is_naming_effect (Send to m)) (list_all is_naming_effect es) all).0 refl)
 naming_leaves (Do w ∷ es) all = let p = and_parts (is_naming_effect (Do w)) (list_all is_naming_effect es) all in all_both leaves_the_inc (Do w ∷ []) es (ap (λ b. b && true) (names_leave w p.0)) (naming_leaves es p.1)
 
--- a confirmation decides no top, and changes no root
-confirmed_tops : (t : ℕ) (W : World) (f : machine.Effect) → IsConfirmation t f → ((after W f).disk.tops ≡ W.disk.tops) × ((after W f).disk.root ≡ W.disk.root)
-confirmed_tops t W f (inl is) = subst (λ z. ((after W z).disk.tops ≡ W.disk.tops) × ((after W z).disk.root ≡ W.disk.root)) (sym is) (refl, refl)
-confirmed_tops t W f (inr (inl is)) = subst (λ z. ((after W z).disk.tops ≡ W.disk.tops) × ((after W z).disk.root ≡ W.disk.root)) (sym is) (refl, refl)
-confirmed_tops t W f (inr (inr is)) = subst (λ z. ((after W z).disk.tops ≡ W.disk.tops) × ((after W z).disk.root ≡ W.disk.root)) (sym is) (refl, refl)
+-- a confirmation decides no top, ends none, and changes no root
+confirmed_tops : (t : ℕ) (W : World) (f : machine.Effect) → IsConfirmation t f → ((after W f).disk.tops ≡ W.disk.tops) × ((after W f).disk.root ≡ W.disk.root) × ((after W f).disk.bare ≡ W.disk.bare)
+confirmed_tops t W f (inl is) = subst (λ z. ((after W z).disk.tops ≡ W.disk.tops) × ((after W z).disk.root ≡ W.disk.root) × ((after W z).disk.bare ≡ W.disk.bare)) (sym is) (refl, refl, refl)
+confirmed_tops t W f (inr (inl is)) = subst (λ z. ((after W z).disk.tops ≡ W.disk.tops) × ((after W z).disk.root ≡ W.disk.root) × ((after W z).disk.bare ≡ W.disk.bare)) (sym is) (refl, refl, refl)
+confirmed_tops t W f (inr (inr is)) = subst (λ z. ((after W z).disk.tops ≡ W.disk.tops) × ((after W z).disk.root ≡ W.disk.root) × ((after W z).disk.bare ≡ W.disk.bare)) (sym is) (refl, refl, refl)
 
 module _ (x : ℕ) (tops : Kinds) (unwalked : tops.walk ≡ None) (e : ℕ) (d : Disk) (t v : Parts) (n : Naming) (from : ℕ) (h : Head) (grants : Grants) (excluded included : Marks) (outs : List Effect) (A : Office) (M : Seen) (named : t.naming ≡ Some n)
     (prepared : is_prepared (top_of h.path) d.names ≡ true → is_on n.confirmed (top_of h.path) ≡ true) (of : IsOfTop tops A.world.disk h.path) (claims : ClaimsAsk x A.world 1 h (ask.Confirm grants excluded included))
@@ -93,7 +93,7 @@ module _ (x : ℕ) (tops : Kinds) (unwalked : tops.walk ≡ None) (e : ℕ) (d :
         names = B.names;
         named_then = st.named;
         inc = by.inc;
-        only = record { later = later_on A.world B.world U (subst (IsLater A.world) (sym by.world) (effects_are_later A.world (f ∷ []) (allowed, tt) (let c = both.named in c.whole))) st.later; tops = st.tops ∙ ap (λ (V : World). V.disk.tops) by.world ∙ fixed.0; had = by.had; kept = by.kept; answers = by.answers; inc = by.inc; confd = by.confd };
+        only = record { later = later_on A.world B.world U (subst (IsLater A.world) (sym by.world) (effects_are_later A.world (f ∷ []) (allowed, tt) (let c = both.named in c.whole))) st.later; tops = st.tops ∙ ap (λ (V : World). V.disk.tops) by.world ∙ fixed.0; bare = λ z on. ap (λ (g : ℕ → Bool). g z) (sym fixed.2) ∙ ap (λ (V : World). V.disk.bare z) (sym by.world) ∙ st.bare z on; had = by.had; kept = by.kept; answers = by.answers; inc = by.inc; confd = by.confd };
         seen = naming_on x tops (confirms (top_of h.path) (with_locks h.path grants excluded d.names n)) B.world.disk U.disk B.names (root ∙ sym (ap (λ (V : World). V.disk.root) by.world ∙ fixed.1)) go.there.1;
       }
 
@@ -129,7 +129,7 @@ module _ (x : ℕ) (tops : Kinds) (unwalked : tops.walk ≡ None) (e : ℕ) (d :
         only.world,
         runs_keep B go.acts go.may st.named,
         only.inc,
-        record { later = subst (IsLater A.world) (sym only.world) st.later; tops = ap (λ (V : World). V.disk.tops) only.world ∙ st.tops; had = only.had; kept = only.kept; answers = only.answers; inc = only.inc; confd = λ z on. ap (λ f. f z) only.confd ∙ on },
+        record { later = subst (IsLater A.world) (sym only.world) st.later; tops = ap (λ (V : World). V.disk.tops) only.world ∙ st.tops; bare = λ z on. st.bare z (ap (λ (V : World). V.disk.bare z) (sym only.world) ∙ on); had = only.had; kept = only.kept; answers = only.answers; inc = only.inc; confd = λ z on. ap (λ f. f z) only.confd ∙ on },
         subst (λ z. SeesNaming x tops z (end_of B go.acts).world.disk (end_of B go.acts).names) (sym is) go.there.1,
       )
   unconfirmed W st root of_now o (inr (inr (is, again, untold))) =

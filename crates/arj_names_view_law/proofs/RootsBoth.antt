@@ -62,11 +62,11 @@ formats_have_both hd x tops unwalked has_it serial plain idem entries = (
 
 -- and so much is known of it
 pub formats_have_first : (hd : Header) (x : ℕ) (tops : Kinds) → tops.walk ≡ None → HasObject hd x → ((r : ℕ) → tops.is_serial r ≡ true → tops.root r ≡ r) → ((t : ℕ) → tops.is_serial (tops.root t) ≡ false → tops.root t ≡ t) → ((t : ℕ) → tops.root (tops.root t) ≡ tops.root t)
-    → AreEntries (first_disk hd 1).names → (A : Office) × SeesBoth x tops A (see [] (format hd)) × IsFirstNames A.names × (A.world.disk.tops ≡ []) × (A.world.disk.first.writer ≡ uid_number nobody) × (A.world.disk.first.version ≡ 0)
+    → AreEntries (first_disk hd 1).names → (A : Office) × SeesBoth x tops A (see [] (format hd)) × IsFirstNames A.names × (A.world.disk.tops ≡ []) × (A.world.disk.first.writer ≡ uid_number nobody) × (A.world.disk.first.version ≡ 0) × ((t : ℕ) → A.world.disk.bare t ≡ false)
 unfolding formats_have_both
 formats_have_first hd x tops unwalked has_it serial plain idem entries =
     let b = formats_have_both hd x tops unwalked has_it serial plain idem entries in
-    (b.0, b.1, first_names_is, (let f = seen.first_is hd x tops has_it in f.undecided), refl, refl)
+    (b.0, b.1, first_names_is, (let f = seen.first_is hd x tops has_it in f.undecided), refl, refl, (let f = seen.first_is hd x tops has_it in f.none_bare))
 
 -- ---- a root of which nothing has changed
 

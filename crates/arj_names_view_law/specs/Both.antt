@@ -49,10 +49,11 @@ pub record SeesBoth (x : ℕ) (tops : Kinds) (A : Office) (M : Seen) : Type 0 wh
   pub names : SeesNames x tops A M
 
 -- The disk half has gone on; of naming's half nothing but naming's memory has changed, in which whoever was confirmed is so still, and
--- answers were given; and no top was decided.
+-- answers were given; and no top was decided, with a record or without one.
 pub record OnlyMemory (A B : Office) : Type 0 where
   pub later : IsLater A.world B.world
   pub tops : B.world.disk.tops ≡ A.world.disk.tops
+  pub bare : (t : ℕ) → B.world.disk.bare t ≡ true → A.world.disk.bare t ≡ true
   pub had : B.names.had ≡ A.names.had
   pub kept : B.names.kept ≡ A.names.kept
   pub answers : (a : Answer) → In a A.names.answers → In a B.names.answers
