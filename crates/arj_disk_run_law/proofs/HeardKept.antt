@@ -119,7 +119,7 @@ heard_kept hd x R good knows_more has gives = record {
     ),
   );
   message = λ tops e k d t v from m outs M A walk knows r sent meant is of owned both p.
-      let at : IsHeardAt x R tops A (k, d, t) M = record { unwalked = walk; knows = knows; run = r; both = both; heard = p.0; versions = (let w = p.1 in w.0) } in
+      let at : IsHeardAt x R tops A (k, d, t) M = record { unwalked = walk; knows = knows; run = r; both = both; heard = p.0; versions = (let w = p.1 in w.0); decided = (let w = p.1 in w.1) } in
       let h = heard_message x R good gives tops e k d t v from m outs M A of at
       (λ n named. (knows_more _ r).0 k (record { number = k; disk = d; live = Some t }) t n (node_here M k (record { number = k; disk = d; live = Some t })) refl named)
       (let w = knows_more _ r in w.2) (let tops = (knows_more _ r).1 k (record { number = k; disk = d; live = Some t }) t (node_here M k (record { number = k; disk = d; live = Some t })) refl in tops.uses) sent owned meant is in

@@ -32,6 +32,7 @@ pub record IsHeardAt (x : ℕ) (R : Seen → Type 0) (tops : Kinds) (A : Office)
   pub both : SeesBoth x tops A (up s.0 s.1 s.2 M)
   pub heard : SeesHeard x tops A (up s.0 s.1 s.2 M)
   pub versions : SeesVersions x tops A (up s.0 s.1 s.2 M)
+  pub decided : SeesDecided tops A (up s.0 s.1 s.2 M)
 
 -- versions, and what is decided
 abbrev pub SeesMore : ℕ → Kinds → Office → Seen → Type 0
