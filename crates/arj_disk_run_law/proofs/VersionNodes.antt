@@ -24,7 +24,7 @@ use Rattle.arj_protocol.specs.Server.{Server}
 use Rattle.arj_part_law.specs.Ends.{ask_ends, brought_by}
 use Rattle.arj_disk_law.proofs.Base.{never}
 use Rattle.arj_disk_run_law.specs.States.{AllSay, AnsweredIsSo, AskIsSo, AskedIsSo, CoordIsSo, Fits, MayKeep, MessageIsSo, ReplyIsSo}
-use Rattle.arj_disk_run_law.specs.Versions.{AreRaised, CopiesAreSo, EndsRaise, PartsAreSo, fits_of}
+use Rattle.arj_disk_run_law.specs.Versions.{AreRaised, CopiesAreSo, EndsRaise, PartsAreSo, fits_of, most_version}
 use Rattle.arj_disk_run_law.proofs.HeardPosts.{all_join}
 use Rattle.arj_disk_run_law.proofs.StateCoords.{acks_so, hears_so, query_so}
 use Rattle.arj_disk_run_law.proofs.StateTicks.{queries, server_lines}
@@ -73,7 +73,7 @@ module _ (x : ℕ) (V : ℕ → Type 0) where
 
   -- ---- one message
 
-  module _ (short : (v : ℕ) → V v → v < 18446744073709551615) (node : ℕ) (d : Disk) (t : Parts) (from : ℕ) (its : PartsAreSo x V t) (held : (y : ℕ) (st : ObjectState) → held_at (object y) d.store ≡ Some st → st.uid ≡ object x → V st.version) where
+  module _ (short : (v : ℕ) → V v → v < most_version) (node : ℕ) (d : Disk) (t : Parts) (from : ℕ) (its : PartsAreSo x V t) (held : (y : ℕ) (st : ObjectState) → held_at (object y) d.store ≡ Some st → st.uid ≡ object x → V st.version) where
     abbrev By : Handled → Type 0
     By (Void outs) = ⊤
     By (Took v outs) = PartsAreSo x V v × All outs

@@ -15,7 +15,7 @@ use Rattle.arj_protocol.specs.Order.{at_number, at_uid, binding_eq, binding_less
 use Rattle.arj_protocol.specs.Server.{Kept, Server, activate, active_binding, apply_ends, changed_by, end_new, end_one, first_unbound, has_ended, invoke, invoke_kept, invoke_new, invoke_now, is_below, is_told, keeps, on_copy, other_inc, taken_end, told, took_copy, vote, vote_now}
 use Rattle.arj_part_law.proofs.LivesNamed.{keyed_found, keyed_put}
 use Rattle.arj_disk_run_law.specs.States.{Own, ReplyIsSo}
-use Rattle.arj_disk_run_law.specs.Versions.{AreRaised, CopiesAreSo, CopyIsSo, IsAbove, IsRaised, fits_of}
+use Rattle.arj_disk_run_law.specs.Versions.{AreRaised, CopiesAreSo, CopyIsSo, IsAbove, IsRaised, fits_of, most_version}
 
 module _ (x : ℕ) (V : ℕ → Type 0) where
   -- ---- a copy
@@ -105,11 +105,11 @@ module _ (x : ℕ) (V : ℕ → Type 0) where
 
   -- ---- votes
 
-  module _ (short : (v : ℕ) → V v → v < 18446744073709551615) where
+  module _ (short : (v : ℕ) → V v → v < most_version) where
     above : (v : ℕ) → V v → IsAbove V (next_version v)
     above v its = (v, its, small v (short v its))
       where
-        small : (v : ℕ) → v < 18446744073709551615 → min (v + 1) 18446744073709551615 ≡ v + 1
+        small : (v : ℕ) → v < most_version → min (v + 1) most_version ≡ v + 1
         small v less = omega (arith, less)
 
     changed_so : (top : Uid) (objects : List (ℕ × Copy)) → AllByRecursion (λ (e : ℕ × Copy). CopyIsSo x V e.0 e.1) objects → AllByRecursion (Own (fits_of x V).voted) (filter_map (λ (e : ℕ × Copy). changed_state top e.0 e.1) objects)
