@@ -1,12 +1,12 @@
 -- Files are clean after each run, by both machines of each object, with what is named.
-use Rattle.std.proofs.Common.{Contains, ◌≡◌, ◌⊎◌, ◌<◌, ◌≤◌, ◌==◌, ◌||◌, ℕ, Bool, cond, false, eqb-true, eq-eqb, List, [], ◌∷◌, ◌++◌, length, true, is_some, refl, subst, inl, inr, ⊎_elim, filter, ap, sym, ◌∙◌, Option, Some, None}
+use Rattle.std.proofs.Common.{Contains, ◌≡◌, ◌⊎◌, ◌<◌, ◌≤◌, ◌==◌, ◌&&◌, ◌||◌, ℕ, Bool, not, cond, false, eqb-true, eq-eqb, List, [], ◌∷◌, ◌++◌, length, true, is_some, refl, subst, inl, inr, ⊎_elim, filter, ap, sym, ◌∙◌, Option, Some, None}
 use Rattle.std.specs.List.{AllByRecursion}
 use Rattle.arj_journal.specs.ScriptForm.{HeaderInForm}
 use Rattle.arj_lock.proofs.Members.{In, in_find_none, in_from, in_to}
 use Rattle.arj_model.specs.Actions.{Act, acts}
 use Rattle.arj_model.specs.Calls.{Top, tops}
 use Rattle.arj_model.specs.Clean.{Clean, Disks}
-use Rattle.arj_model.specs.Last.{first_values, object_line}
+use Rattle.arj_model.specs.Last.{first_values, is_among, leaves_of, object_line}
 use Rattle.arj_model.specs.Serial.{Values}
 use Rattle.arj_protocol.specs.Words.{Header, Line, ObjectLine}
 use Rattle.arj_protocol.specs.World.{Asked, World, format, journal, run_all}
@@ -15,7 +15,7 @@ use Rattle.arj_line_law.specs.Right.{AreRight}
 use Rattle.arj_line_law.specs.Knows.{IsKept}
 use Rattle.arj_line_law.proofs.Runs.{lines_keep, run_written}
 use Rattle.arj_disk_law.specs.Order.{counts_of}
-use Rattle.arj_disk_law.specs.State.{Done, decided as decided_so, decided_in}
+use Rattle.arj_disk_law.specs.State.{Done, decided as decided_so, decided_in, target}
 use Rattle.arj_disk_law.specs.Words as disk
 use Rattle.arj_disk_line_law.specs.Said.{IsJournalled}
 use Rattle.arj_line_law.specs.Idle.{HasNothing}
@@ -131,13 +131,17 @@ in_behind : (d : Done) (xs ys : List Done) → disk.In d ys → disk.In d (xs ++
 in_behind d [] ys i = i
 in_behind d (x ∷ xs) ys i = inr (in_behind d xs ys i)
 
-are_decisions : (values : Values) (lines : List Line) (x : ℕ) (ds : List Done) (ts : List Top) → AreNamed lines x ds ts → AreWritten values lines x ds → AreDecisions values lines x ds ts
-are_decisions values lines x [] [] named wrote = tt
-are_decisions values lines x [] (t ∷ ts) named wrote = absurd named
-are_decisions values lines x (d ∷ ds) [] named wrote = absurd named
-are_decisions values lines x (d ∷ ds) (t ∷ ts) named wrote =
+-- what they take out of the list is what their commits excluded
+abbrev Leave : List Line → ℕ → List Done → Type 0
+Leave lines x ds = (d : Done) (t : Top) → disk.In d ds → Contains (tops lines) t → d.top ≡ number_of lines t → (s : ℕ) → (target d.plan s && not (d.got s)) ≡ is_among (leaves_of lines t.id x) s
+
+are_decisions : (values : Values) (lines : List Line) (x : ℕ) (ds : List Done) (ts : List Top) → AreNamed lines x ds ts → AreWritten values lines x ds → Leave lines x ds → AreDecisions values lines x ds ts
+are_decisions values lines x [] [] named wrote leave = tt
+are_decisions values lines x [] (t ∷ ts) named wrote leave = absurd named
+are_decisions values lines x (d ∷ ds) [] named wrote leave = absurd named
+are_decisions values lines x (d ∷ ds) (t ∷ ts) named wrote leave =
     let n = named.0 in
-    (record { listed = n.listed; number = n.number; wrote = wrote d t (inl refl) n.listed n.number; leaves = n.leaves; joins = n.joins }, are_decisions values lines x ds ts named.1 (λ e u i. wrote e u (inr i)))
+    (record { listed = n.listed; number = n.number; wrote = wrote d t (inl refl) n.listed n.number; leaves = leave d t (inl refl) n.listed n.number; joins = n.joins }, are_decisions values lines x ds ts named.1 (λ e u i. wrote e u (inr i)) (λ e u i. leave e u (inr i)))
 
 -- a state of the disk machine in which decisions are those of the journal
 abbrev pub Held : Header → List Asked → Type 0
@@ -173,8 +177,16 @@ module _ (hd : Header) (es : List Asked) (form : HeaderInForm hd) (tied : AreLoc
     its : DecideThose hd (journal hd es) x (disk_of h.holds) d.others
     its = d.decide
 
+    leave : Leave (journal hd es) x (filter counts_of d.others)
+    leave e t i listed number s =
+        let k = top_item (journal hd es) right t (in_from t (tops (journal hd es)) listed) in
+        let z = tied.listed x there in
+        let o = h.holds in
+        o.leaves e k.act (subst (disk.In e) (sym d.are) (in_behind e d.late d.others (of_filter e d.others i))) (in_to k.act (acts (journal hd es)) k.there) (sym (number ∙ number_is (first_values hd) (journal hd es) x z.0 right z.1 t k)) s
+        ∙ ap (λ n. is_among (leaves_of (journal hd es) n x) s) k.number
+
     decisions : AreDecisions (first_values hd) (journal hd es) x (filter counts_of d.others) its.those
-    decisions = are_decisions (first_values hd) (journal hd es) x (filter counts_of d.others) its.those its.each (λ e t i. written e t (of_filter e d.others i))
+    decisions = are_decisions (first_values hd) (journal hd es) x (filter counts_of d.others) its.those its.each (λ e t i. written e t (of_filter e d.others i)) leave
 
     -- each that wrote the object is one of them
     wrote_all : (t : Top) → In t (tops (journal hd es)) → Wrote (journal hd es) x t → In t its.those

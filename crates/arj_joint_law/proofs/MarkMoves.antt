@@ -377,7 +377,7 @@ module _ (F : List ℕ → ℕ → ℕ → Bool) (c : Coord) (distinct : Distinc
 -- ---- marks and calls
 
 -- names stay
-acts_stay : (B : Book) (lines : List Line) → AreRight B lines → (l : List ℕ) (a : Act) → act_in B.acts l ≡ Some a → act_in (book_from B lines).acts l ≡ Some a
+pub acts_stay : (B : Book) (lines : List Line) → AreRight B lines → (l : List ℕ) (a : Act) → act_in B.acts l ≡ Some a → act_in (book_from B lines).acts l ≡ Some a
 acts_stay B [] right l a is = is
 acts_stay B (k ∷ ls) right l a is = acts_stay (turned B k.body) ls right.1 l a (one k.body right.0)
   where

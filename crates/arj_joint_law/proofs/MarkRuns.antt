@@ -41,7 +41,7 @@ use Rattle.arj_protocol.specs.Ask.{actor}
 
 -- ---- lines
 
-quiet_none : (b : Body) → is_quiet_line b ≡ true → NoMark b
+pub quiet_none : (b : Body) → is_quiet_line b ≡ true → NoMark b
 quiet_none (body.Excluded m y n) is l x s = absurd (cc is)
 quiet_none b is l x s = refl
 
@@ -49,19 +49,19 @@ or_more : (a b c : Bool) → (a || (b || c)) ≡ ((a || b) || c)
 or_more true b c = refl
 or_more false b c = refl
 
-or_false : (b : Bool) → (b || false) ≡ b
+pub or_false : (b : Bool) → (b || false) ≡ b
 or_false true = refl
 or_false false = refl
 
-no_left : (a b : Bool) → (a || b) ≡ false → a ≡ false
+pub no_left : (a b : Bool) → (a || b) ≡ false → a ≡ false
 no_left true b is = absurd (cc is)
 no_left false b is = refl
 
-no_right : (a b : Bool) → (a || b) ≡ false → b ≡ false
+pub no_right : (a b : Bool) → (a || b) ≡ false → b ≡ false
 no_right true b is = absurd (cc is)
 no_right false b is = is
 
-marked_more : (ls ks : List Line) (l : List ℕ) (x s : ℕ) → was_marked (ls ++ ks) l x s ≡ (was_marked ls l x s || was_marked ks l x s)
+pub marked_more : (ls ks : List Line) (l : List ℕ) (x s : ℕ) → was_marked (ls ++ ks) l x s ≡ (was_marked ls l x s || was_marked ks l x s)
 marked_more [] ks l x s = refl
 marked_more (k ∷ ls) ks l x s = ap (λ b. excludes l x s k.body || b) (marked_more ls ks l x s) ∙ or_more (excludes l x s k.body) (was_marked ls l x s) (was_marked ks l x s)
 
@@ -69,7 +69,7 @@ quiet_marked : (e : ℕ) (bs : List Body) → AreQuiet bs → (l : List ℕ) (x 
 quiet_marked e [] quiet l x s = refl
 quiet_marked e (b ∷ bs) quiet l x s = let p = and_parts (is_quiet_line b) (list_all is_quiet_line bs) quiet in λ i. quiet_none b p.0 l x s i || quiet_marked e bs p.1 l x s i
 
-same_marked : (e : ℕ) (bs : List Body) (ls : List Line) → AreQuiet bs → (l : List ℕ) (x s : ℕ) → was_marked (ls ++ numbered e bs) l x s ≡ was_marked ls l x s
+pub same_marked : (e : ℕ) (bs : List Body) (ls : List Line) → AreQuiet bs → (l : List ℕ) (x s : ℕ) → was_marked (ls ++ numbered e bs) l x s ≡ was_marked ls l x s
 same_marked e bs ls quiet l x s = marked_more ls (numbered e bs) l x s ∙ ap (λ b. was_marked ls l x s || b) (quiet_marked e bs quiet l x s) ∙ or_false (was_marked ls l x s)
 
 says_on : (ls ks : List Line) (d : Doing) → ((m : Machine) → d.now ≡ Committing m → (x s : ℕ) → was_marked ks (name d.label) x s ≡ was_marked ls (name d.label) x s) → SaysMarks ls d → SaysMarks ks d
@@ -84,11 +84,11 @@ none_at : {A P : Type 0} {o : Option A} {x : A} → o ≡ None → o ≡ Some x 
 none_at {A} {P} {o} {x} none is = let no_way : ◌≡◌ {A = Option A} None (Some x) = sym none ∙ is in absurd (cc no_way)
 
 -- the label of a commit under way is that of its action, at its node
-record IsNamed (M : Seen) (j : ℕ) (u : Uid) (d : Doing) : Type 0 where
-  act : Act
-  named : act_in (book M.lines).acts (name d.label) ≡ Some act
-  uid : act.uid ≡ u
-  node : u.node ≡ j
+pub record IsNamed (M : Seen) (j : ℕ) (u : Uid) (d : Doing) : Type 0 where
+  pub act : Act
+  pub named : act_in (book M.lines).acts (name d.label) ≡ Some act
+  pub uid : act.uid ≡ u
+  pub node : u.node ≡ j
 
 own_doing : (u : Uid) (c : Coord) (d : Doing) → doing_of u c ≡ Some d → is_own u c.tree ≡ true
 own_doing u c d found = by (is_own u c.tree) found
@@ -97,7 +97,7 @@ own_doing u c d found = by (is_own u c.tree) found
     by true is = refl
     by false is = absurd (cc is)
 
-named_at : (M : Seen) → IsKept M → (j : ℕ) (n : Node) (t : Parts) (u : Uid) (d : Doing) (m : Machine) → M.nodes j ≡ Some n → n.live ≡ Some t → doing_of u t.coord ≡ Some d → d.now ≡ Committing m → IsNamed M j u d
+pub named_at : (M : Seen) → IsKept M → (j : ℕ) (n : Node) (t : Parts) (u : Uid) (d : Doing) (m : Machine) → M.nodes j ≡ Some n → n.live ≡ Some t → doing_of u t.coord ≡ Some d → d.now ≡ Committing m → IsNamed M j u d
 named_at M kept j n t u d m here live found now = record { act = known.act; named = known.named; uid = known.uid; node = eqb-true u.node t.coord.tree.node (and_parts (u.node == t.coord.tree.node) (u.inc == t.coord.tree.inc) (own_doing u t.coord d found)).0 ∙ home }
   where
     good : IsGood M
@@ -201,11 +201,14 @@ module _ (e k : ℕ) (d : Disk) (t : Parts) (M : Seen) (kept : IsKept (up k d t 
   moves_walk : (v : Parts) (outs : List Effect) → Moves (was_marked M.lines) t.coord outs v.coord → Walks MarksAreSaid e k outs (Up MarksAreSaid k v) d M
   moves_walk v outs moves = walk e k v (after (was_marked M.lines) outs) moves.all outs d M (λ l x s. refl) (others_of k d (Some t) M all) (apart_of outs moves.whose)
 
-  message_walk : (v : Parts) (from : ℕ) (m : Message) (outs : List Effect) → handle k d t from m ≡ Took v outs → Walks MarksAreSaid e k outs (Up MarksAreSaid k v) d M
-  message_walk v from m outs is = moves_walk v outs (message_moves (was_marked M.lines) t.coord distinct own k d t v from m outs refl is)
+  pub message_moved : (v : Parts) (from : ℕ) (m : Message) (outs : List Effect) → handle k d t from m ≡ Took v outs → Moves (was_marked M.lines) t.coord outs v.coord
+  message_moved v from m outs is = message_moves (was_marked M.lines) t.coord distinct own k d t v from m outs refl is
 
-  act_walk : (hd : Header) (i : Input) → is_act i ≡ true → input.refusal_up hd i t.coord ≡ None → (let did = acts i d.intents t.coord in Walks MarksAreSaid e k did.outs (Up MarksAreSaid k (with_coord t did.part)) d M)
-  act_walk hd i is free = let did = acts i d.intents t.coord in moves_walk (with_coord t did.part) did.outs (acts_move (was_marked M.lines) t.coord distinct own i d.intents other fresh)
+  message_walk : (v : Parts) (from : ℕ) (m : Message) (outs : List Effect) → handle k d t from m ≡ Took v outs → Walks MarksAreSaid e k outs (Up MarksAreSaid k v) d M
+  message_walk v from m outs is = moves_walk v outs (message_moved v from m outs is)
+
+  pub act_moved : (hd : Header) (i : Input) → is_act i ≡ true → input.refusal_up hd i t.coord ≡ None → (let did = acts i d.intents t.coord in Moves (was_marked M.lines) t.coord did.outs did.part)
+  act_moved hd i is free = acts_move (was_marked M.lines) t.coord distinct own i d.intents other fresh
     where
       other : (l : Label) (how : Kind) (parent : Option Label) → i ≢ input.Begin l how parent
       other l how parent same = let no_way : false ≡ true = sym (ap is_act same) ∙ is in cc no_way
@@ -220,8 +223,11 @@ module _ (e k : ℕ) (d : Disk) (t : Parts) (M : Seen) (kept : IsKept (up k d t 
           let open_it = right.1 in
           unmarked new_book M.lines (let w = kept.1 in w.right) (name q.label) right.0 open_it.named right.3 x s
 
+  act_walk : (hd : Header) (i : Input) → is_act i ≡ true → input.refusal_up hd i t.coord ≡ None → (let did = acts i d.intents t.coord in Walks MarksAreSaid e k did.outs (Up MarksAreSaid k (with_coord t did.part)) d M)
+  act_walk hd i is free = let did = acts i d.intents t.coord in moves_walk (with_coord t did.part) did.outs (act_moved hd i is free)
+
 -- each of them keeps it, beside good nodes and the journal
-marks_given : (hd : Header) → KeepsGiven hd IsKept MarksAreSaid
+pub marks_given : (hd : Header) → KeepsGiven hd IsKept MarksAreSaid
 marks_given hd = record {
   quiet = λ e bs M quiet g p j n t u q is live found. says_on M.lines (M.lines ++ numbered e bs) q (λ m now. same_marked e bs M.lines quiet (name q.label)) (p j n t u q is live found);
   stop = λ e k d live M g p. down_so e k d M (others_of k d live M p);

@@ -1,5 +1,5 @@
 -- The order in which an object's machine decides tops, in every run.
-use Rattle.std.proofs.Common.{◌≡◌, ◌⊎◌, ℕ, List, [], ◌∷◌, true, ◌∙◌, ap, subst, inl, inr, is_some, length}
+use Rattle.std.proofs.Common.{◌≡◌, ◌⊎◌, ℕ, List, [], ◌∷◌, true, ◌∙◌, ap, subst, inl, inr, is_some, length, not, sym, ◌&&◌}
 use Rattle.std.specs.Prelude.{◌≤◌, Contains}
 use Rattle.arj_journal.specs.ScriptForm.{HeaderInForm}
 use Rattle.arj_lock.proofs.Members.{In, in_from}
@@ -9,10 +9,11 @@ use Rattle.arj_protocol.specs.Words.{Header, Line, Uid}
 use Rattle.arj_protocol.specs.World.{Asked, format, run_all}
 use Rattle.arj_disk_law.specs.Effects as machine
 use Rattle.arj_disk_law.specs.Names.{Office}
-use Rattle.arj_disk_law.specs.State.{Done}
+use Rattle.arj_disk_law.specs.State.{Done, decided_in, target}
 use Rattle.arj_disk_law.proofs.Base.{never}
+use Rattle.arj_disk_law.proofs.History.{in_decided}
 use Rattle.arj_view_law.specs.Keeps.{Holds, Keeps}
-use Rattle.arj_view_law.specs.Seen.{Seen}
+use Rattle.arj_view_law.specs.Seen.{Seen, Post, see}
 use Rattle.arj_view_law.proofs.Happens.{runs_hold}
 use Rattle.arj_binding_law.specs.Scripts.{most_events}
 use Rattle.arj_call_law.specs.Runs.{KnowsFew}
@@ -37,12 +38,22 @@ use Rattle.arj_disk_line_law.proofs.IdleKnown.{KnowsIdle, knows_idle}
 use Rattle.arj_disk_line_law.proofs.Tying.{both_too, journalled_beside, one_act, tied_part}
 use Rattle.arj_serial_law.specs.Cleaned.{BeginsSo}
 use Rattle.arj_disk_run_law.specs.Decided.{AreCalled, AreOnce}
-use Rattle.arj_joint_law.specs.Ordered.{AreTurns, AreTurnsOf, IsCalledFirst, IsOrderedSo, RunsAreOrdered, RunsAreOrderedBeside}
+use Rattle.arj_joint_law.specs.Ordered.{AreLeftOf, AreTurns, AreTurnsOf, IsCalledFirst, IsOrderedSo, RunsAreOrdered, RunsAreOrderedBeside}
 use Rattle.arj_joint_law.proofs.Beginning.{WithFirst, first_begins, first_part}
 use Rattle.arj_joint_law.proofs.Firsts.{line_there}
 use Rattle.arj_joint_law.proofs.Ordering.{ordered_part}
 use Rattle.arj_joint_law.proofs.Turns.{IdleThere}
 use Rattle.arj_joint_law.specs.Joined.{world_of}
+use Rattle.arj_joint_law.specs.Marked.{MarksAreSaid, was_marked}
+use Rattle.arj_joint_law.specs.MarkedTops.{AreMarkedSo, IsMarkedSo}
+use Rattle.arj_line_law.proofs.Models.{its_acts, named_in}
+use Rattle.arj_call_law.proofs.Given.{keeps_given, kept_both}
+use Rattle.arj_protocol.specs.Order.{uid_number}
+use Rattle.arj_line_law.specs.Whose.{IsOfNode}
+use Rattle.arj_line_law.proofs.Owners.{have_nodes}
+use Rattle.arj_joint_law.proofs.Leaving.{left}
+use Rattle.arj_joint_law.proofs.MarkRuns.{marks_given}
+use Rattle.arj_joint_law.proofs.MarkTies.{WithMarks, marks_part}
 
 abbrev Idle : List Line → Uid → Type 0
 Idle ls u = IsIdle (book ls) u
@@ -64,15 +75,43 @@ turns_of lines right (d ∷ ds) turns = (λ e a b i in_a in_b ea db top apart. b
 abbrev pub IsOrderedBeside : (Kinds → Office → Seen → Type 0) → Header → ℕ → Seen → Type 0
 IsOrderedBeside P hd x M = (o : IsOrderedSo hd x M) × (tops : Kinds) × (A : Office) × (A.world ≡ world_of o) × P tops A M × KnowsFew M
 
+-- what decided tops excluded, in the words of the model
+module _ (hd : Header) (x : ℕ) (es : List Asked) (sent : List Post) (W : machine.World) (right : AreRight new_book (run_all es (format hd)).lines) (whole : machine.Whole W) (marks : AreMarkedSo x W (see sent (run_all es (format hd)))) where
+  abbrev lines : List Line
+  lines = (run_all es (format hd)).lines
+
+  leaves_all : AreLeftOf lines x W.disk.tops
+  leaves_all d a i there number s = (λ j. target (plan j) s && not (got j s)) ∙ sym (its.marks s) ∙ ap (λ (y : Act). was_marked lines y.label x s) same ∙ left lines right x a (in_from a (acts_of lines) there) s
+    where
+      node : IsOfNode (run_all es (format hd)) a
+      node = have_nodes hd es a there
+
+      its : IsMarkedSo x W (see sent (run_all es (format hd))) a.uid
+      its = marks.decisions a.uid node.node node.there (ap (decided_in W.disk.tops) number ∙ in_decided W.disk.tops d i)
+
+      same : its.act ≡ a
+      same = one_act (acts_of lines) (let z : IsSound lines = is_sound lines right in z.distinct) its.act a (subst (In its.act) (its_acts lines right) (named_in (book lines).acts its.act.label its.act its.named)) (in_from a (acts_of lines) there) its.uid
+
+      plan : d.plan ≡ W.disk.plan (uid_number a.uid)
+      plan = (let c = whole.core in let j = c.journal in j.plan d i) ∙ ap W.disk.plan (sym number)
+
+      got : d.got ≡ W.disk.got (uid_number a.uid)
+      got = (let c = whole.core in let j = c.journal in j.got d i) ∙ ap W.disk.got (sym number)
+
+-- what is said of the exclusions of commits under way is known too
+abbrev Marking : (Seen → Type 0) → Seen → Type 0
+Marking R M = R M × (IsKept M × MarksAreSaid M)
+
 pub ordered_beside : (hd : Header) (x : ℕ) (R : Seen → Type 0) (P : Kinds → Office → Seen → Type 0) → HeaderInForm hd → is_some (object_line hd x) ≡ true → Keeps hd R → KeepsPart hd x (λ M. R M × KnowsScript M) P → (es : List Asked) → length es ≤ most_events → Holds hd (IsOrderedBeside P hd x) (run_all es (format hd))
 ordered_beside hd x R P form there kept parts es short =
-    let first : KeepsPart hd x (λ M. R M × KnowsScript M) (WithFirst hd x P) = first_part hd x (λ M. R M × KnowsScript M) P parts (first_begins hd x form there) in
-    let idles : KnowsIdle R Idle = knows_idle R in
-    let tied = tied_part hd x R KnowsScript (WithFirst hd x P) Idle kept first idles in
-    let ordered = ordered_part hd x (λ M. R M × IsKept M) KnowsScript (WithTie (WithFirst hd x P) Idle) Idle (both_too hd x R KnowsScript (WithFirst hd x P) Idle kept first idles) (λ M r. r.1) (knows_idle (λ M. R M × IsKept M)) tied (λ tops A M p. (p.1).1) in
-    let h = journalled_beside hd x (λ M. R M × IsKept M) _ (both_too hd x R KnowsScript (WithFirst hd x P) Idle kept first idles) ordered es short in
+    let first : KeepsPart hd x (λ M. Marking R M × KnowsScript M) (WithFirst hd x (WithMarks x P)) = first_part hd x (λ M. Marking R M × KnowsScript M) (WithMarks x P) marks (first_begins hd x form there) in
+    let idles : KnowsIdle (Marking R) Idle = knows_idle (Marking R) in
+    let tied = tied_part hd x (Marking R) KnowsScript (WithFirst hd x (WithMarks x P)) Idle marking first idles in
+    let ordered = ordered_part hd x (λ M. Marking R M × IsKept M) KnowsScript (WithTie (WithFirst hd x (WithMarks x P)) Idle) Idle (both_too hd x (Marking R) KnowsScript (WithFirst hd x (WithMarks x P)) Idle marking first idles) (λ M r. r.1) (knows_idle (λ M. Marking R M × IsKept M)) tied (λ tops A M p. (p.1).1) in
+    let h = journalled_beside hd x (λ M. Marking R M × IsKept M) _ (both_too hd x (Marking R) KnowsScript (WithFirst hd x (WithMarks x P)) Idle marking first idles) ordered es short in
     let b = h.holds in
     let order = (let z = b.3 in z.1) in
+    let more = (let z = b.3 in let t = z.0 in let p = t.0 in p.0) in
     let right = (let r = runs_hold hd IsKept (lines_keep hd) es in let k = r.holds in let w = k.1 in w.right) in
     record {
       sent = h.sent;
@@ -83,14 +122,21 @@ ordered_beside hd x R P form there kept parts es short =
           once = subst (λ (W : machine.World). AreOnce W.disk.tops) b.2 order.once;
           called = subst (λ (W : machine.World). AreCalled (run_all es (format hd)).lines W.disk.tops) b.2 order.called;
           turns = subst (λ (W : machine.World). AreTurnsOf (run_all es (format hd)).lines W.disk.tops) b.2 (turns_of (run_all es (format hd)).lines right (let A = b.1 in A.world.disk.tops) order.turns);
+          leaves = (let j = b.0 in leaves_all hd x es h.sent j.machine right (let s = j.sees in s.whole) (subst (λ (W : machine.World). AreMarkedSo x W (see h.sent (run_all es (format hd)))) b.2 more.1));
         },
         (let j = b.0 in j.tops),
         b.1,
         b.2,
-        (let z = b.3 in let t = z.0 in let p = t.0 in p.0),
+        more.0,
         b.4,
       );
     }
+  where
+    marking : Keeps hd (Marking R)
+    marking = kept_both hd R (λ M. IsKept M × MarksAreSaid M) kept (keeps_given hd R (λ M. IsKept M × MarksAreSaid M) (kept_both hd IsKept MarksAreSaid (lines_keep hd) (marks_given hd)))
+
+    marks : KeepsPart hd x (λ M. Marking R M × KnowsScript M) (WithMarks x P)
+    marks = marks_part hd x (λ M. R M × KnowsScript M) (λ M. Marking R M × KnowsScript M) P (λ M r. (r.0.0, r.1)) (λ M r. r.0.1) parts
 
 ordered : (hd : Header) (x : ℕ) (P : Kinds → Office → Seen → Type 0) (es : List Asked) → Holds hd (IsOrderedBeside P hd x) (run_all es (format hd)) → Holds hd (IsOrderedSo hd x) (run_all es (format hd))
 ordered hd x P es h = record { sent = h.sent; stands = h.stands; holds = (let z = h.holds in z.0) }

@@ -2,9 +2,7 @@
 use Rattle.std.proofs.Common.{◌≡◌, ℕ, ◌+◌, List, [], Bool, true, Some, None, refl, sym, subst}
 use Rattle.arj_base.specs.Rows.{is_on}
 use Rattle.arj_protocol.specs.Words.{Body, Header, Kind, Label, Line, Uid}
-use Rattle.arj_protocol.specs.Words.ask
 use Rattle.arj_protocol.specs.Asking.{again_all, begin_action}
-use Rattle.arj_protocol.specs.Commit as commit
 use Rattle.arj_protocol.specs.Effect.{Disk, Effect}
 use Rattle.arj_protocol.specs.Follow.{tick_outs}
 use Rattle.arj_protocol.specs.Node.{Parts, with_coord}

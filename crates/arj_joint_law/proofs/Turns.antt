@@ -3,7 +3,6 @@ use Rattle.std.proofs.Common.{◌≡◌, ◌⊎◌, ℕ, List, [], ◌∷◌, �
 use Rattle.arj_base.specs.Rows.{is_on}
 use Rattle.arj_protocol.specs.Words.{Line, Uid}
 use Rattle.arj_protocol.specs.Order.{uid_number}
-use Rattle.arj_disk_law.specs.Effects as machine
 use Rattle.arj_disk_law.specs.Effects.{Whole, World}
 use Rattle.arj_disk_law.specs.State.{Done, decided}
 use Rattle.arj_disk_law.specs.Words.{In}

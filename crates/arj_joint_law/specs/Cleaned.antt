@@ -1,5 +1,5 @@
 -- Runs whose files are clean, by both machines of each object, with what these are still asked for.
-use Rattle.std.specs.Prelude.{⊤, ◌≡◌, ◌⊎◌, ◌<◌, ◌≤◌, ◌++◌, ◌==◌, ◌&&◌, not, ℕ, Bool, true, List, [], ◌∷◌, None, Some, filter, is_some, length, Contains}
+use Rattle.std.specs.Prelude.{⊤, ◌≡◌, ◌⊎◌, ◌<◌, ◌≤◌, ◌++◌, ◌==◌, not, ℕ, Bool, true, List, [], ◌∷◌, None, Some, filter, is_some, length, Contains}
 use Rattle.std.specs.List.{list_any}
 use Rattle.arj_journal.specs.ScriptForm.{HeaderInForm}
 use Rattle.arj_model.specs.Actions.{acts}
@@ -11,7 +11,7 @@ use Rattle.arj_protocol.specs.Words.{Header, Line}
 use Rattle.arj_protocol.specs.World.{Asked, format, journal, run_all}
 use Rattle.arj_law.specs.Growth.{IdleInPlace, first_stores}
 use Rattle.arj_disk_law.specs.Order.{counts_of}
-use Rattle.arj_disk_law.specs.State.{Done, Packed, State, entry_in, last_entry, target}
+use Rattle.arj_disk_law.specs.State.{Done, Packed, State, entry_in, last_entry}
 use Rattle.arj_disk_law.specs.Words.{In}
 use Rattle.arj_view_law.specs.Keeps.{Holds}
 use Rattle.arj_view_law.specs.Seen.{Seen, see}
@@ -39,12 +39,11 @@ is_one_of ts t = list_any (λ (u : Top). u.id == t.id) ts
 abbrev pub number_of : List Line → Top → ℕ
 number_of lines t = uid_number (uid_of_id (acts lines) t.id)
 
--- A decided top of the machine is this one of the journal, takes out of the list the stores that its commit excluded, and adds those of its surviving
--- includes: as `IsDecision` of `arj_serial_law` has it, but for what it wrote.
+-- A decided top of the machine is this one of the journal, and adds to the list the stores of its surviving includes: as `IsDecision` of `arj_serial_law`
+-- has it, but for what it wrote and what it takes out of the list.
 pub record IsNamed (lines : List Line) (x : ℕ) (d : Done) (t : Top) : Type 0 where
   pub listed : Contains (tops lines) t
   pub number : d.top ≡ number_of lines t
-  pub leaves : (s : ℕ) → (target d.plan s && not (d.got s)) ≡ is_among (leaves_of lines t.id x) s
   pub joins : filter d.got (let p = d.plan in p.joins) ≡ increasing (filter (λ s. not (is_among (leaves_of lines t.id x) s)) (joins_of lines t.id x))
 
 -- so each, one by one
@@ -54,8 +53,8 @@ AreNamed lines x (d ∷ ds) (t ∷ ts) = IsNamed lines x d t × AreNamed lines x
 AreNamed lines x ds ts = ⊥
 
 -- The decided tops of the disk machine that count are these tops of the journal, and each of them changed the object. As
--- `DecideChanges` of `arj_serial_law`, but what they wrote isn't asked; of the order of commit calls only what includes have to do with is, and not
--- that each top which wrote the object is one of these.
+-- `DecideChanges` of `arj_serial_law`, but what they wrote and excluded isn't asked; of the order of commit calls only what includes have to do with
+-- is, and not that each top which wrote the object is one of these.
 pub record DecideThose (header : Header) (lines : List Line) (x : ℕ) (S : State) (ds : List Done) : Type 0 where
   pub those : List Top
   pub each : AreNamed lines x (filter counts_of ds) those

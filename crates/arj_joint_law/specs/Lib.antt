@@ -4,6 +4,7 @@ pub mod Forms
 pub mod Ordered
 pub mod Shown
 pub mod Marked
+pub mod MarkedTops
 pub mod Writers
 pub mod Outcome
 pub mod Samples

@@ -1,15 +1,15 @@
 -- In which order an object's machine decides tops, against the journal.
-use Rattle.std.specs.Prelude.{⊤, ◌≡◌, ◌≢◌, ◌⊎◌, ◌≤◌, ◌++◌, ℕ, Bool, true, false, List, [], ◌∷◌, Contains, is_some, length}
+use Rattle.std.specs.Prelude.{⊤, ◌≡◌, ◌≢◌, ◌⊎◌, ◌≤◌, ◌++◌, ◌&&◌, ℕ, Bool, true, false, not, List, [], ◌∷◌, Contains, is_some, length}
 use Rattle.arj_base.specs.Rows.{is_on}
 use Rattle.arj_journal.specs.ScriptForm.{HeaderInForm}
 use Rattle.arj_model.specs.Actions.{Act, acts}
-use Rattle.arj_model.specs.Last.{object_line}
+use Rattle.arj_model.specs.Last.{is_among, leaves_of, object_line}
 use Rattle.arj_protocol.specs.Words.{Header, Line, Uid}
 use Rattle.arj_protocol.specs.Order.{uid_number}
 use Rattle.arj_protocol.specs.World.{Asked, format, run_all}
 use Rattle.arj_disk_law.specs.Effects.{World}
 use Rattle.arj_disk_law.specs.Names.{Office}
-use Rattle.arj_disk_law.specs.State.{Done, decided}
+use Rattle.arj_disk_law.specs.State.{Done, target}
 use Rattle.arj_disk_law.specs.Words.{In}
 use Rattle.arj_view_law.specs.Keeps.{Holds}
 use Rattle.arj_view_law.specs.Seen.{Seen}
@@ -54,12 +54,17 @@ abbrev pub AreTurnsOf : List Line → List Done → Type 0
 AreTurnsOf lines [] = ⊤
 AreTurnsOf lines (d ∷ ds) = ((e : Done) (a b : Act) → In e ds → Contains (acts lines) a → Contains (acts lines) b → uid_number a.uid ≡ e.top → uid_number b.uid ≡ d.top → is_top b.kind ≡ true → e.top ≢ d.top → IsCalledFirst lines a.uid b.uid ⊎ HasNothing lines b) × AreTurnsOf lines ds
 
--- The machine began as the header says and decided as the journal says, in this order.
+-- of these actions those among them excluded, by the journal, just the stores that their commits asked and that didn't prepare
+abbrev pub AreLeftOf : List Line → ℕ → List Done → Type 0
+AreLeftOf lines x ds = (d : Done) (a : Act) → In d ds → Contains (acts lines) a → uid_number a.uid ≡ d.top → (s : ℕ) → (target d.plan s && not (d.got s)) ≡ is_among (leaves_of lines a.id x) s
+
+-- The machine began as the header says and decided as the journal says, in this order, and excluded what the journal says.
 pub record IsOrderedSo (hd : Header) (x : ℕ) (M : Seen) : Type 0 where
   pub begun : IsBegunSo hd x M
   pub once : AreOnce (let j = (let b = begun in b.journalled) in let W = j.machine in let S = W.disk in S.tops)
   pub called : AreCalled M.lines (let j = (let b = begun in b.journalled) in let W = j.machine in let S = W.disk in S.tops)
   pub turns : AreTurnsOf M.lines (let j = (let b = begun in b.journalled) in let W = j.machine in let S = W.disk in S.tops)
+  pub leaves : AreLeftOf M.lines x (let j = (let b = begun in b.journalled) in let W = j.machine in let S = W.disk in S.tops)
 
 -- So it is in the run of every script, of each object of the header, with what is still taken of what coordinators have of naming's
 -- answers; and beside any relation that is kept with the machine's state.

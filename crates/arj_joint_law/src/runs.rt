@@ -19,7 +19,8 @@ pub fn runs_begin_as_the_header_says()
 
 /// And its decided tops stand in the order of their commit calls against decisions: each had its commit called, and that of one which
 /// was decided earlier had been called at a place of the journal where the later one wasn't decided yet, by its line or by a record that
-/// was found; or nothing of the later one survives. It takes the same as `runs_begin_as_the_header_says`. It does nothing when it runs.
+/// was found; or nothing of the later one survives. And the stores that a decided top takes out of the list are those that its commit excluded, by the
+/// journal. It takes the same as `runs_begin_as_the_header_says`. It does nothing when it runs.
 pub fn decisions_come_behind_calls()
     ensures heard { RunsAreOrdered }
     ensures beside { RunsAreOrderedBeside }
@@ -28,8 +29,9 @@ pub fn decisions_come_behind_calls()
 /// After the run of each script whose header is in form, of at most 1,000,000 events, files that are those of its nodes' pairs are clean:
 /// with what the disk machine's half still takes, where the journal is tied to the lock machines, as it is with what their half takes, and where
 /// the decided tops that count are those of the journal (`DecideThose`), and wrote what they gave to the stores, and those without a record
-/// nothing, which is given with both halves (`runs_have_both_machines`). That machines began as the header says, that all states are of their class, that decided writers stand as their
-/// commits were called, and that each include names a node of the header, is given here. It does nothing when it runs.
+/// nothing, which is given with both halves (`runs_have_both_machines`). That machines began as the header says, that all states are of
+/// their class, that decided writers stand as their commits were called, that decided tops take those stores out of the list that their
+/// commits excluded, and that each include names a node of the header, is given here. It does nothing when it runs.
 pub fn runs_are_clean()
     ensures clean { RunsAreClean }
     ensures whole { WholeRunsAreClean }
