@@ -124,7 +124,7 @@ heard_kept hd x R good knows_more has gives = record {
       (λ n named. (knows_more _ r).0 k (record { number = k; disk = d; live = Some t }) t n (node_here M k (record { number = k; disk = d; live = Some t })) refl named)
       (let w = knows_more _ r in w.2) (let tops = (knows_more _ r).1 k (record { number = k; disk = d; live = Some t }) t (node_here M k (record { number = k; disk = d; live = Some t })) refl in tops.uses) sent owned meant is in
       let o = h.0 in
-      let w = handled_so x (IsKnownVersion A.world.disk) (known_short x tops A (up k d t M) both (let z = p.0 in z.kinds) (let w = p.1 in w.1) (let q = (knows_more _ r).3 in q.1) (knows_more _ r).4) k d t from (mine x tops k d M A t both p.1) (held_known x tops A k d t M both) m v outs meant (let z = (let w = p.1 in w.0) in z.posts (record { from = from; to = k; message = m }) sent) (gives.raised tops k d t from m M A at sent) is in
+      let w = handled_so x (IsKnownVersion A.world.disk) (known_short x tops A (up k d t M) both (let z = p.0 in z.kinds) (let w = p.1 in w.1) (let q = (knows_more _ r).3 in q.1) (knows_more _ r).4) k d t from (mine x tops k d M A t both p.1) (held_known x tops A k d t M both) m v outs meant (let z = (let w = p.1 in w.0) in z.posts (record { from = from; to = k; message = m }) sent) (gives.raised tops k d t v from m outs M A at sent meant is) is in
       (heard_too x tops (change_by x d t m) A (record { event = e; node = k; disk = d; before = t; outs = outs; after = v }) M o (goes x tops k d M A t both p.1 (change_by x d t m) o.office (let z = o.only in z.world) o.both e outs v M (λ z keeps by u uz. called_there tops k d t M knows (knows_more _ r).3 z (who_decides x d t m z keeps by) u uz) refl refl refl w.0 w.1), h.1, h.2);
   act = λ tops e k d t i M A walk knows r is free both p.
       let h = heard_starts x tops e k d t M A (good _ r).0 (good _ r).1 knows both p.0 hd i is free in

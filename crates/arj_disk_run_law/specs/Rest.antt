@@ -1,13 +1,13 @@
 -- What is still taken of what coordinators have of naming's answers: what naming and servers count on beside what messages claim.
-use Rattle.std.specs.Prelude.{◌≡◌, ℕ, Bool, true, Some, None}
+use Rattle.std.specs.Prelude.{◌≡◌, ℕ, Bool, true, List, Some, None}
 use Rattle.arj_protocol.specs.Words.{Asked, Head, Header, Message, asks}
 use Rattle.arj_protocol.specs.Words.ask
 use Rattle.arj_protocol.specs.Ask.{top_of}
 use Rattle.arj_protocol.specs.Coord.{Coord, doing_of}
 use Rattle.arj_protocol.specs.Confirm.{Grants, Marks}
-use Rattle.arj_protocol.specs.Effect.{Disk}
+use Rattle.arj_protocol.specs.Effect.{Disk, Effect}
 use Rattle.arj_protocol.specs.Naming.{Naming}
-use Rattle.arj_protocol.specs.Node.{Parts}
+use Rattle.arj_protocol.specs.Node.{Parts, Took, handle, is_meant}
 use Rattle.arj_protocol.specs.Order.{uid_number}
 use Rattle.arj_protocol.specs.Step.{is_committing}
 use Rattle.arj_disk_law.specs.Names.{Office}
@@ -42,12 +42,13 @@ SeesMore x tops A M = SeesVersions x tops A M × SeesDecided tops A M
 abbrev pub SeesCarried : ℕ → Kinds → Office → Seen → Type 0
 SeesCarried x tops A M = SeesHeard x tops A M × SeesMore x tops A M
 
--- What naming counts on, and servers. Of a new Confirm the locks of servers give the next version; and the ends of a message raise no copy of
--- the object but to a version that was known.
+-- What naming counts on, and servers. Of a new Confirm the locks of servers give the next version; and the ends of a message that is taken raise
+-- no copy of the object but to a version that was known.
 pub record GivesNaming (x : ℕ) (R : Seen → Type 0) : Type 0 where
   pub next : (tops : Kinds) (k : ℕ) (d : Disk) (t : Parts) (n : Naming) (from : ℕ) (m : Message) (h : Head) (grants : Grants) (excluded included : Marks) (M : Seen) (A : Office) → IsHeardAt x R tops A (k, d, t) M → In (record { from = from; to = k; message = m }) M.sent → t.naming ≡ Some n → asks m ≡ Some (h, ask.Confirm grants excluded included)
       → IsNewConfirm h.path grants excluded included d.names n → IsNext A.world.disk (uid_number (top_of h.path))
-  pub raised : (tops : Kinds) (k : ℕ) (d : Disk) (t : Parts) (from : ℕ) (m : Message) (M : Seen) (A : Office) → IsHeardAt x R tops A (k, d, t) M → In (record { from = from; to = k; message = m }) M.sent → EndsRaise x (IsKnownVersion A.world.disk) k t.server m
+  pub raised : (tops : Kinds) (k : ℕ) (d : Disk) (t v : Parts) (from : ℕ) (m : Message) (outs : List Effect) (M : Seen) (A : Office) → IsHeardAt x R tops A (k, d, t) M → In (record { from = from; to = k; message = m }) M.sent → is_meant t m ≡ true → handle k d t from m ≡ Took v outs
+      → EndsRaise x (IsKnownVersion A.world.disk) k t.server m
 
 -- the answer is to one whose commit is under way
 abbrev pub answers_commit : Asked → Coord → Bool
