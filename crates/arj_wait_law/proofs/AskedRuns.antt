@@ -1,43 +1,64 @@
 -- Each handler keeps that answers go to who asked, and that what servers have was asked for.
-use Rattle.std.proofs.Common.{◌≡◌, ◌≢◌, ◌∙◌, ◌+◌, ◌==◌, ◌++◌, ℕ, zero, suc, List, [], ◌∷◌, Bool, true, false, cond, map, Option, Some, None, refl, sym, ap, subst, inr, ⊎_elim}
-use Rattle.std.specs.Prelude.{⊤}
+use Rattle.std.proofs.Common.{Bool, List, None, Option, Some, [], ap, cond, false, inl, inr, length, map, refl, subst, suc, sym, true, zero, ℕ, ⊎_elim, ◌++◌, ◌+◌, ◌==◌, ◌∙◌, ◌∷◌, ◌≡◌, ◌≢◌, ◌⊎◌}
+use Rattle.std.specs.Prelude.{option_map, ⊤}
 use Rattle.std.specs.List.{AllByRecursion}
 use Rattle.arj_base.specs.Uid.{object}
-use Rattle.arj_protocol.specs.Words.{Asked, Binding, BoundReply, Head, Header, Kind, Label, Message, ObjectState, Uid}
+use Rattle.arj_protocol.specs.Words.{Ask, Asked, Binding, Body, BoundReply, Head, Header, Kind, Label, Message, ObjectState, Uid, asks}
 use Rattle.arj_protocol.specs.Words.ask
 use Rattle.arj_protocol.specs.Words.loaded
-use Rattle.arj_protocol.specs.Ask.{Reply, answers}
-use Rattle.arj_protocol.specs.Asking.{again_all, begin_action, heard}
-use Rattle.arj_protocol.specs.Effect.{Disk, Do, Effect, Say, Send, held_at, stopped, worked}
+use Rattle.arj_protocol.specs.Ask.{Reply, actor, answers, asked_by, response}
+use Rattle.arj_protocol.specs.Asking.{again_all, begin_action, heard, waits_for_call}
+use Rattle.arj_protocol.specs.Effect.{Disk, Do, Effect, Pair, Say, Send, Served, Stop, held_at, stopped, worked}
 use Rattle.arj_protocol.specs.Ending.{acked, answer_query}
 use Rattle.arj_protocol.specs.Follow.{tick_outs}
+use Rattle.arj_protocol.specs.Naming as naming
 use Rattle.arj_protocol.specs.Naming.{Naming}
-use Rattle.arj_protocol.specs.Node.{Handled, Parts, Took, Void, handle, holders, query_about, with_coord}
+use Rattle.arj_protocol.specs.Node.{Handled, Parts, Took, Void, answer_is_meant, asked_is_meant, handle, handle_ask, holders, if_naming, is_loaded_for, is_loaded_in, is_meant, query_about, reply_is_meant, sends_answer, served, with_coord, with_naming}
 use Rattle.arj_protocol.specs.Server.{Server}
-use Rattle.arj_protocol.specs.Step.{Input, Node, acts as acts_of, first_node, numbers_to, parent_of, parts_in, refusal_up, restart_outs, tolds_again}
+use Rattle.arj_protocol.specs.Step.{Input, Node, acts as acts_of, first_disk, first_node, naming_at, numbers_to, parent_of, parts_in, refusal_up, restart_outs, tolds_again}
 use Rattle.arj_protocol.specs.Step as input
-use Rattle.arj_protocol.specs.Tree.{at_place}
-use Rattle.arj_protocol.specs.World.{Labelled, format, is_serial_kind}
+use Rattle.arj_protocol.specs.Tree.{at_place, is_own}
+use Rattle.arj_protocol.specs.World.{Labelled, format, is_serial_kind, numbered}
 use Rattle.arj_protocol.proofs.CoordSays.{acked_own, acts_own, again_own, heard_own, query_own, tolds_again_own}
 use Rattle.arj_part_law.specs.Actions.{Action, paths_of}
 use Rattle.arj_part_law.specs.Coords.{IsGoodCoord}
 use Rattle.arj_part_law.specs.Copies.{IsTree}
 use Rattle.arj_part_law.proofs.Begun.{begun_tree}
 use Rattle.arj_part_law.proofs.TrueSteps.{true_query, true_records, well_acked, well_acts, well_again, well_heard}
-use Rattle.arj_run_law.specs.Worlds.{IsGood, IsGoodOf}
+use Rattle.arj_run_law.specs.Worlds.{IsGoodOf, IsUp}
 use Rattle.arj_run_law.proofs.Handled.{good_coord, it, own_of_disk, tops_of_disk}
 use Rattle.arj_run_law.proofs.Starts.{first_at}
 use Rattle.arj_run_law.proofs.Walked.{other_number, same_number}
 use Rattle.arj_view_law.specs.Keeps.{is_act}
-use Rattle.arj_view_law.specs.Seen.{In, Post, Seen, at, given, posted, said, see, up}
-use Rattle.arj_view_law.specs.Walks.{Up, Walks}
+use Rattle.arj_view_law.specs.Seen.{In, Post, Seen, at, down, given, posted, said, see, up}
+use Rattle.arj_view_law.specs.Walks.{Up, Walks, halted}
 use Rattle.arj_address_law.proofs.Lists.{some_is}
+use Rattle.arj_part_law.proofs.SaidIncs.{all_map}
 use Rattle.arj_call_law.proofs.Given.{KeepsGiven}
 use Rattle.arj_disk_view_law.proofs.Frames.{node_here}
-use Rattle.arj_record_law.proofs.Quiet.{AllQuiet, coord_quiet, queries, quiet_both}
-use Rattle.arj_wait_law.specs.Asked.{HaveForms, ReplyWasAsked, ServerWasAsked, WereAsked}
+use Rattle.arj_record_law.proofs.Quiet.{AllQuiet, AllSaid, bind_said, coord_quiet, queries, quiet_both}
+use Rattle.arj_wait_law.specs.Asked.{ActivateNamed, HaveForms, IsAnsweredBy, MadeWasSaid, ReplyWasAsked, ServerWasAsked, StepsNamed, WasNamed, WereAsked}
 use Rattle.arj_wait_law.proofs.AskedServers.{activate_asked, invoke_asked, none_asked, server_more, told_asked, vote_asked}
-use Rattle.arj_wait_law.proofs.Serving.{AllSilent, AnswerSo, AnswersSo, IsKeptIn, message_served, quiet_silent, quiet_so, restart_silent}
+use Rattle.arj_wait_law.proofs.Serving.{AllSend, AllSilent, AnswerSo, IsKeptIn, message_served, quiet_silent, quiet_so, restart_asks, restart_silent}
+use Rattle.arj_call_law.proofs.CoordOuts.{acked_so, acts_so, again_so, heard_so, query_so, tolds_so}
+use Rattle.arj_call_law.proofs.CoordSends.{AllSo, SendsSo, so_both}
+use Rattle.arj_protocol.specs.Call.{At, AtActivate, AtBind, AtInvoke, AtLoad, AtNote, Steps}
+use Rattle.arj_address_law.specs.Binds.{BindsAreKnown}
+use Rattle.arj_round_law.specs.Waits.{IsSaid}
+use Rattle.arj_protocol.specs.Coord.{Calling, Coord, Doing, doing_of}
+use Rattle.arj_lock_fact_law.specs.Requests.{AreAsked, IsAskedBy, RequestsAreKnown}
+use Rattle.arj_part_law.specs.Requests.{IsNumbered}
+use Rattle.arj_call_law.specs.Coords.{IsOfStep}
+use Rattle.arj_lock_fact_law.proofs.Kept.{Place}
+use Rattle.std.proofs.lemmas.Bool.{and_parts}
+use Rattle.arj_address_law.proofs.BindRuns.{answers_fit}
+use Rattle.arj_base.proofs.Uids.{uid_is}
+use Rattle.arj_wait_law.proofs.Known.{binds_own, waits_req}
+use Rattle.arj_protocol.specs.Words.bound
+use Rattle.arj_wait_law.proofs.Named.{Brings, acked_named, acts_named, again_named, begins_named, by_more, heard_named, named_more, new_named, sends_named, steps_more}
+use Rattle.arj_wait_law.proofs.Made.{MakeSaid, SaidIn, back_made_said, bind_made_said, confirm_made_said, hello_made_said, line_new, line_stays, made_more, note_made_said, told_made_said}
+use Rattle.arj_protocol.specs.Confirm.{recovered_naming}
+use Rattle.arj_protocol.specs.Words.body
 
 -- ---- what coordinators send answers nobody
 
@@ -73,54 +94,102 @@ module _ (begun : List Action) (e k : ℕ) (d : Disk) (t : Parts) (M : Seen) (go
       let tolds = tolds_again t.coord.telling in
       quiet_both (r.outs ++ tolds) (map query_about (holders d t)) (quiet_both r.outs tolds (coord_quiet r.part r.outs (well_again begun (paths_of begun) tree t.coord its_coord).1 (again_own t.coord.doings t.coord)) (coord_quiet t.coord tolds (true_records t.coord u.faithful) (tolds_again_own t.coord.telling))) (queries (holders d t))
 
--- ---- more was sent
+-- ---- more was sent, and more was said
 
-reply_more : (few many : List Post) → ((p : Post) → In p few → In p many) → (p : Post) (a : Asked) (r : Reply) → ReplyWasAsked few p a r → ReplyWasAsked many p a r
-reply_more few many in_it p a (Reply.Loaded (loaded.State st)) w = (w.0, w.1, record { post = w.2.post; posted = in_it w.2.post w.2.posted; from = w.2.from; asking = w.2.asking; asker = w.2.asker }, w.3)
-reply_more few many in_it p a (Reply.Loaded (loaded.InDoubt h)) w = tt
-reply_more few many in_it p a (Reply.Bound r) w = tt
-reply_more few many in_it p a (Reply.Activated i) w = tt
-reply_more few many in_it p a (Reply.Noted r) w = tt
-reply_more few many in_it p a (Reply.Invoked r) w = tt
-reply_more few many in_it p a (Reply.Voted r) w = tt
-reply_more few many in_it p a (Reply.Prepared r) w = tt
-reply_more few many in_it p a (Reply.Confirmed r) w = tt
+reply_more : (few many : List Post) → ((p : Post) → In p few → In p many) → (less more : Body → Type 0) → ((z : Body) → less z → more z) → (p : Post) (a : Asked) (r : Reply) → ReplyWasAsked few less p a r → ReplyWasAsked many more p a r
+reply_more few many in_it less more grows p a (Reply.Loaded (loaded.State st)) w = (w.0, w.1, by_more few many in_it p a w.0 (ask.Load w.1) w.2, w.3)
+reply_more few many in_it less more grows p a (Reply.Loaded (loaded.InDoubt h)) w = tt
+reply_more few many in_it less more grows p a (Reply.Bound (bound.Make b server g stores)) w = (w.0, w.1, w.2, w.3, by_more few many in_it p a w.0 (ask.Bind w.1 w.2 w.3) w.4, grows (body.Bound w.1 b server) w.5)
+reply_more few many in_it less more grows p a (Reply.Bound (bound.Live b server i g stores)) w = tt
+reply_more few many in_it less more grows p a (Reply.Bound (bound.Write g stores)) w = tt
+reply_more few many in_it less more grows p a (Reply.Bound (bound.Conflict h m)) w = tt
+reply_more few many in_it less more grows p a (Reply.Activated i) w = tt
+reply_more few many in_it less more grows p a (Reply.Noted r) w = tt
+reply_more few many in_it less more grows p a (Reply.Invoked r) w = tt
+reply_more few many in_it less more grows p a (Reply.Voted r) w = tt
+reply_more few many in_it less more grows p a (Reply.Prepared r) w = tt
+reply_more few many in_it less more grows p a (Reply.Confirmed r) w = tt
+
+activate_more : (few many : List Post) → ((p : Post) → In p few → In p many) → (less more : Body → Type 0) → ((z : Body) → less z → more z) → (h : Head) (b : Binding) (st : ObjectState) → ActivateNamed few less h b st → ActivateNamed many more h b st
+activate_more few many in_it less more grows h b st w = (w.0, named_more few many in_it less more grows h.path st.uid.num b w.0 w.1)
 
 -- ---- one node apart from the others
 
-abbrev Replies : List Post → Type 0
-Replies sent = (p : Post) (a : Asked) (r : Reply) → In p sent → answers p.message ≡ Some (a, r) → ReplyWasAsked sent p a r
+abbrev Replies : List Post → (Body → Type 0) → Type 0
+Replies sent lines = (p : Post) (a : Asked) (r : Reply) → In p sent → answers p.message ≡ Some (a, r) → ReplyWasAsked sent lines p a r
 
-abbrev Others : ℕ → Seen → Type 0
-Others k M = (j : ℕ) (n : Node) (t : Parts) → (j ≡ k → ⊥) → M.nodes j ≡ Some n → n.live ≡ Some t → ServerWasAsked M.sent t.server
+abbrev Activates : List Post → (Body → Type 0) → Type 0
+Activates sent lines = (p : Post) (h : Head) (b : Binding) (st : ObjectState) → In p sent → asks p.message ≡ Some (h, ask.Activate b st) → ActivateNamed sent lines h b st
 
-others_of : (k : ℕ) (d : Disk) (live : Option Parts) (M : Seen) → WereAsked (at k d live M) → Others k M
-others_of k d live M all j n t apart is live_is = all.servers j n t ((λ i. cond (other_number j k apart i) (Some (record { number = k; disk = d; live = live })) (M.nodes j)) ∙ is) live_is
+-- what is known of a node that is up
+abbrev PartsSo : List Post → (Body → Type 0) → Parts → Type 0
+PartsSo sent lines t = (ServerWasAsked sent t.server × StepsNamed sent lines t.coord) × MadeWasSaid lines t.naming
 
-own_of : (k : ℕ) (d : Disk) (t : Parts) (M : Seen) → WereAsked (up k d t M) → ServerWasAsked M.sent t.server
-own_of k d t M all = all.servers k (record { number = k; disk = d; live = Some t }) t (node_here M k (record { number = k; disk = d; live = Some t })) refl
+parts_more : (few many : List Post) → ((p : Post) → In p few → In p many) → (less more : Body → Type 0) → ((z : Body) → less z → more z) → (t : Parts) → PartsSo few less t → PartsSo many more t
+parts_more few many in_it less more grows t w = ((server_more few many in_it t.server w.0.0, steps_more few many in_it less more grows t.coord w.0.1), made_more less more grows t.naming w.1)
 
-back : (k : ℕ) (d : Disk) (live : Option Parts) (M : Seen) → ((t : Parts) → live ≡ Some t → ServerWasAsked M.sent t.server) → Others k M → Replies M.sent → WereAsked (at k d live M)
-back k d live M its o replies = record { replies = replies; servers = λ j n t is live_is. by j n t (j == k) refl is live_is }
+abbrev Others : ℕ → Seen → (Body → Type 0) → Type 0
+Others k M lines = (j : ℕ) (n : Node) (t : Parts) → (j ≡ k → ⊥) → M.nodes j ≡ Some n → n.live ≡ Some t → PartsSo M.sent lines t
+
+others_of : (k : ℕ) (d : Disk) (live : Option Parts) (M : Seen) → WereAsked (at k d live M) → Others k M (IsSaid M.lines)
+others_of k d live M all j n t apart is live_is =
+    let found = (λ i. cond (other_number j k apart i) (Some (record { number = k; disk = d; live = live })) (M.nodes j)) ∙ is in
+    ((all.servers j n t found live_is, all.steps j n t found live_is), all.namings j n t found live_is)
+
+own_of : (k : ℕ) (d : Disk) (t : Parts) (M : Seen) → WereAsked (up k d t M) → PartsSo M.sent (IsSaid M.lines) t
+own_of k d t M all = let here = node_here M k (record { number = k; disk = d; live = Some t }) in let n : Node = record { number = k; disk = d; live = Some t } in ((all.servers k n t here refl, all.steps k n t here refl), all.namings k n t here refl)
+
+-- what is said more changes nothing
+quiet_asked : (e : ℕ) (bs : List Body) (M : Seen) → WereAsked M → WereAsked (said e bs M)
+quiet_asked e bs M p = record {
+  replies = λ q a r i is. reply_more M.sent M.sent (λ p i. i) (IsSaid M.lines) (IsSaid (M.lines ++ numbered e bs)) grows q a r (p.replies q a r i is);
+  activates = λ q h b st i is. activate_more M.sent M.sent (λ p i. i) (IsSaid M.lines) (IsSaid (M.lines ++ numbered e bs)) grows h b st (p.activates q h b st i is);
+  servers = p.servers;
+  steps = λ j n t is live. steps_more M.sent M.sent (λ p i. i) (IsSaid M.lines) (IsSaid (M.lines ++ numbered e bs)) grows t.coord (p.steps j n t is live);
+  namings = λ j n t is live. made_more (IsSaid M.lines) (IsSaid (M.lines ++ numbered e bs)) grows t.naming (p.namings j n t is live);
+}
   where
-    by : (j : ℕ) (n : Node) (t : Parts) (b : Bool) → (j == k) ≡ b → cond b (Some (record { number = k; disk = d; live = live })) (M.nodes j) ≡ Some n → n.live ≡ Some t → ServerWasAsked M.sent t.server
-    by j n t true same e live_is = let here : record { number = k; disk = d; live = live } ≡ n = some_is e in its t (ap (λ (z : Node). z.live) here ∙ live_is)
-    by j n t false apart e live_is = o j n t (λ same. let no_way : true ≡ false = sym (ap (λ z. z == k) same ∙ same_number k) ∙ apart in cc no_way) e live_is
+    grows : (z : Body) → IsSaid M.lines z → IsSaid (M.lines ++ numbered e bs) z
+    grows z s = line_stays M.lines (numbered e bs) z s
 
--- what an effect answers was asked for
-abbrev Fine : List Post → ℕ → Effect → Type 0
-Fine sent k (Send to m) = (a : Asked) (r : Reply) → answers m ≡ Some (a, r) → ReplyWasAsked sent (record { from = k; to = to; message = m }) a r
-Fine sent k (Say b) = ⊤
-Fine sent k (Do w) = ⊤
+-- What is known, with these lines: of the node itself, of the others, and of what was sent.
+record AreSo (k : ℕ) (live : Option Parts) (M : Seen) (lines : Body → Type 0) : Type 0 where
+  its : (t : Parts) → live ≡ Some t → PartsSo M.sent lines t
+  others : Others k M lines
+  replies : Replies M.sent lines
+  activates : Activates M.sent lines
 
-walk : (base : List Post) (e k : ℕ) (v : Parts) (outs : List Effect) (d : Disk) (M : Seen) → ((p : Post) → In p base → In p M.sent) → AllByRecursion (Fine base k) outs → ServerWasAsked M.sent v.server → Others k M → Replies M.sent → Walks WereAsked e k outs (Up WereAsked k v) d M
-walk base e k v [] d M within fine its o replies = back k d (Some v) M (λ t is. subst (λ (z : Parts). ServerWasAsked M.sent z.server) (some_is is) its) o replies
-walk base e k v (Do w ∷ es) d M within fine its o replies = ((λ how. let b = back k (stopped how w d) None M (λ t is. absurd (cc is)) o replies in record { replies = b.replies; servers = b.servers }), walk base e k v es (worked w d) M within fine.1 its o replies)
-walk base e k v (Say b ∷ es) d M within fine its o replies = walk base e k v es d (said e (b ∷ []) M) within fine.1 its o replies
-walk base e k v (Send to m ∷ es) d M within fine its o replies = λ more quiet. walk base e k v es d (said e more (posted (record { from = k; to = to; message = m }) M)) (λ p i. inr (within p i)) fine.1
-    (server_more M.sent (post ∷ M.sent) older v.server its) (λ j n t apart is live. server_more M.sent (post ∷ M.sent) older t.server (o j n t apart is live))
-    (λ p a r i is. ⊎_elim (λ same. subst (λ (q : Post). ReplyWasAsked (post ∷ M.sent) q a r) same (reply_more base (post ∷ M.sent) (λ q j. inr (within q j)) post a r (fine.0 a r (ap (λ (q : Post). answers q.message) same ∙ is))))
-    (λ old. reply_more M.sent (post ∷ M.sent) older p a r (replies p a r old is)) i)
+back : (k : ℕ) (d : Disk) (live : Option Parts) (M : Seen) → AreSo k live M (IsSaid M.lines) → WereAsked (at k d live M)
+back k d live M so = record { replies = so.replies; activates = so.activates; servers = λ j n t is live_is. (by j n t (j == k) refl is live_is).0.0; steps = λ j n t is live_is. (by j n t (j == k) refl is live_is).0.1; namings = λ j n t is live_is. (by j n t (j == k) refl is live_is).1 }
+  where
+    by : (j : ℕ) (n : Node) (t : Parts) (b : Bool) → (j == k) ≡ b → cond b (Some (record { number = k; disk = d; live = live })) (M.nodes j) ≡ Some n → n.live ≡ Some t → PartsSo M.sent (IsSaid M.lines) t
+    by j n t true same e live_is = let here : record { number = k; disk = d; live = live } ≡ n = some_is e in so.its t (ap (λ (z : Node). z.live) here ∙ live_is)
+    by j n t false apart e live_is = so.others j n t (λ same. let no_way : true ≡ false = sym (ap (λ z. z == k) same ∙ same_number k) ∙ apart in cc no_way) e live_is
+
+-- where more was said it stays so
+so_more : (k : ℕ) (live : Option Parts) (M : Seen) (less more : Body → Type 0) → ((z : Body) → less z → more z) → AreSo k live M less → AreSo k live M more
+so_more k live M less more grows so = record {
+  its = λ t is. parts_more M.sent M.sent (λ p i. i) less more grows t (so.its t is);
+  others = λ j n t apart is live_is. parts_more M.sent M.sent (λ p i. i) less more grows t (so.others j n t apart is live_is);
+  replies = λ p a r i is. reply_more M.sent M.sent (λ p i. i) less more grows p a r (so.replies p a r i is);
+  activates = λ p h b st i is. activate_more M.sent M.sent (λ p i. i) less more grows h b st (so.activates p h b st i is);
+}
+
+-- what an effect answers was asked for, and for which copy it asks naming answered
+abbrev Fine : List Post → (Body → Type 0) → ℕ → Effect → Type 0
+Fine sent lines k (Send to m) = ((a : Asked) (r : Reply) → answers m ≡ Some (a, r) → ReplyWasAsked sent lines (record { from = k; to = to; message = m }) a r) × ((h : Head) (b : Binding) (st : ObjectState) → asks m ≡ Some (h, ask.Activate b st) → ActivateNamed sent lines h b st)
+Fine sent lines k (Say b) = ⊤
+Fine sent lines k (Do w) = ⊤
+
+-- one more is sent
+sent_so : (base : List Post) (lines : Body → Type 0) (k : ℕ) (live : Option Parts) (M : Seen) → ((p : Post) → In p base → In p M.sent) → (to : ℕ) (m : Message) → Fine base lines k (Send to m) → AreSo k live M lines → AreSo k live (posted (record { from = k; to = to; message = m }) M) lines
+sent_so base lines k live M within to m fine so = record {
+  its = λ t is. parts_more M.sent (post ∷ M.sent) older lines lines (λ z s. s) t (so.its t is);
+  others = λ j n t apart is live_is. parts_more M.sent (post ∷ M.sent) older lines lines (λ z s. s) t (so.others j n t apart is live_is);
+  replies = λ p a r i is. ⊎_elim (λ same. subst (λ (q : Post). ReplyWasAsked (post ∷ M.sent) lines q a r) same (reply_more base (post ∷ M.sent) (λ q j. inr (within q j)) lines lines (λ z s. s) post a r (fine.0 a r (ap (λ (q : Post). answers q.message) same ∙ is))))
+      (λ old. reply_more M.sent (post ∷ M.sent) older lines lines (λ z s. s) p a r (so.replies p a r old is)) i;
+  activates = λ p h b st i is. ⊎_elim (λ same. activate_more base (post ∷ M.sent) (λ q j. inr (within q j)) lines lines (λ z s. s) h b st (fine.1 h b st (ap (λ (q : Post). asks q.message) same ∙ is))) (λ old. activate_more M.sent (post ∷ M.sent) older lines lines (λ z s. s) h b st (so.activates p h b st old is)) i;
+}
   where
     post : Post
     post = record { from = k; to = to; message = m }
@@ -128,20 +197,62 @@ walk base e k v (Send to m ∷ es) d M within fine its o replies = λ more quiet
     older : (p : Post) → In p M.sent → In p (post ∷ M.sent)
     older p i = inr i
 
+-- lines alone change nothing
+said_so : (k : ℕ) (live : Option Parts) (e : ℕ) (bs : List Body) (M : Seen) (lines : Body → Type 0) → AreSo k live M lines → AreSo k live (said e bs M) lines
+said_so k live e bs M lines so = record { its = so.its; others = so.others; replies = so.replies; activates = so.activates }
+
+-- a stop leaves the others
+halted_so : (k : ℕ) (t : Parts) (M : Seen) (lines : Body → Type 0) → AreSo k (Some t) M lines → AreSo k None M lines
+halted_so k t M lines so = record { its = λ v is. absurd (cc is); others = so.others; replies = so.replies; activates = so.activates }
+
+-- all of it is of lines that were said before
+walk : (base : List Post) (lines : Body → Type 0) (e k : ℕ) (v : Parts) (outs : List Effect) (d : Disk) (M : Seen) → ((p : Post) → In p base → In p M.sent) → ((z : Body) → lines z → IsSaid M.lines z) → AllByRecursion (Fine base lines k) outs → AreSo k (Some v) M lines → Walks WereAsked e k outs (Up WereAsked k v) d M
+walk base lines e k v [] d M within were fine so = back k d (Some v) M (so_more k (Some v) M lines (IsSaid M.lines) were so)
+walk base lines e k v (Do w ∷ es) d M within were fine so =
+    (λ how. stops how, walk base lines e k v es (worked w d) M within were fine.1 so)
+  where
+    stops : (how : Stop) → WereAsked (halted e k (stopped how w d) M)
+    stops how = quiet_asked e (body.Halted k ∷ []) (down k (stopped how w d) M) (back k (stopped how w d) None M (so_more k None M lines (IsSaid M.lines) were (halted_so k v M lines so)))
+walk base lines e k v (Say b ∷ es) d M within were fine so = walk base lines e k v es d (said e (b ∷ []) M) within (λ z s. line_stays M.lines (numbered e (b ∷ [])) z (were z s)) fine.1 (said_so k (Some v) e (b ∷ []) M lines so)
+walk base lines e k v (Send to m ∷ es) d M within were fine so = λ more quiet. walk base lines e k v es d (said e more (posted (record { from = k; to = to; message = m }) M)) (λ p i. inr (within p i)) (λ z s. line_stays M.lines (numbered e more) z (were z s)) fine.1 (said_so k (Some v) e more (posted (record { from = k; to = to; message = m }) M) lines (sent_so base lines k (Some v) M within to m fine.0 so))
+
+-- where all that is still to be said comes first
+walk_lines : (base : List Post) (lines : Body → Type 0) (e k : ℕ) (v : Parts) (says rest : List Effect) (d : Disk) (M : Seen) → ((p : Post) → In p base → In p M.sent) → AllSaid says → ((z : Body) → lines z → IsSaid M.lines z ⊎ SaidIn says z) → AllByRecursion (Fine base lines k) rest → AreSo k (Some v) M lines → Walks WereAsked e k (says ++ rest) (Up WereAsked k v) d M
+walk_lines base lines e k v [] rest d M within none were fine so = walk base lines e k v rest d M within (λ z s. ⊎_elim (λ old. old) (λ no. absurd no) (were z s)) fine so
+walk_lines base lines e k v (Say b ∷ es) rest d M within all were fine so = walk_lines base lines e k v es rest d (said e (b ∷ []) M) within all.1 then fine (said_so k (Some v) e (b ∷ []) M lines so)
+  where
+    then : (z : Body) → lines z → IsSaid (M.lines ++ numbered e (b ∷ [])) z ⊎ SaidIn es z
+    then z s = ⊎_elim (λ old. inl (line_stays M.lines (numbered e (b ∷ [])) z old)) (λ now. ⊎_elim (λ same. inl (line_new M.lines e b z same)) (λ late. inr late) now) (were z s)
+walk_lines base lines e k v (Send to m ∷ es) rest d M within all were fine so = absurd all.0
+walk_lines base lines e k v (Do w ∷ es) rest d M within all were fine so = absurd all.0
+
+-- naming that starts has made no binding
+start_made : (L : Body → Type 0) (k inc : ℕ) (d : Pair) → MadeWasSaid L (naming_at k inc d)
+start_made L k inc d = by (k == 1)
+  where
+    by : (b : Bool) → MadeWasSaid L (cond b (Some (recovered_naming inc d)) None)
+    by true = back_made_said L inc d
+    by false = tt
+
 -- ---- each handler
 
 -- an answer of a node to what came
 abbrev IsOf : Head → ℕ → ObjectState → Type 0
 IsOf h x st = st.uid ≡ object x
 
-abbrev NoBound : Head → ℕ → Bool → Binding → BoundReply → Type 0
-NoBound h x include avoid r = ⊤
+-- a new binding is said
+abbrev Bound : (Body → Type 0) → Head → ℕ → Bool → Binding → BoundReply → Type 0
+Bound lines h x include avoid (bound.Make b server g stores) = lines (body.Bound x b server)
+Bound lines h x include avoid r = ⊤
 
-module _ (sent : List Post) (k from : ℕ) (m : Message) (there : In (record { from = from; to = k; message = m }) sent) where
-  answer_fine : (to : ℕ) (p : Message) (a : Asked) (r : Reply) → AnswerSo NoBound IsOf from m to a r → ReplyWasAsked sent (record { from = k; to = to; message = p }) a r
+module _ (sent : List Post) (lines : Body → Type 0) (k from : ℕ) (m : Message) (there : In (record { from = from; to = k; message = m }) sent) where
+  answer_fine : (to : ℕ) (p : Message) (a : Asked) (r : Reply) → AnswerSo (Bound lines) IsOf from m to a r → ReplyWasAsked sent lines (record { from = k; to = to; message = p }) a r
   answer_fine to p a (Reply.Loaded (loaded.State st)) so = (so.head, so.object, record { post = record { from = from; to = k; message = m }; posted = there; from = sym so.back; asking = so.asking; asker = so.asker }, so.so)
   answer_fine to p a (Reply.Loaded (loaded.InDoubt h)) so = tt
-  answer_fine to p a (Reply.Bound r) so = tt
+  answer_fine to p a (Reply.Bound (bound.Make b server g stores)) so = (so.head, so.object, so.include, so.avoid, record { post = record { from = from; to = k; message = m }; posted = there; from = sym so.back; asking = so.asking; asker = so.asker }, so.so)
+  answer_fine to p a (Reply.Bound (bound.Live b server i g stores)) so = tt
+  answer_fine to p a (Reply.Bound (bound.Write g stores)) so = tt
+  answer_fine to p a (Reply.Bound (bound.Conflict h l)) so = tt
   answer_fine to p a (Reply.Activated i) so = tt
   answer_fine to p a (Reply.Noted r) so = tt
   answer_fine to p a (Reply.Invoked r) so = tt
@@ -149,96 +260,297 @@ module _ (sent : List Post) (k from : ℕ) (m : Message) (there : In (record { f
   answer_fine to p a (Reply.Prepared r) so = tt
   answer_fine to p a (Reply.Confirmed r) so = tt
 
-  pub all_fine : (outs : List Effect) → AnswersSo NoBound IsOf from m outs → AllByRecursion (Fine sent k) outs
-  all_fine [] so = tt
-  all_fine (Say b ∷ es) so = (tt, all_fine es so.1)
-  all_fine (Do w ∷ es) so = (tt, all_fine es so.1)
-  all_fine (Send to p ∷ es) so = ((λ a r is. answer_fine to p a r (so.0 a r is)), all_fine es so.1)
+  all_fine : (c : Coord) → StepsNamed sent lines c → (outs : List Effect) → AllSend (Bound lines) IsOf from m c outs → AllByRecursion (Fine sent lines k) outs
+  all_fine c steps [] so = tt
+  all_fine c steps (Say b ∷ es) so = (tt, all_fine c steps es so.1)
+  all_fine c steps (Do w ∷ es) so = (tt, all_fine c steps es so.1)
+  all_fine c steps (Send to p ∷ es) so = (((λ a r is. answer_fine to p a r (so.0.0 a r is)), λ h b st is. sends_named sent lines c to p so.0.1 steps h b st is), all_fine c steps es so.1)
 
-silent_fine : (sent : List Post) (k : ℕ) (outs : List Effect) → AllSilent outs → AllByRecursion (Fine sent k) outs
-silent_fine sent k [] q = tt
-silent_fine sent k (Say b ∷ es) q = (tt, silent_fine sent k es q.1)
-silent_fine sent k (Do w ∷ es) q = (tt, silent_fine sent k es q.1)
-silent_fine sent k (Send to p ∷ es) q = ((λ a r is. let no_way : ◌≡◌ {A = Option (Asked × Reply)} None (Some (a, r)) = sym q.0 ∙ is in absurd (cc no_way)), silent_fine sent k es q.1)
+-- what a coordinator sends
+own_fine : (sent : List Post) (lines : Body → Type 0) (k : ℕ) (c : Coord) → StepsNamed sent lines c → (outs : List Effect) → AllSilent outs → AllSo c outs → AllByRecursion (Fine sent lines k) outs
+own_fine sent lines k c steps [] q so = tt
+own_fine sent lines k c steps (Say b ∷ es) q so = (tt, own_fine sent lines k c steps es q.1 so.1)
+own_fine sent lines k c steps (Do w ∷ es) q so = (tt, own_fine sent lines k c steps es q.1 so.1)
+own_fine sent lines k c steps (Send to p ∷ es) q so = (((λ a r is. let no_way : ◌≡◌ {A = Option (Asked × Reply)} None (Some (a, r)) = sym q.0 ∙ is in absurd (cc no_way)), λ h b st is. sends_named sent lines c to p so.0 steps h b st is), own_fine sent lines k c steps es q.1 so.1)
 
-quiet_fine : (sent : List Post) (k : ℕ) (outs : List Effect) → AllQuiet outs → AllByRecursion (Fine sent k) outs
-quiet_fine sent k outs q = silent_fine sent k outs (quiet_silent outs q)
+module _ (hd : Header) (begun : List Action) (e k : ℕ) (d : Disk) (t : Parts) (M : Seen) (good : IsGoodOf begun (up k d t M)) (bound_all : BindsAreKnown (up k d t M)) (asked : AreAsked (up k d t M)) (forms : HaveForms hd (up k d t M)) (all : WereAsked (up k d t M)) where
+  abbrev here : Node
+  here = record { number = k; disk = d; live = Some t }
 
-module _ (hd : Header) (begun : List Action) (e k : ℕ) (d : Disk) (t : Parts) (M : Seen) (good : IsGoodOf begun (up k d t M)) (forms : HaveForms hd (up k d t M)) (all : WereAsked (up k d t M)) where
-  own : ServerWasAsked M.sent t.server
+  abbrev lines : Body → Type 0
+  lines = IsSaid M.lines
+
+  own : PartsSo M.sent lines t
   own = own_of k d t M all
 
-  walk_on : (v : Parts) (outs : List Effect) → AllByRecursion (Fine M.sent k) outs → ServerWasAsked M.sent v.server → Walks WereAsked e k outs (Up WereAsked k v) d M
-  walk_on v outs fine its = walk M.sent e k v outs d M (λ p i. i) fine its (others_of k d (Some t) M all) all.replies
+  -- the node goes on with these parts
+  goes_on : (v : Parts) → PartsSo M.sent lines v → AreSo k (Some v) M lines
+  goes_on v its = record { its = λ w is. subst (PartsSo M.sent lines) (some_is is) its; others = others_of k d (Some t) M all; replies = all.replies; activates = all.activates }
+
+  walk_on : (v : Parts) (outs : List Effect) → AllByRecursion (Fine M.sent lines k) outs → PartsSo M.sent lines v → Walks WereAsked e k outs (Up WereAsked k v) d M
+  walk_on v outs fine its = walk M.sent lines e k v outs d M (λ p i. i) (λ z s. s) fine (goes_on v its)
+
+  tree_is : IsTree (paths_of begun)
+  tree_is = begun_tree begun good.begun
+
+  coord_good : IsGoodCoord begun (paths_of begun) t.coord
+  coord_good = good_coord e k d t M (begun, good)
+
+  its_up : IsUp begun M.sent M.labels k d.inc t
+  its_up = it e k d t M (begun, good)
+
+  place : Place M.sent k t.coord
+  place = let u = its_up in record { actions = begun; begun = good.begun; good = coord_good; numbered = u.numbered; faithful = u.faithful; binds = bound_all.nodes k here t (node_here M k here) refl }
+
+  works : length t.coord.doings ≡ length t.coord.tree.branches
+  works = let u = its_up in let f = u.faithful in f.works
 
   -- what a store holds is of its object
   held_is : (x : ℕ) (st : ObjectState) → held_at (object x) d.store ≡ Some st → st.uid ≡ object x
-  held_is x st is = let f = (forms x).0 k (record { number = k; disk = d; live = Some t }) (node_here M k (record { number = k; disk = d; live = Some t })) in let s = f.0.store in (s.held (object x) st is).1
+  held_is x st is = let f = (forms x).0 k here (node_here M k here) in let s = f.0.store in (s.held (object x) st is).1
 
-  message_walk : (from : ℕ) (m : Message) (v : Parts) (outs : List Effect) → In (record { from = from; to = k; message = m }) M.sent → handle k d t from m ≡ Took v outs → Walks WereAsked e k outs (Up WereAsked k v) d M
-  message_walk from m v outs there is = walk_on v outs (all_fine M.sent k from m there outs h.1) h.0.0
-    where
-      S : Server → Type 0
-      S s = ServerWasAsked M.sent s
+  -- ---- an answer that comes
 
-      N : Option Naming → Type 0
-      N o = ⊤
+  module _ (from : ℕ) (m : Message) (there : In (record { from = from; to = k; message = m }) M.sent) (meant : is_meant t m ≡ true) (a : Asked) (r : Reply) (of : answers m ≡ Some (a, r)) (q : Doing) (s : Steps) (does : doing_of a.act t.coord ≡ Some q) (now : q.now ≡ Calling s) (waits : waits_for_call from a r s ≡ true) where
+    reply_meant : reply_is_meant t.coord a r ≡ true
+    reply_meant = ap (answer_is_meant t.coord) (sym of) ∙ (and_parts (asked_is_meant t.server (asks m)) (answer_is_meant t.coord (answers m)) meant).1
 
-      p : Post
-      p = record { from = from; to = k; message = m }
+    -- a binding that naming made for it was asked by its Bind
+    was_named : (b : Binding) (server g : ℕ) (stores : List ℕ) → r ≡ Reply.Bound (bound.Make b server g stores) → WasNamed M.sent lines s.path s.x b g
+    was_named b server g stores is = record {
+      reply = record { from = from; to = k; message = m };
+      asked = a;
+      server = server;
+      stores = stores;
+      head = h;
+      include = w.2;
+      avoid = w.3;
+      posted = there;
+      answer = of ∙ (λ i. Some (a, is i));
+      by = subst (λ y. IsAnsweredBy M.sent (record { from = from; to = k; message = m }) a h (ask.Bind y w.2 w.3)) x_is w.4;
+      path = ap (λ (z : Head). z.path) of_step.head;
+      line = subst (λ y. lines (body.Bound y b server)) x_is w.5;
+    }
+      where
+        w : ReplyWasAsked M.sent lines (record { from = from; to = k; message = m }) a (Reply.Bound (bound.Make b server g stores))
+        w = all.replies (record { from = from; to = k; message = m }) a (Reply.Bound (bound.Make b server g stores)) there (of ∙ (λ i. Some (a, is i)))
 
-      kept : IsKeptIn NoBound IsOf from m k d t S N
-      kept = record {
-        its_server = own;
-        activate = λ h b st asked. activate_asked M.sent p there h k b st t.server asked own;
-        invoke = λ h x b i ends o asked. invoke_asked M.sent p there h (ask.Invoke x b i ends o) asked k x b i ends o t.server own;
-        vote = λ h i ties ends. vote_asked M.sent k h.path i ties ends t.server own;
-        told = λ ends. told_asked M.sent k ends t.server own;
-        its_naming = tt;
-        bind = λ h x include avoid n asked there. (tt, λ q is. tt);
-        note = λ h x b i g n there. tt;
-        confirm = λ h grants ex inc n there. tt;
-        ended = λ u how n there. tt;
-        hello = λ node inc n there. tt;
-        load = λ h x st is. held_is x st is;
-      }
+        h : Head
+        h = w.0
 
-      By : Handled → Type 0
-      By (Void es) = ⊤
-      By (Took w es) = (S w.server × ⊤) × AnswersSo NoBound IsOf from m es
+        who : actor h.path ≡ a.act
+        who = ap (λ (z : Asked). z.act) w.4.asker
 
-      h : (S v.server × ⊤) × AnswersSo NoBound IsOf from m outs
-      h = subst By is (message_served NoBound IsOf from m k d t S N kept
-          (λ a r. quiet_so NoBound IsOf from m (heard from a r d.intents t.coord).outs (heard_quiet begun e k d t M good from a r))
-          (λ u. quiet_so NoBound IsOf from m (acked from u d.intents t.coord).outs (acked_quiet begun e k d t M good from u))
-          (λ u. quiet_so NoBound IsOf from m (answer_query from u d.intents t.coord) (query_quiet begun e k d t M good from u)))
+        last : IsAskedBy t.coord w.4.post.to h (ask.Bind w.1 w.2 w.3)
+        last = asked k here t (node_here M k here) refl w.4.post h (ask.Bind w.1 w.2 w.3) w.4.posted w.4.from w.4.asking (ap (λ u. is_own u t.coord.tree) who ∙ own_it (is_own a.act t.coord.tree) refl does)
+          where
+            own_it : (z : Bool) → is_own a.act t.coord.tree ≡ z → cond z (at_place a.act.num t.coord.doings) None ≡ Some q → is_own a.act t.coord.tree ≡ true
+            own_it true mine found = mine
+            own_it false mine found = absurd (cc found)
+
+        its : q ≡ last.doing
+        its = some_is (sym does ∙ ap (λ u. doing_of u t.coord) (sym who) ∙ last.found)
+
+        number_is : s.req ≡ q.req
+        number_is = let u = its_up in subst (IsNumbered q.req) now (u.numbered a.act q does)
+
+        of_step : IsOfStep s w.4.post.to h (ask.Bind w.1 w.2 w.3)
+        of_step = last.step s (ap (λ (z : Doing). z.now) (sym its) ∙ now) (ap (λ (z : Asked). z.req) w.4.asker ∙ sym (waits_req from a r s waits) ∙ number_is ∙ ap (λ (z : Doing). z.req) its)
+
+        x_is : w.1 ≡ s.x
+        x_is = binds_own s.x w.1 w.2 w.3 s.goal s.at of_step.same
+
+    loads_it : (st : ObjectState) → r ≡ Reply.Loaded (loaded.State st) → st.uid.num ≡ s.x
+    loads_it st is = ap (λ (u : Uid). u.num) (uid_is st.uid (object s.x) (sym (ap (is_loaded_for st) does ∙ ap (is_loaded_in st) now) ∙ ap (reply_is_meant t.coord a) (sym is) ∙ reply_meant))
+
+    brings : Brings M.sent lines s.path s.x s.at r
+    brings = by s.at r refl
+      where
+        by : (at : At) (z : Reply) → r ≡ z → Brings M.sent lines s.path s.x at z
+        by (AtBind avoid) (Reply.Bound (bound.Make b server g stores)) is = was_named b server g stores is
+        by (AtBind avoid) (Reply.Bound (bound.Live b server i g stores)) is = tt
+        by (AtBind avoid) (Reply.Bound (bound.Write g stores)) is = tt
+        by (AtBind avoid) (Reply.Bound (bound.Conflict h l)) is = tt
+        by (AtLoad z n rest) (Reply.Bound b) is = tt
+        by (AtActivate z st) (Reply.Bound b) is = tt
+        by (AtNote z i) (Reply.Bound b) is = tt
+        by (AtInvoke z i) (Reply.Bound b) is = tt
+        by at (Reply.Loaded (loaded.State st)) is = loads_it st is
+        by at (Reply.Loaded (loaded.InDoubt h)) is = tt
+        by at (Reply.Activated i) is = tt
+        by at (Reply.Noted i) is = tt
+        by at (Reply.Invoked i) is = tt
+        by at (Reply.Voted i) is = tt
+        by at (Reply.Prepared i) is = tt
+        by at (Reply.Confirmed i) is = tt
+
+  -- ---- a message that comes
+
+  module _ (from : ℕ) (m : Message) (there : In (record { from = from; to = k; message = m }) M.sent) (meant : is_meant t m ≡ true) where
+    abbrev p : Post
+    p = record { from = from; to = k; message = m }
+
+    abbrev Goes : Handled → Type 0
+    Goes (Void es) = ⊤
+    Goes (Took w es) = Walks WereAsked e k es (Up WereAsked k w) d M
+
+    -- other than a Bind
+    plain : ((h : Head) (x : ℕ) (include : Bool) (avoid : Binding) → asks m ≡ Some (h, ask.Bind x include avoid) → ⊥) → (v : Parts) (outs : List Effect) → handle k d t from m ≡ Took v outs → Walks WereAsked e k outs (Up WereAsked k v) d M
+    plain off v outs is = walk_on v outs (all_fine M.sent lines k from m there v.coord h.0.1 outs h.1) ((h.0.0.0, h.0.1), h.0.0.1)
+      where
+        S : Server → Type 0
+        S s = ServerWasAsked M.sent s
+
+        N : Option Naming → Type 0
+        N o = MadeWasSaid lines o
+
+        C : Coord → Type 0
+        C c = StepsNamed M.sent lines c
+
+        made : (n : Naming) → t.naming ≡ Some n → N (Some n)
+        made n there = subst N there own.1
+
+        kept : IsKeptIn (Bound lines) IsOf from m k d t S N C
+        kept = record {
+          its_server = own.0.0;
+          its_coord = own.0.1;
+          activate = λ h b st asked. activate_asked M.sent p there h k b st t.server asked own.0.0;
+          invoke = λ h x b i ends o asked. invoke_asked M.sent p there h (ask.Invoke x b i ends o) asked k x b i ends o t.server own.0.0;
+          vote = λ h i ties ends. vote_asked M.sent k h.path i ties ends t.server own.0.0;
+          told = λ ends. told_asked M.sent k ends t.server own.0.0;
+          its_naming = own.1;
+          bind = λ h x include avoid n asked there. absurd (off h x include avoid asked);
+          note = λ h x b i g n there. note_made_said lines h.path x b i g n (made n there);
+          confirm = λ h grants ex inc n there. confirm_made_said lines h.path grants ex inc d.names n (made n there);
+          ended = λ u how n there. told_made_said lines u how d.names n (made n there);
+          hello = λ node inc n there. hello_made_said lines node inc n (made n there);
+          load = λ h x st is. held_is x st is;
+        }
+
+        By : Handled → Type 0
+        By (Void es) = ⊤
+        By (Took w es) = ((S w.server × N w.naming) × C w.coord) × AllSend (Bound lines) IsOf from m w.coord es
+
+        h : ((S v.server × N v.naming) × C v.coord) × AllSend (Bound lines) IsOf from m v.coord outs
+        h = subst By is (message_served (Bound lines) IsOf from m k d t S N C kept
+            (λ a r of. let q = heard from a r d.intents t.coord in (
+              heard_named M.sent lines k t.coord place own.0.1 from a r d.intents (answers_fit begun e k d t M good bound_all from m there a r of) (λ z s does now waits. brings from m there meant a r of z s does now waits),
+              quiet_so (Bound lines) IsOf from m q.part q.outs (heard_quiet begun e k d t M good from a r) (heard_so begun (paths_of begun) tree_is t.coord coord_good (let u = its_up in u.numbered) works from a r d.intents),
+            ))
+            (λ u. let q = acked from u d.intents t.coord in (acked_named M.sent lines k t.coord place own.0.1 from u d.intents, quiet_so (Bound lines) IsOf from m q.part q.outs (acked_quiet begun e k d t M good from u) (acked_so from u d.intents t.coord)))
+            (λ u. quiet_so (Bound lines) IsOf from m t.coord (answer_query from u d.intents t.coord) (query_quiet begun e k d t M good from u) (query_so t.coord from u d.intents t.coord)))
+
+    -- A Bind: the line that a binding was made comes before the answer.
+    module _ (h : Head) (x : ℕ) (include : Bool) (avoid : Binding) (comes : asks m ≡ Some (h, ask.Bind x include avoid)) where
+      named_by : (n : Naming) → t.naming ≡ Some n → Goes (served from h (with_naming t) Reply.Bound (naming.bind h.path x include avoid d.names n))
+      named_by n is = by r.reply refl
+        where
+          r : Served Naming BoundReply
+          r = naming.bind h.path x include avoid d.names n
+
+          after : Body → Type 0
+          after z = lines z ⊎ SaidIn r.outs z
+
+          told : MadeWasSaid after (Some r.part) × MakeSaid lines after (λ z s. inl s) x r.reply
+          told = bind_made_said lines after (λ z s. inl s) h.path x include avoid d.names n (subst (MadeWasSaid lines) is own.1) (λ z s. inr s)
+
+          so : AreSo k (Some t) M after
+          so = so_more k (Some t) M lines after (λ z s. inl s) (goes_on t own)
+
+          v : Parts
+          v = with_naming t r.part
+
+          goes : AreSo k (Some v) M after
+          goes = record { its = λ w same. subst (PartsSo M.sent after) (some_is same) ((own.0.0, steps_more M.sent M.sent (λ q i. i) lines after (λ z s. inl s) t.coord own.0.1), told.0); others = so.others; replies = so.replies; activates = so.activates }
+
+          back_to : Post
+          back_to = record { from = from; to = k; message = m }
+
+          answer : (q : BoundReply) → MakeSaid lines after (λ z s. inl s) x (Some q) → (o : Post) → o.to ≡ from → ReplyWasAsked M.sent after o (asked_by h) (Reply.Bound q)
+          answer (bound.Make b server g stores) line o to = (h, x, include, avoid, record { post = back_to; posted = there; from = sym to; asking = comes; asker = refl }, line)
+          answer (bound.Live b server i g stores) line o to = tt
+          answer (bound.Write g stores) line o to = tt
+          answer (bound.Conflict z l) line o to = tt
+
+          fine : (q : BoundReply) → MakeSaid lines after (λ z s. inl s) x (Some q) → Fine M.sent after k (Send from (response (asked_by h) (Reply.Bound q)))
+          fine q line = ((λ a z same. let two : ◌≡◌ {A = Asked × Reply} (asked_by h, Reply.Bound q) (a, z) = some_is same in subst (λ (y : Asked × Reply). ReplyWasAsked M.sent after (record { from = k; to = from; message = response (asked_by h) (Reply.Bound q) }) y.0 y.1) two (answer q line (record { from = k; to = from; message = response (asked_by h) (Reply.Bound q) }) refl)), λ g b st same. absurd (cc same))
+
+          by : (o : Option BoundReply) → r.reply ≡ o → Goes (sends_answer from h v r.outs (option_map Reply.Bound o))
+          by None none = tt
+          by (Some q) there = walk_lines M.sent after e k v r.outs (Send from (response (asked_by h) (Reply.Bound q)) ∷ []) d M (λ z i. i) (bind_said h.path x include avoid d.names n) (λ z s. s) (fine q (subst (MakeSaid lines after (λ z s. inl s) x) there told.1), tt) goes
+
+      bind_walk : (o : Option Naming) → t.naming ≡ o → Goes (if_naming (λ n. served from h (with_naming t) Reply.Bound (naming.bind h.path x include avoid d.names n)) o)
+      bind_walk None is = tt
+      bind_walk (Some n) is = named_by n is
+
+    message_walk : (v : Parts) (outs : List Effect) → handle k d t from m ≡ Took v outs → Walks WereAsked e k outs (Up WereAsked k v) d M
+    message_walk v outs is = by (asks m) refl
+      where
+        other : (h : Head) (b : Ask) → asks m ≡ Some (h, b) → ((x : ℕ) (include : Bool) (avoid : Binding) → b ≢ ask.Bind x include avoid) → Walks WereAsked e k outs (Up WereAsked k v) d M
+        other h b it not_it = plain (λ g x include avoid its. let two : ◌≡◌ {A = Head × Ask} (h, b) (g, ask.Bind x include avoid) = some_is (sym it ∙ its) in not_it x include avoid (ap (λ (z : Head × Ask). z.1) two)) v outs is
+
+        one : (h : Head) (b : Ask) → asks m ≡ Some (h, b) → Walks WereAsked e k outs (Up WereAsked k v) d M
+        one h (ask.Bind x include avoid) it = subst Goes (sym (ap (handle_ask k d t from m) it) ∙ is) (bind_walk h x include avoid it t.naming refl)
+        one h (ask.Load x) it = other h (ask.Load x) it (λ y i a same. cc same)
+        one h (ask.Activate b st) it = other h (ask.Activate b st) it (λ y i a same. cc same)
+        one h (ask.Record x b i g) it = other h (ask.Record x b i g) it (λ y i a same. cc same)
+        one h (ask.Invoke x b i ends o) it = other h (ask.Invoke x b i ends o) it (λ y i a same. cc same)
+        one h (ask.Vote i ties ends) it = other h (ask.Vote i ties ends) it (λ y i a same. cc same)
+        one h (ask.Prepare states) it = other h (ask.Prepare states) it (λ y i a same. cc same)
+        one h (ask.Confirm g ex inc) it = other h (ask.Confirm g ex inc) it (λ y i a same. cc same)
+
+        by : (o : Option (Head × Ask)) → asks m ≡ o → Walks WereAsked e k outs (Up WereAsked k v) d M
+        by None it = plain (λ g x include avoid its. let no_way : ◌≡◌ {A = Option (Head × Ask)} None (Some (g, ask.Bind x include avoid)) = sym it ∙ its in absurd (cc no_way)) v outs is
+        by (Some o) it = one o.0 o.1 it
 
   act_walk : (i : Input) → is_act i ≡ true → refusal_up hd i t.coord ≡ None → Walks WereAsked e k (let r = acts_of i d.intents t.coord in r.outs) (Up WereAsked k (with_coord t (acts_of i d.intents t.coord).part)) d M
-  act_walk i is free = let r = acts_of i d.intents t.coord in walk_on (with_coord t r.part) r.outs (quiet_fine M.sent k r.outs (acts_quiet begun e k d t M good hd i is free)) own
+  act_walk i is free =
+      let r = acts_of i d.intents t.coord in
+      let steps = acts_named M.sent lines k t.coord place own.0.1 hd i d.intents free other in
+      walk_on (with_coord t r.part) r.outs (own_fine M.sent lines k r.part steps r.outs (quiet_silent r.outs (acts_quiet begun e k d t M good hd i is free)) (acts_so begun (paths_of begun) tree_is t.coord coord_good (let u = its_up in u.numbered) works i d.intents other)) ((own.0.0, steps), own.1)
+    where
+      other : (l : Label) (how : Kind) (parent : Option Label) → i ≢ input.Begin l how parent
+      other l how parent same = let no_way : false ≡ true = sym (ap is_act same) ∙ is in cc no_way
 
   tick_walk : Walks WereAsked e k (tick_outs (record { number = k; disk = d; live = Some t }) t) (Up WereAsked k (with_coord t (again_all t.coord.doings t.coord).part)) d M
-  tick_walk = walk_on (with_coord t (again_all t.coord.doings t.coord).part) (tick_outs (record { number = k; disk = d; live = Some t }) t) (quiet_fine M.sent k (tick_outs (record { number = k; disk = d; live = Some t }) t) (tick_quiet begun e k d t M good)) own
+  tick_walk =
+      let r = again_all t.coord.doings t.coord in
+      let tolds = tolds_again t.coord.telling in
+      let steps = again_named M.sent lines k t.coord place own.0.1 in
+      let outs = tick_outs (record { number = k; disk = d; live = Some t }) t in
+      walk_on (with_coord t r.part) outs (own_fine M.sent lines k r.part steps outs (quiet_silent outs (tick_quiet begun e k d t M good))
+      (so_both r.part (r.outs ++ tolds) (map query_about (holders d t)) (so_both r.part r.outs tolds (again_so begun (paths_of begun) tree_is t.coord coord_good (let u = its_up in u.numbered) works) (tolds_so r.part t.coord.telling)) (all_map (SendsSo r.part) query_about (holders d t) (λ w h a is. absurd (cc is)))))
+      ((own.0.0, steps), own.1)
 
   begin_walk : (l : Label) (how : Kind) (parent : Option Label) (g : Labelled) → Walks WereAsked e k (let r = begin_action l how parent (parent_of parent t.coord) t.coord in r.outs) (Up WereAsked k (with_coord t (begin_action l how parent (parent_of parent t.coord) t.coord).part)) d (given l g M)
   begin_walk l how parent g =
       let r = begin_action l how parent (parent_of parent t.coord) t.coord in
-      walk M.sent e k (with_coord t r.part) r.outs d (given l g M) (λ p i. i) (tt, tt) own (others_of k d (Some t) M all) all.replies
+      let goes = goes_on (with_coord t r.part) ((own.0.0, begins_named M.sent lines l how parent t.coord own.0.1), own.1) in
+      walk M.sent lines e k (with_coord t r.part) r.outs d (given l g M) (λ p i. i) (λ z s. s) (tt, tt) (record { its = goes.its; others = goes.others; replies = goes.replies; activates = goes.activates })
 
 first_asked : (hd : Header) → WereAsked (see [] (format hd))
-first_asked hd = record { replies = λ p a r i. absurd i; servers = λ j n t is live. by j n t is live }
+first_asked hd = record { replies = λ p a r i. absurd i; activates = λ p h b st i. absurd i; servers = λ j n t is live. (by j n t is live).0.0; steps = λ j n t is live. (by j n t is live).0.1; namings = λ j n t is live. (by j n t is live).1 }
   where
-    by : (j : ℕ) (n : Node) (t : Parts) → at_place j (map (first_node hd) (numbers_to hd.nodes)) ≡ Some n → n.live ≡ Some t → ServerWasAsked [] t.server
-    by zero n t is live = absurd (cc is)
-    by (suc j) n t is live = subst (λ (z : Parts). ServerWasAsked [] z.server) (some_is (ap (λ (z : Node). z.live) (first_at hd (suc j) n is) ∙ live)) (none_asked [] 1)
+    L : Body → Type 0
+    L = let w = format hd in IsSaid w.lines
 
-pub asked_given : (hd : Header) → KeepsGiven hd (λ M. IsGood M × HaveForms hd M) WereAsked
+    by : (j : ℕ) (n : Node) (t : Parts) → at_place j (map (first_node hd) (numbers_to hd.nodes)) ≡ Some n → n.live ≡ Some t → PartsSo [] L t
+    by zero n t is live = absurd (cc is)
+    by (suc j) n t is live = subst (PartsSo [] L) (some_is (ap (λ (z : Node). z.live) (first_at hd (suc j) n is) ∙ live)) ((none_asked [] 1, new_named [] L (suc j) 1 (let d = first_disk hd (suc j) in d.intents)), start_made L (suc j) 1 (let d = first_disk hd (suc j) in d.names))
+
+pub asked_given : (hd : Header) → KeepsGiven hd (λ M. RequestsAreKnown M × HaveForms hd M) WereAsked
 asked_given hd = record {
-  quiet = λ e bs M quiet g p. record { replies = p.replies; servers = p.servers };
-  stop = λ e k d live M g p. let b = back k d None M (λ t is. absurd (cc is)) (others_of k d live M p) p.replies in record { replies = b.replies; servers = b.servers };
-  message = λ e k d t v from m outs M g p there meant is. message_walk hd g.0.0 e k d t M g.0.1 g.1 p from m v outs there is;
-  act = λ e k d t i M is free g p. act_walk hd g.0.0 e k d t M g.0.1 g.1 p i is free;
-  begin = λ e k d t l how parent M new may free g p. begin_walk hd g.0.0 e k d t M g.0.1 g.1 p l how parent (record { node = k; serial = is_serial_kind how });
-  tick = λ e k d t M g p. tick_walk hd g.0.0 e k d t M g.0.1 g.1 p;
-  restart = λ e k d M g p. walk M.sent e k (parts_in k (d.inc + 1) d) (restart_outs hd k (d.inc + 1) d) d M (λ p i. i) (silent_fine M.sent k (restart_outs hd k (d.inc + 1) d) (restart_silent hd k (d.inc + 1) d)) (none_asked M.sent (d.inc + 1)) (others_of k d None M p) p.replies;
+  quiet = λ e bs M quiet g p. quiet_asked e bs M p;
+  stop = λ e k d live M g p. quiet_asked e (body.Halted k ∷ []) (down k d M) (back k d None M (record { its = λ t is. absurd (cc is); others = others_of k d live M p; replies = p.replies; activates = p.activates }));
+  message = λ e k d t v from m outs M g p there meant is. message_walk hd g.0.0.0.0 e k d t M g.0.0.0.1 g.0.0.1 g.0.1 g.1 p from m there meant v outs is;
+  act = λ e k d t i M is free g p. act_walk hd g.0.0.0.0 e k d t M g.0.0.0.1 g.0.0.1 g.0.1 g.1 p i is free;
+  begin = λ e k d t l how parent M new may free g p. begin_walk hd g.0.0.0.0 e k d t M g.0.0.0.1 g.0.0.1 g.0.1 g.1 p l how parent (record { node = k; serial = is_serial_kind how });
+  tick = λ e k d t M g p. tick_walk hd g.0.0.0.0 e k d t M g.0.0.0.1 g.0.0.1 g.0.1 g.1 p;
+  restart = λ e k d M g p.
+      let v = parts_in k (d.inc + 1) d in
+      let steps = new_named M.sent (IsSaid M.lines) k (d.inc + 1) d.intents in
+      let outs = restart_outs hd k (d.inc + 1) d in
+      walk M.sent (IsSaid M.lines) e k v outs d M (λ p i. i) (λ z s. s) (own_fine M.sent (IsSaid M.lines) k v.coord steps outs (restart_silent hd k (d.inc + 1) d) (restart_asks hd k (d.inc + 1) d))
+      (record { its = λ t is. subst (PartsSo M.sent (IsSaid M.lines)) (some_is is) ((none_asked M.sent (d.inc + 1), steps), start_made (IsSaid M.lines) k (d.inc + 1) d.names); others = others_of k d None M p; replies = p.replies; activates = p.activates });
   first = first_asked hd;
 }

@@ -1,6 +1,6 @@
 -- What is known of whoever waits gives that requests are answered, with what is still to be given.
 use Rattle.std.proofs.Common.{Bool, List, None, Option, Some, [], ap, arith, cond, eqb-true, false, map, refl, subst, sym, true, ℕ, ⊎_elim, ◌<◌, ◌==◌, ◌∙◌, ◌∷◌, ◌≡◌, ◌≤◌}
-use Rattle.std.specs.Prelude.{IfSome, is_some, not, option_map, ◌&&◌, ◌||◌}
+use Rattle.std.specs.Prelude.{IfSome, is_some, nat_lt, not, option_map, ◌&&◌, ◌||◌}
 use Rattle.std.specs.List.{AllByRecursion}
 use Rattle.std.proofs.lemmas.Bool.{and_parts, false_from_ne_true, or_cases}
 use Rattle.arj_protocol.specs.Words as words
@@ -13,7 +13,7 @@ use Rattle.arj_protocol.specs.Coord.{Calling, Committing, Coord, Doing, doing_of
 use Rattle.arj_protocol.specs.Effect.{Disk, prepare_answer}
 use Rattle.arj_protocol.specs.Naming.{Naming, is_over}
 use Rattle.arj_protocol.specs.Node.{Parts, are_of_objects, ask_is_meant, copy_has_op, is_loaded_for, is_loaded_in, reply_is_meant, serve, stand_once, taken}
-use Rattle.arj_protocol.specs.Server.{Kept, has_ended, is_below}
+use Rattle.arj_protocol.specs.Server.{Kept, active_binding, binding_of, has_ended, is_below}
 use Rattle.arj_protocol.specs.Step.{Node, class_at}
 use Rattle.arj_protocol.specs.Tree.{at_place, is_own, root_of}
 use Rattle.arj_part_law.specs.Actions.{Action}
@@ -24,12 +24,13 @@ use Rattle.arj_run_law.specs.Worlds.{IsGoodOf, IsUp}
 use Rattle.arj_view_law.specs.Seen.{In, Post, Seen, up}
 use Rattle.arj_disk_view_law.proofs.Frames.{node_here}
 use Rattle.arj_address_law.proofs.Lists.{some_is}
+use Rattle.arj_part_law.proofs.LivesNamed.{keyed_found}
 use Rattle.arj_lock_fact_law.specs.Requests.{IsAskedBy}
 use Rattle.arj_round_law.specs.Rounds.{AnswersWaits, HasCome, IsVoid}
-use Rattle.arj_round_law.specs.Waits.{IsOvertaken, IsSaid, coord_in, coord_of, want_of_call, want_of_commit}
+use Rattle.arj_round_law.specs.Waits.{IsOvertaken, IsSaid, IsToSettle, coord_in, coord_of, want_of_call, want_of_commit}
 use Rattle.arj_disk_run_law.specs.Entries.{IsEntryNode, KnowsEntries}
 use Rattle.arj_lock_fact_law.specs.Entries.{HasObject}
-use Rattle.arj_protocol.specs.Order.{at_number, at_uid, has}
+use Rattle.arj_protocol.specs.Order.{at_number, at_uid, binding_less, binding_number, has, unbound}
 use Rattle.arj_wait_law.specs.Told.{ArePastIn}
 use Rattle.arj_wait_law.specs.Waits.{AnswersRest, KnownGive, LeftOfCommit, LeftOfStep, WaitsAreKnown}
 use Rattle.arj_wait_law.proofs.Known.{all_send, are_objects, class_is, copy_fits, has_each, keyed_at, loads_own, not_below, object_is, op_fits, used_is, waits_req}
@@ -41,12 +42,15 @@ use Rattle.arj_disk_run_law.specs.States.{AtIsSo, NowIsSo, OwnOf}
 use Rattle.arj_journal.specs.ScriptForm.{HeaderInForm}
 use Rattle.arj_part_law.specs.AskedObjects.{IsNowOf, IsUsedIn, KnowsObjects}
 use Rattle.arj_address_law.specs.Binds.{KnowsBinds, StandsOn}
-use Rattle.arj_wait_law.specs.Asked.{ReplyWasAsked, ServerWasAsked, WasAsked}
+use Rattle.arj_wait_law.specs.Asked.{ActivateNamed, ReplyWasAsked, ServerWasAsked, WasAsked, WasBrought}
 use Rattle.arj_disk_run_law.proofs.Lists.{all_each}
 use Rattle.arj_model.specs.Last.{first_values}
 use Rattle.arj_base.proofs.Uids.{uid_same}
 use Rattle.arj_protocol.specs.Asking.{waits_for_call}
 use Rattle.arj_protocol.specs.Words.loaded
+use Rattle.arj_protocol.specs.Copy.{Copy}
+use Rattle.std.proofs.lemmas.Bool.Decides.{nat_tests}
+use Rattle.arj_protocol.specs.Words.body
 
 -- ---- requests without their ends
 
@@ -78,6 +82,15 @@ same_invoke (ask.Invoke y c k ends p) x b i o is = (ends, ap (with_ends ends) is
 same_invoke (ask.Vote k ties ends) x b i o is = absurd (cc is)
 same_invoke (ask.Prepare states) x b i o is = absurd (cc is)
 same_invoke (ask.Confirm g y z) x b i o is = absurd (cc is)
+
+-- ---- bindings
+
+-- nothing is less than no binding
+nothing_less : (b : Binding) → binding_less b unbound ≡ true → ⊥
+nothing_less b less = by (binding_number b) less
+  where
+    by : (n : ℕ) → nat_lt n 0 ≡ true → ⊥
+    by n is = grind (arith, nat_tests, is)
 
 -- ---- a Confirm
 
@@ -280,6 +293,26 @@ module _ (hd : Header) (form : HeaderInForm hd) (j : ℕ) (d : Disk) (t : Parts)
                 number_is : s.req ≡ q.req
                 number_is = subst (IsNumbered q.req) now (number hd W known j u c q does from at_it)
 
+    -- a server has a copy under a later binding only where a line said that it was made
+    overtaken : (k : Known) (st : ObjectState) → s.at ≡ AtActivate k st → binding_less k.binding (active_binding (let u = st.uid in u.num) t.server) ≡ true → IsOvertaken (IsSaid M.lines) s
+    overtaken k st is = by (at_number st.uid.num (let v = t.server in v.objects)) refl
+      where
+        of_server : ServerWasAsked W.sent t.server
+        of_server = let w = known.1.0.1 in w.servers j here t (node_here M j here) refl
+
+        by : (o : Option Copy) → at_number st.uid.num (let v = t.server in v.objects) ≡ o → binding_less k.binding (binding_of o) ≡ true → IsOvertaken (IsSaid M.lines) s
+        by None none less = absurd (nothing_less k.binding less)
+        by (Some y) there less = record { known = k; step = subst (λ z. IsToSettle z k) (sym is) refl; binding = y.binding; server = named.1.server; line = subst (λ x. IsSaid M.lines (body.Bound x y.binding named.1.server)) x_is named.1.line; greater = less }
+          where
+            brought : WasBrought W.sent st.uid.num y.binding
+            brought = keyed_found (λ x (z : Copy). WasBrought W.sent x z.binding) st.uid.num (let v = t.server in v.objects) y of_server.copies there
+
+            named : ActivateNamed W.sent (IsSaid M.lines) brought.head y.binding brought.state
+            named = let w = known.1.0.1 in w.activates brought.post brought.head y.binding brought.state brought.posted brought.asking
+
+            x_is : (let z = brought.state in z.uid.num) ≡ s.x
+            x_is = brought.object_is ∙ ap (λ (z : Uid). z.num) (its_state k st is)
+
     call_given : LeftOfStep d t M s s.at → IsVoid (taken j d t from (let p = h.post in p.message)) → IsOvertaken (IsSaid M.lines) s
     call_given left void_it = by s.at refl left
       where
@@ -291,7 +324,7 @@ module _ (hd : Header) (form : HeaderInForm hd) (j : ℕ) (d : Disk) (t : Parts)
             absurd (bind_answers j d t from (head_of s) s.x (is_include s.goal) avoid o.0 o.1 (untold_naming_here from at_it s.path asking_call o.0 o.1) (object_here one o.0 o.1 s.x object_there)
             (unserved void_it (ask.Bind s.x (is_include s.goal) avoid) (same_ask (ask.Bind s.x (is_include s.goal) avoid) refl (ap (ask_at s.x s.goal []) is)) refl))
         by (AtLoad k n rest) is l = absurd (load_answers j d t from (head_of s) s.x l (unserved void_it (ask.Load s.x) (same_ask (ask.Load s.x) refl (ap (ask_at s.x s.goal []) is)) refl))
-        by (AtActivate k st) is l = activate_answers j d t from (head_of s) k.binding st (untold_server_here from at_it s.path asking_call) l
+        by (AtActivate k st) is l = activate_answers j d t from (head_of s) k.binding st (untold_server_here from at_it s.path asking_call) (overtaken k st is)
             (unserved void_it (ask.Activate k.binding st) (same_ask (ask.Activate k.binding st) refl (ap (ask_at s.x s.goal []) is)) (object_is hd form s.x object_there st.uid (its_state k st is)))
         by (AtNote k i) is l = let one = sym h.node ∙ ap node_at is in let o = naming_here one in
             record_answers j d t from (head_of s) s.x k.binding i k.grant o.0 o.1 (untold_naming_here from at_it s.path asking_call o.0 o.1) (object_here one o.0 o.1 s.x object_there) (λ v at_v ours none. l o.0 v o.1 at_v ours none)
@@ -373,7 +406,7 @@ module _ (hd : Header) (j : ℕ) (d : Disk) (t : Parts) (M : Seen) (known : Wait
       there : IsAt (up j d t M) j t.coord
       there = record { node = record { number = j; disk = d; live = Some t }; parts = t; found = node_here M j (record { number = j; disk = d; live = Some t }); live = refl; same = refl }
 
-      asked : ReplyWasAsked M.sent p a (Reply.Loaded (loaded.State st))
+      asked : ReplyWasAsked M.sent (IsSaid M.lines) p a (Reply.Loaded (loaded.State st))
       asked = let w = known.1.0.1 in w.replies p a (Reply.Loaded (loaded.State st)) sent is
 
       h : Head

@@ -37,7 +37,6 @@ use Rattle.arj_wait_law.specs.Told.{EndsArePast}
 use Rattle.arj_wait_law.specs.Waits.{AskersAreKnown, HandlersKeepWaits, ObjectsAreKnown}
 use Rattle.arj_wait_law.proofs.Past.{past_keep}
 use Rattle.arj_wait_law.specs.Asked.{HaveForms, RequestsAreHome, WereAsked}
-use Rattle.arj_run_law.proofs.AllRuns.{all_keep}
 use Rattle.arj_joint_law.proofs.FormRuns.{kept_forms}
 use Rattle.arj_joint_law.specs.Forms.{AreSo, kind_of}
 use Rattle.arj_wait_law.proofs.AskedRuns.{asked_given}
@@ -95,8 +94,8 @@ objects_keep hd = asked_both hd (λ M. (IsGood M × BindsAreKnown M) × CallsAre
 
 -- states, answers, and what servers have
 askers_keep : (hd : Header) → HeaderInForm hd → KeepsAsked hd (AskersAreKnown hd)
-askers_keep hd form = asked_both hd (λ M. (IsGood M × HaveForms hd M) × WereAsked M) RequestsAreHome
-    (keeps_asked hd (λ M. (IsGood M × HaveForms hd M) × WereAsked M) (kept_both hd (λ M. IsGood M × HaveForms hd M) WereAsked (kept_both hd IsGood (HaveForms hd) (all_keep hd) (keeps_given hd IsGood (HaveForms hd) (keeps_each hd (λ x. AreSo (kind_of hd x)) (λ x. kept_forms hd x form)))) (asked_given hd)))
+askers_keep hd form = asked_both hd (λ M. (RequestsAreKnown M × HaveForms hd M) × WereAsked M) RequestsAreHome
+    (keeps_asked hd (λ M. (RequestsAreKnown M × HaveForms hd M) × WereAsked M) (kept_both hd (λ M. RequestsAreKnown M × HaveForms hd M) WereAsked (kept_both hd RequestsAreKnown (HaveForms hd) (requests_keep hd) (keeps_given hd RequestsAreKnown (HaveForms hd) (keeps_each hd (λ x. AreSo (kind_of hd x)) (λ x. kept_forms hd x form)))) (asked_given hd)))
     (keeps_asked hd RequestsAreHome (home_keep hd))
 
 pub waits_keep : HandlersKeepWaits

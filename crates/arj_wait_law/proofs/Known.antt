@@ -8,7 +8,7 @@ use Rattle.arj_protocol.specs.Copy.{Copy}
 use Rattle.arj_joint_law.specs.Forms.{CopyIsSo}
 use Rattle.arj_protocol.specs.Tree.{Family, Tree, no_family}
 use Rattle.arj_lock_fact_law.specs.Entries.{HasObject}
-use Rattle.arj_protocol.specs.Words.{Asked, Header, ObjectState, Op, Uid, object, uid_eq, uid_order}
+use Rattle.arj_protocol.specs.Words.{Asked, Binding, Header, ObjectState, Op, Uid, object, uid_eq, uid_order}
 use Rattle.arj_journal.specs.ScriptForm.{HeaderInForm, ObjectLineInForm}
 use Rattle.arj_part_law.specs.AskedObjects.{IsUsedIn}
 use Rattle.arj_text.specs.Fields.{IsWithin}
@@ -168,6 +168,14 @@ loads_own x y g (AtLoad k n rest) is = cc is
 loads_own x y g (AtActivate k st) is = absurd (cc is)
 loads_own x y g (AtNote k i) is = absurd (cc is)
 loads_own x y g (AtInvoke k i) is = absurd (cc is)
+
+-- and one that binds
+pub binds_own : (x y : ℕ) (include : Bool) (avoid : Binding) (g : Goal) (at : At) → ask.Bind y include avoid ≡ ask_at x g [] at → y ≡ x
+binds_own x y include avoid g (AtBind b) is = cc is
+binds_own x y include avoid g (AtLoad k n rest) is = absurd (cc is)
+binds_own x y include avoid g (AtActivate k st) is = absurd (cc is)
+binds_own x y include avoid g (AtNote k i) is = absurd (cc is)
+binds_own x y include avoid g (AtInvoke k i) is = absurd (cc is)
 
 -- no request of a later number
 pub not_below : (req : ℕ) (k : Kept) → k.req ≤ req → is_below req (Some k) ≡ false

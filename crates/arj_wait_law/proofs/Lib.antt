@@ -5,9 +5,11 @@ pub mod Untold
 pub mod Replies
 pub mod Serving
 pub mod AskedServers
+pub mod Made
+pub mod Named
+pub mod Known
 pub mod AskedRuns
 pub mod Home
-pub mod Known
 pub mod Gives
 pub mod Keeping
 pub mod Waiting

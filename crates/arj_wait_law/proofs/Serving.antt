@@ -1,4 +1,5 @@
--- What a node makes of a message for its server and for naming, whatever is kept of them, and which answers it sends.
+-- What a node makes of a message for its server, naming and its coordinator, whatever is kept of them, and what it sends: answers to who asked, and
+-- requests of what waits.
 use Rattle.std.proofs.Common.{◌≡◌, ℕ, List, [], ◌∷◌, ◌++◌, Bool, true, false, cond, filter, map, Option, Some, None, refl, sym, ◌∙◌, subst}
 use Rattle.std.specs.Prelude.{⊤, option_map}
 use Rattle.std.specs.List.{AllByRecursion, list_all}
@@ -25,10 +26,12 @@ use Rattle.arj_protocol.specs.Order.{uid_set, without_number}
 use Rattle.arj_protocol.specs.Says.{AreAll, is_naming_effect, is_server_effect}
 use Rattle.arj_protocol.specs.Server as server
 use Rattle.arj_protocol.specs.Server.{Server}
-use Rattle.arj_protocol.specs.Step.{hello_to, naming_at, naming_back, numbers_to, recovered_records, restart_outs, tolds_again}
+use Rattle.arj_protocol.specs.Step.{hello_to, naming_at, naming_back, numbers_to, parts_in, recovered_records, restart_outs, tolds_again}
 use Rattle.arj_protocol.proofs.PartSays.{activate_own, bind_own, confirm_own, ends_own, invoke_own, note_own, told_own, vote_own}
 use Rattle.arj_part_law.proofs.SaidIncs.{all_flat, all_map}
 use Rattle.arj_record_law.proofs.Quiet.{AllQuiet}
+use Rattle.arj_call_law.proofs.CoordSends.{AllSo, SendsSo}
+use Rattle.arj_call_law.proofs.WorldSteps.{no_request}
 
 -- ---- without answers
 
@@ -47,18 +50,27 @@ quiet_silent (Say b ∷ es) q = (tt, quiet_silent es q.1)
 quiet_silent (Do w ∷ es) q = (tt, quiet_silent es q.1)
 quiet_silent (Send to p ∷ es) q = (q.0, quiet_silent es q.1)
 
-both : (es fs : List Effect) → AllSilent es → AllSilent fs → AllSilent (es ++ fs)
-both es fs a b = all_append IsSilent es fs a b
+-- it neither answers nor asks
+abbrev IsMute : Effect → Type 0
+IsMute (Send to m) = (answers m ≡ None) × (asks m ≡ None)
+IsMute (Say b) = ⊤
+IsMute (Do w) = ⊤
 
--- a restart answers nobody
-pub restart_silent : (hd : Header) (k inc : ℕ) (d : Disk) → AllSilent (restart_outs hd k inc d)
-restart_silent hd k inc d = both four hellos (both three asking (both two (tolds_again d.intents) (both one records (tt, (tt, (tt, (tt, back_so (naming_at k inc d.names))))) (tt, all_map IsSilent (λ (e : Uid × Intent). Say (body.Recovered k e.0)) d.intents (λ e. tt)))
-    (all_flat IsSilent (λ (e : Uid × Intent). tell_all e.1.root true ((e.0, ending.Commit) ∷ []) e.1.nodes) d.intents (λ e. all_map IsSilent (tell e.1.root true ((e.0, ending.Commit) ∷ [])) e.1.nodes (λ n. refl))))
-    (all_map IsSilent query_about (uid_set (prepared_actions d.store ++ prepared_actions d.names)) (λ u. refl))) (all_map IsSilent (hello_to k inc) (without_number k (numbers_to hd.nodes)) (λ w. refl))
+abbrev AllMute : List Effect → Type 0
+AllMute outs = AllByRecursion IsMute outs
+
+mute_both : (es fs : List Effect) → AllMute es → AllMute fs → AllMute (es ++ fs)
+mute_both es fs a b = all_append IsMute es fs a b
+
+-- a restart neither answers nor asks
+restart_mute : (hd : Header) (k inc : ℕ) (d : Disk) → AllMute (restart_outs hd k inc d)
+restart_mute hd k inc d = mute_both four hellos (mute_both three asking (mute_both two (tolds_again d.intents) (mute_both one records (tt, (tt, (tt, (tt, back_so (naming_at k inc d.names))))) (tt, all_map IsMute (λ (e : Uid × Intent). Say (body.Recovered k e.0)) d.intents (λ e. tt)))
+    (all_flat IsMute (λ (e : Uid × Intent). tell_all e.1.root true ((e.0, ending.Commit) ∷ []) e.1.nodes) d.intents (λ e. all_map IsMute (tell e.1.root true ((e.0, ending.Commit) ∷ [])) e.1.nodes (λ n. (refl, refl)))))
+    (all_map IsMute query_about (uid_set (prepared_actions d.store ++ prepared_actions d.names)) (λ u. (refl, refl)))) (all_map IsMute (hello_to k inc) (without_number k (numbers_to hd.nodes)) (λ w. (refl, refl)))
   where
-    back_so : (o : Option Naming) → AllSilent (naming_back o)
+    back_so : (o : Option Naming) → AllMute (naming_back o)
     back_so None = tt
-    back_so (Some o) = all_flat IsSilent (λ (e : ℕ × Named). back_lines e.1) o.objects (λ e. all_map IsSilent _ e.1.rows (λ r. tt))
+    back_so (Some o) = all_flat IsMute (λ (e : ℕ × Named). back_lines e.1) o.objects (λ e. all_map IsMute _ e.1.rows (λ r. tt))
 
     one : List Effect
     one = Do Look ∷ Do (PutInc inc) ∷ Say (body.Up k inc) ∷ Do Look ∷ naming_back (naming_at k inc d.names)
@@ -80,6 +92,25 @@ restart_silent hd k inc d = both four hellos (both three asking (both two (tolds
 
     hellos : List Effect
     hellos = map (hello_to k inc) (without_number k (numbers_to hd.nodes))
+
+pub restart_silent : (hd : Header) (k inc : ℕ) (d : Disk) → AllSilent (restart_outs hd k inc d)
+restart_silent hd k inc d = by (restart_outs hd k inc d) (restart_mute hd k inc d)
+  where
+    by : (es : List Effect) → AllMute es → AllSilent es
+    by [] m = tt
+    by (Say b ∷ es) m = (tt, by es m.1)
+    by (Do w ∷ es) m = (tt, by es m.1)
+    by (Send to p ∷ es) m = ((m.0).0, by es m.1)
+
+-- nor does it ask
+pub restart_asks : (hd : Header) (k inc : ℕ) (d : Disk) → AllSo (let t = parts_in k inc d in t.coord) (restart_outs hd k inc d)
+restart_asks hd k inc d = by (restart_outs hd k inc d) (restart_mute hd k inc d)
+  where
+    by : (es : List Effect) → AllMute es → AllSo (let t = parts_in k inc d in t.coord) es
+    by [] m = tt
+    by (Say b ∷ es) m = (tt, by es m.1)
+    by (Do w ∷ es) m = (tt, by es m.1)
+    by (Send to p ∷ es) m = ((λ h a is. let no_way : ◌≡◌ {A = Option (Head × Ask)} None (Some (h, a)) = sym (m.0).1 ∙ is in absurd (cc no_way)), by es m.1)
 
 -- ---- what a node makes of a message
 
@@ -108,51 +139,56 @@ module _ (RB : Head → ℕ → Bool → Binding → BoundReply → Type 0) (RL 
   AnswerSo to a (Reply.Loaded (loaded.State st)) = LoadsTo to a st
   AnswerSo to a _ = ⊤
 
-  abbrev pub EffectSo : Effect → Type 0
-  EffectSo (Send to p) = (a : Asked) (r : Reply) → answers p ≡ Some (a, r) → AnswerSo to a r
-  EffectSo (Say b) = ⊤
-  EffectSo (Do w) = ⊤
+  abbrev pub EffectSo : Coord → Effect → Type 0
+  EffectSo c (Send to p) = ((a : Asked) (r : Reply) → answers p ≡ Some (a, r) → AnswerSo to a r) × SendsSo c (Send to p)
+  EffectSo c (Say b) = ⊤
+  EffectSo c (Do w) = ⊤
 
-  abbrev pub AnswersSo : List Effect → Type 0
-  AnswersSo outs = AllByRecursion EffectSo outs
+  abbrev pub AllSend : Coord → List Effect → Type 0
+  AllSend c outs = AllByRecursion (EffectSo c) outs
 
-  so_both : (es fs : List Effect) → AnswersSo es → AnswersSo fs → AnswersSo (es ++ fs)
-  so_both es fs a b = all_append EffectSo es fs a b
-
-  -- without messages nothing is answered
-  silent : (test : Effect → Bool) → ((to : ℕ) (p : Message) → test (Send to p) ≡ false) → (es : List Effect) → AreAll test es → AnswersSo es
-  silent test none [] own = tt
-  silent test none (Say b ∷ es) own = (tt, silent test none es (and_parts (test (Say b)) (list_all test es) own).1)
-  silent test none (Do w ∷ es) own = (tt, silent test none es (and_parts (test (Do w)) (list_all test es) own).1)
-  silent test none (Send to p ∷ es) own = let no_way : true ≡ false = sym (and_parts (test (Send to p)) (list_all test es) own).0 ∙ none to p in absurd (cc no_way)
-
-  pub quiet_so : (es : List Effect) → AllQuiet es → AnswersSo es
-  quiet_so es q = by es (quiet_silent es q)
+  -- what a coordinator sends answers nobody
+  pub quiet_so : (c : Coord) (es : List Effect) → AllQuiet es → AllSo c es → AllSend c es
+  quiet_so c es q so = by es (quiet_silent es q) so
     where
-      by : (fs : List Effect) → AllSilent fs → AnswersSo fs
-      by [] s = tt
-      by (Say b ∷ fs) s = (tt, by fs s.1)
-      by (Do w ∷ fs) s = (tt, by fs s.1)
-      by (Send to p ∷ fs) s = ((λ a r is. let no_way : ◌≡◌ {A = Option (Asked × Reply)} None (Some (a, r)) = sym s.0 ∙ is in absurd (cc no_way)), by fs s.1)
+      by : (fs : List Effect) → AllSilent fs → AllSo c fs → AllSend c fs
+      by [] s so = tt
+      by (Say b ∷ fs) s so = (tt, by fs s.1 so.1)
+      by (Do w ∷ fs) s so = (tt, by fs s.1 so.1)
+      by (Send to p ∷ fs) s so = (((λ a r is. let no_way : ◌≡◌ {A = Option (Asked × Reply)} None (Some (a, r)) = sym s.0 ∙ is in absurd (cc no_way)), so.0), by fs s.1 so.1)
 
-  queries_so : (us : List Uid) → AnswersSo (map query_about us)
-  queries_so [] = tt
-  queries_so (u ∷ us) = ((λ a r is. absurd (cc is)), queries_so us)
+  module _ (c : Coord) where
+    so_both : (es fs : List Effect) → AllSend c es → AllSend c fs → AllSend c (es ++ fs)
+    so_both es fs a b = all_append (EffectSo c) es fs a b
 
-  same_answer : (to : ℕ) (a b : Asked) (q r : Reply) → ◌≡◌ {A = Option (Asked × Reply)} (Some (a, q)) (Some (b, r)) → AnswerSo to a q → AnswerSo to b r
-  same_answer to a b q r is so = let two : ◌≡◌ {A = Asked × Reply} (a, q) (b, r) = some_is is in subst (λ (z : Asked × Reply). AnswerSo to z.0 z.1) two so
+    -- without messages nothing is answered
+    silent : (test : Effect → Bool) → ((to : ℕ) (p : Message) → test (Send to p) ≡ false) → (es : List Effect) → AreAll test es → AllSend c es
+    silent test none [] own = tt
+    silent test none (Say b ∷ es) own = (tt, silent test none es (and_parts (test (Say b)) (list_all test es) own).1)
+    silent test none (Do w ∷ es) own = (tt, silent test none es (and_parts (test (Do w)) (list_all test es) own).1)
+    silent test none (Send to p ∷ es) own = let no_way : true ≡ false = sym (and_parts (test (Send to p)) (list_all test es) own).0 ∙ none to p in absurd (cc no_way)
 
-  response_so : (to : ℕ) (a : Asked) (r : Reply) → AnswerSo to a r → EffectSo (Send to (response a r))
-  response_so to a (Reply.Bound q) so b r is = same_answer to a b (Reply.Bound q) r is so
-  response_so to a (Reply.Loaded q) so b r is = same_answer to a b (Reply.Loaded q) r is so
-  response_so to a (Reply.Activated q) so b r is = same_answer to a b (Reply.Activated q) r is so
-  response_so to a (Reply.Noted q) so b r is = same_answer to a b (Reply.Noted q) r is so
-  response_so to a (Reply.Invoked q) so b r is = same_answer to a b (Reply.Invoked q) r is so
-  response_so to a (Reply.Voted q) so b r is = same_answer to a b (Reply.Voted q) r is so
-  response_so to a (Reply.Prepared q) so b r is = same_answer to a b (Reply.Prepared q) r is so
-  response_so to a (Reply.Confirmed q) so b r is = same_answer to a b (Reply.Confirmed q) r is so
+    queries_so : (us : List Uid) → AllSend c (map query_about us)
+    queries_so [] = tt
+    queries_so (u ∷ us) = (((λ a r is. absurd (cc is)), λ h a is. absurd (cc is)), queries_so us)
 
-  module _ (k : ℕ) (d : Disk) (t : Parts) (S : Server → Type 0) (N : Option Naming → Type 0) where
+    same_answer : (to : ℕ) (a b : Asked) (q r : Reply) → ◌≡◌ {A = Option (Asked × Reply)} (Some (a, q)) (Some (b, r)) → AnswerSo to a q → AnswerSo to b r
+    same_answer to a b q r is so = let two : ◌≡◌ {A = Asked × Reply} (a, q) (b, r) = some_is is in subst (λ (z : Asked × Reply). AnswerSo to z.0 z.1) two so
+
+    response_so : (to : ℕ) (a : Asked) (r : Reply) → AnswerSo to a r → EffectSo c (Send to (response a r))
+    response_so to a r so = (by r so, λ h q is. absurd (let no_way : ◌≡◌ {A = Option (Head × Ask)} None (Some (h, q)) = sym (no_request a r) ∙ is in cc no_way))
+      where
+        by : (q : Reply) → AnswerSo to a q → (b : Asked) (r : Reply) → answers (response a q) ≡ Some (b, r) → AnswerSo to b r
+        by (Reply.Bound q) so b r is = same_answer to a b (Reply.Bound q) r is so
+        by (Reply.Loaded q) so b r is = same_answer to a b (Reply.Loaded q) r is so
+        by (Reply.Activated q) so b r is = same_answer to a b (Reply.Activated q) r is so
+        by (Reply.Noted q) so b r is = same_answer to a b (Reply.Noted q) r is so
+        by (Reply.Invoked q) so b r is = same_answer to a b (Reply.Invoked q) r is so
+        by (Reply.Voted q) so b r is = same_answer to a b (Reply.Voted q) r is so
+        by (Reply.Prepared q) so b r is = same_answer to a b (Reply.Prepared q) r is so
+        by (Reply.Confirmed q) so b r is = same_answer to a b (Reply.Confirmed q) r is so
+
+  module _ (k : ℕ) (d : Disk) (t : Parts) (S : Server → Type 0) (N : Option Naming → Type 0) (C : Coord → Type 0) where
     -- what is kept of the server and of naming, and what the answers are
     pub record IsKeptIn : Type 0 where
       pub its_server : S t.server
@@ -161,6 +197,7 @@ module _ (RB : Head → ℕ → Bool → Binding → BoundReply → Type 0) (RL 
       pub vote : (h : Head) (i : ℕ) (ties : List (ℕ × Binding)) (ends : List (Uid × End)) → S (server.vote k h.path i ties ends t.server).part
       pub told : (ends : List (Uid × End)) → S (server.told k ends t.server).part
       pub its_naming : N t.naming
+      pub its_coord : C t.coord
       pub bind : (h : Head) (x : ℕ) (include : Bool) (avoid : Binding) (n : Naming) → asks m ≡ Some (h, ask.Bind x include avoid) → t.naming ≡ Some n → let r = naming.bind h.path x include avoid d.names n in N (Some r.part) × ((q : BoundReply) → r.reply ≡ Some q → RB h x include avoid q)
       pub note : (h : Head) (x : ℕ) (b : Binding) (i g : ℕ) (n : Naming) → t.naming ≡ Some n → N (Some (let r = naming.note h.path x b i g n in r.part))
       pub confirm : (h : Head) (grants : Grants) (excluded included : Marks) (n : Naming) → t.naming ≡ Some n → N (Some (let r = confirm h.path grants excluded included d.names n in r.part))
@@ -171,11 +208,11 @@ module _ (RB : Head → ℕ → Bool → Binding → BoundReply → Type 0) (RL 
     module _ (kept : IsKeptIn) where
       abbrev By : Handled → Type 0
       By (Void outs) = ⊤
-      By (Took v outs) = (S v.server × N v.naming) × AnswersSo outs
+      By (Took v outs) = ((S v.server × N v.naming) × C v.coord) × AllSend v.coord outs
 
-      answered : (h : Head) (v : Parts) (outs : List Effect) (o : Option Reply) → S v.server → N v.naming → AnswersSo outs → ((r : Reply) → o ≡ Some r → AnswerSo from (asked_by h) r) → By (sends_answer from h v outs o)
-      answered h v outs None s n so each = tt
-      answered h v outs (Some r) s n so each = ((s, n), so_both outs (Send from (response (asked_by h) r) ∷ []) so (response_so from (asked_by h) r (each r refl), tt))
+      answered : (h : Head) (v : Parts) (outs : List Effect) (o : Option Reply) → S v.server → N v.naming → C v.coord → AllSend v.coord outs → ((r : Reply) → o ≡ Some r → AnswerSo from (asked_by h) r) → By (sends_answer from h v outs o)
+      answered h v outs None s n c so each = tt
+      answered h v outs (Some r) s n c so each = (((s, n), c), so_both v.coord outs (Send from (response (asked_by h) r) ∷ []) so (response_so v.coord from (asked_by h) r (each r refl), tt))
 
       -- an answer of another kind
       plain : {Q : Type 0} (h : Head) (say : Q → Reply) → ((q : Q) → AnswerSo from (asked_by h) (say q)) → (o : Option Q) (r : Reply) → option_map say o ≡ Some r → AnswerSo from (asked_by h) r
@@ -186,11 +223,11 @@ module _ (RB : Head → ℕ → Bool → Binding → BoundReply → Type 0) (RL 
       with_it f None is each = tt
       with_it f (Some n) is each = each n is
 
-      own_naming : (es : List Effect) → AreAll is_naming_effect es → AnswersSo es
-      own_naming es own = silent is_naming_effect (λ to p. refl) es own
+      own_naming : (es : List Effect) → AreAll is_naming_effect es → AllSend t.coord es
+      own_naming es own = silent t.coord is_naming_effect (λ to p. refl) es own
 
-      own_server : (es : List Effect) → AreAll (is_server_effect k) es → AnswersSo es
-      own_server es own = silent (is_server_effect k) (λ to p. refl) es own
+      own_server : (es : List Effect) → AreAll (is_server_effect k) es → AllSend t.coord es
+      own_server es own = silent t.coord (is_server_effect k) (λ to p. refl) es own
 
       bound_so : (h : Head) (x : ℕ) (include : Bool) (avoid : Binding) → asks m ≡ Some (h, ask.Bind x include avoid) → (o : Option BoundReply) → ((q : BoundReply) → o ≡ Some q → RB h x include avoid q) → (r : Reply) → option_map Reply.Bound o ≡ Some r → AnswerSo from (asked_by h) r
       bound_so h x include avoid is None each r of = absurd (cc of)
@@ -200,60 +237,60 @@ module _ (RB : Head → ℕ → Bool → Binding → BoundReply → Type 0) (RL 
       asked : (h : Head) (a : Ask) → asks m ≡ Some (h, a) → By (serve k d t from h a)
       asked h (ask.Bind x include avoid) is = with_it (λ o. served from h (with_naming t) Reply.Bound (naming.bind h.path x include avoid d.names o)) t.naming refl
           (λ n at. let r = naming.bind h.path x include avoid d.names n in let b = kept.bind h x include avoid n is at in
-          answered h (with_naming t r.part) r.outs (option_map Reply.Bound r.reply) kept.its_server b.0 (own_naming r.outs (bind_own h.path x include avoid d.names n)) (bound_so h x include avoid is r.reply b.1))
+          answered h (with_naming t r.part) r.outs (option_map Reply.Bound r.reply) kept.its_server b.0 kept.its_coord (own_naming r.outs (bind_own h.path x include avoid d.names n)) (bound_so h x include avoid is r.reply b.1))
       asked h (ask.Load x) is = load (holder_of (object x) d.store)
         where
           state : (o : Option ObjectState) → held_at (object x) d.store ≡ o → By (load_held from h t o)
           state None at = tt
-          state (Some st) at = answered h t (Do Look ∷ []) (Some (Reply.Loaded (loaded.State st))) kept.its_server kept.its_naming (tt, tt) one
+          state (Some st) at = answered h t (Do Look ∷ []) (Some (Reply.Loaded (loaded.State st))) kept.its_server kept.its_naming kept.its_coord (tt, tt) one
             where
               one : (r : Reply) → Some (Reply.Loaded (loaded.State st)) ≡ Some r → AnswerSo from (asked_by h) r
               one r of = subst (AnswerSo from (asked_by h)) (some_is of) (record { head = h; object = x; asking = is; asker = refl; back = refl; so = kept.load h x st at })
 
           load : (o : Option Uid) → By (load_by x d.store from h t o)
-          load (Some u) = ((kept.its_server, kept.its_naming), (response_so from (asked_by h) (Reply.Loaded (loaded.InDoubt u)) tt, tt))
+          load (Some u) = (((kept.its_server, kept.its_naming), kept.its_coord), (response_so t.coord from (asked_by h) (Reply.Loaded (loaded.InDoubt u)) tt, tt))
           load None = state (held_at (object x) d.store) refl
-      asked h (ask.Activate b st) is = let r = server.activate k h.path b st t.server in answered h (with_server t r.part) r.outs (option_map Reply.Activated r.reply) (kept.activate h b st is) kept.its_naming (own_server r.outs (activate_own k h.path b st t.server)) (plain h Reply.Activated (λ q. tt) r.reply)
+      asked h (ask.Activate b st) is = let r = server.activate k h.path b st t.server in answered h (with_server t r.part) r.outs (option_map Reply.Activated r.reply) (kept.activate h b st is) kept.its_naming kept.its_coord (own_server r.outs (activate_own k h.path b st t.server)) (plain h Reply.Activated (λ q. tt) r.reply)
       asked h (ask.Record x b i g) is = with_it (λ o. served from h (with_naming t) Reply.Noted (naming.note h.path x b i g o)) t.naming refl
-          (λ n at. let r = naming.note h.path x b i g n in answered h (with_naming t r.part) r.outs (option_map Reply.Noted r.reply) kept.its_server (kept.note h x b i g n at) (own_naming r.outs (note_own h.path x b i g n)) (plain h Reply.Noted (λ q. tt) r.reply))
-      asked h (ask.Invoke x b i ends o) is = let r = server.invoke k h x b i ends o t.server in answered h (with_server t r.part) r.outs (option_map Reply.Invoked r.reply) (kept.invoke h x b i ends o is) kept.its_naming (own_server r.outs (invoke_own k h x b i ends o t.server)) (plain h Reply.Invoked (λ q. tt) r.reply)
-      asked h (ask.Vote i ties ends) is = let r = server.vote k h.path i ties ends t.server in answered h (with_server t r.part) r.outs (option_map Reply.Voted r.reply) (kept.vote h i ties ends) kept.its_naming (own_server r.outs (vote_own k h.path i ties ends t.server)) (plain h Reply.Voted (λ q. tt) r.reply)
+          (λ n at. let r = naming.note h.path x b i g n in answered h (with_naming t r.part) r.outs (option_map Reply.Noted r.reply) kept.its_server (kept.note h x b i g n at) kept.its_coord (own_naming r.outs (note_own h.path x b i g n)) (plain h Reply.Noted (λ q. tt) r.reply))
+      asked h (ask.Invoke x b i ends o) is = let r = server.invoke k h x b i ends o t.server in answered h (with_server t r.part) r.outs (option_map Reply.Invoked r.reply) (kept.invoke h x b i ends o is) kept.its_naming kept.its_coord (own_server r.outs (invoke_own k h x b i ends o t.server)) (plain h Reply.Invoked (λ q. tt) r.reply)
+      asked h (ask.Vote i ties ends) is = let r = server.vote k h.path i ties ends t.server in answered h (with_server t r.part) r.outs (option_map Reply.Voted r.reply) (kept.vote h i ties ends) kept.its_naming kept.its_coord (own_server r.outs (vote_own k h.path i ties ends t.server)) (plain h Reply.Voted (λ q. tt) r.reply)
       asked h (ask.Prepare states) is = each (is_prepared (actor h.path) d.store)
         where
           new : (a : Prep) → By (prepare_by k states from h t a)
-          new Ready = ((kept.its_server, kept.its_naming), (tt, (tt, (tt, (response_so from (asked_by h) (Reply.Prepared prepared.Yes) tt, tt)))))
+          new Ready = (((kept.its_server, kept.its_naming), kept.its_coord), (tt, (tt, (tt, (response_so t.coord from (asked_by h) (Reply.Prepared prepared.Yes) tt, tt)))))
           new (Already u) = tt
-          new (Old u v) = ((kept.its_server, kept.its_naming), (tt, (response_so from (asked_by h) (Reply.Prepared (prepared.Old u.num v)) tt, tt)))
-          new (InDoubt u holder) = ((kept.its_server, kept.its_naming), (tt, (response_so from (asked_by h) (Reply.Prepared (prepared.InDoubt u.num holder)) tt, tt)))
+          new (Old u v) = (((kept.its_server, kept.its_naming), kept.its_coord), (tt, (response_so t.coord from (asked_by h) (Reply.Prepared (prepared.Old u.num v)) tt, tt)))
+          new (InDoubt u holder) = (((kept.its_server, kept.its_naming), kept.its_coord), (tt, (response_so t.coord from (asked_by h) (Reply.Prepared (prepared.InDoubt u.num holder)) tt, tt)))
 
           each : (b : Bool) → By (cond b (sends_answer from h t [] (Some (Reply.Prepared prepared.Yes))) (prepare_by k states from h t (prepare_answer (actor h.path) states d.store)))
-          each true = ((kept.its_server, kept.its_naming), (response_so from (asked_by h) (Reply.Prepared prepared.Yes) tt, tt))
+          each true = (((kept.its_server, kept.its_naming), kept.its_coord), (response_so t.coord from (asked_by h) (Reply.Prepared prepared.Yes) tt, tt))
           each false = new (prepare_answer (actor h.path) states d.store)
       asked h (ask.Confirm grants excluded included) is = with_it (λ o. served from h (with_naming t) Reply.Confirmed (confirm h.path grants excluded included d.names o)) t.naming refl
-          (λ n at. let r = confirm h.path grants excluded included d.names n in answered h (with_naming t r.part) r.outs (option_map Reply.Confirmed r.reply) kept.its_server (kept.confirm h grants excluded included n at) (own_naming r.outs (confirm_own h.path grants excluded included d.names n)) (plain h Reply.Confirmed (λ q. tt) r.reply))
+          (λ n at. let r = confirm h.path grants excluded included d.names n in answered h (with_naming t r.part) r.outs (option_map Reply.Confirmed r.reply) kept.its_server (kept.confirm h grants excluded included n at) kept.its_coord (own_naming r.outs (confirm_own h.path grants excluded included d.names n)) (plain h Reply.Confirmed (λ q. tt) r.reply))
 
-      coord_left : (r : Served Coord (Unit {0})) → AnswersSo r.outs → By (coord_heard t r)
+      coord_left : (r : Served Coord (Unit {0})) → C r.part × AllSend r.part r.outs → By (coord_heard t r)
       coord_left r so = by r.reply
         where
           by : (o : Option (Unit {0})) → By (by_reply (with_coord t r.part) r.outs o)
           by None = tt
-          by (Some u) = ((kept.its_server, kept.its_naming), so)
+          by (Some u) = (((kept.its_server, kept.its_naming), so.0), so.1)
 
       ends_left : (ack : Bool) (ends : List (Uid × End)) (o : Option (Uid × End)) → By (handle_ends k d t from ack ends o)
-      ends_left ack ends None = ((kept.its_server, kept.its_naming), tt)
+      ends_left ack ends None = (((kept.its_server, kept.its_naming), kept.its_coord), tt)
       ends_left ack ends (Some e) =
           let s = server.told k ends t.server in
           let o = naming_told e.0 e.1 d.names t.naming in (
-            (kept.told ends, named t.naming refl),
-            so_both (store_told k e.0 e.1 d.store ++ o.outs ++ s.outs) (ack_told from e.0 ack) (so_both (store_told k e.0 e.1 d.store ++ o.outs) s.outs (so_both (store_told k e.0 e.1 d.store) o.outs (stored (is_prepared e.0 d.store) e.1) (said t.naming)) (own_server s.outs (ends_own k ends t.server))) (acked_told ack),
+            ((kept.told ends, named t.naming refl), kept.its_coord),
+            so_both t.coord (store_told k e.0 e.1 d.store ++ o.outs ++ s.outs) (ack_told from e.0 ack) (so_both t.coord (store_told k e.0 e.1 d.store ++ o.outs) s.outs (so_both t.coord (store_told k e.0 e.1 d.store) o.outs (stored (is_prepared e.0 d.store) e.1) (said t.naming)) (own_server s.outs (ends_own k ends t.server))) (acked_told ack),
           )
         where
-          stored : (b : Bool) (how : End) → AnswersSo (cond b (end_states k e.0 how) [])
+          stored : (b : Bool) (how : End) → AllSend t.coord (cond b (end_states k e.0 how) [])
           stored false how = tt
           stored true ending.Commit = (tt, (tt, tt))
           stored true ending.Abort = (tt, (tt, tt))
 
-          said : (o : Option Naming) → AnswersSo (naming_told e.0 e.1 d.names o).outs
+          said : (o : Option Naming) → AllSend t.coord (naming_told e.0 e.1 d.names o).outs
           said None = tt
           said (Some n) = own_naming (naming.told e.0 e.1 d.names n).outs (told_own e.0 e.1 d.names n)
 
@@ -261,20 +298,20 @@ module _ (RB : Head → ℕ → Bool → Binding → BoundReply → Type 0) (RL 
           named None is = subst N is kept.its_naming
           named (Some n) is = kept.ended e.0 e.1 n is
 
-          acked_told : (b : Bool) → AnswersSo (ack_told from e.0 b)
-          acked_told true = ((λ a r is. absurd (cc is)), tt)
+          acked_told : (b : Bool) → AllSend t.coord (ack_told from e.0 b)
+          acked_told true = (((λ a r is. absurd (cc is)), λ h a is. absurd (cc is)), tt)
           acked_told false = tt
 
       hello_left : (node inc : ℕ) (o : Option Naming) → t.naming ≡ o → N (naming_hello node inc o)
       hello_left node inc None is = subst N is kept.its_naming
       hello_left node inc (Some n) is = kept.hello node inc n is
 
-      module _ (hears : (a : Asked) (r : Reply) → AnswersSo (heard from a r d.intents t.coord).outs) (acks : (u : Uid) → AnswersSo (acked from u d.intents t.coord).outs) (tells : (u : Uid) → AnswersSo (answer_query from u d.intents t.coord)) where
+      module _ (hears : (a : Asked) (r : Reply) → answers m ≡ Some (a, r) → let q = heard from a r d.intents t.coord in C q.part × AllSend q.part q.outs) (acks : (u : Uid) → let q = acked from u d.intents t.coord in C q.part × AllSend q.part q.outs) (tells : (u : Uid) → AllSend t.coord (answer_query from u d.intents t.coord)) where
         other : (p : Message) → By (handle_other k d t from p)
         other (message.Told p) = ends_left p.ack p.ends (last_end p.ends)
         other (message.Acked p) = coord_left (acked from p.act d.intents t.coord) (acks p.act)
-        other (message.Query p) = ((kept.its_server, kept.its_naming), tells p.act)
-        other (message.Hello p) = ((kept.its_server, hello_left p.node p.inc t.naming refl), queries_so (filter (is_earlier p.node p.inc) (holders d t)))
+        other (message.Query p) = (((kept.its_server, kept.its_naming), kept.its_coord), tells p.act)
+        other (message.Hello p) = (((kept.its_server, hello_left p.node p.inc t.naming refl), kept.its_coord), queries_so t.coord (filter (is_earlier p.node p.inc) (holders d t)))
         other (message.Bind p) = tt
         other (message.Bound p) = tt
         other (message.Load p) = tt
@@ -295,10 +332,10 @@ module _ (RB : Head → ℕ → Bool → Binding → BoundReply → Type 0) (RL 
         pub message_served : By (handle k d t from m)
         message_served = by (asks m) refl
           where
-            answer : (o : Option (Asked × Reply)) → By (handle_answer k d t from m o)
-            answer None = other m
-            answer (Some a) = coord_left (heard from a.0 a.1 d.intents t.coord) (hears a.0 a.1)
+            answer : (o : Option (Asked × Reply)) → answers m ≡ o → By (handle_answer k d t from m o)
+            answer None is = other m
+            answer (Some a) is = coord_left (heard from a.0 a.1 d.intents t.coord) (hears a.0 a.1 is)
 
             by : (o : Option (Head × Ask)) → asks m ≡ o → By (handle_ask k d t from m o)
-            by None is = answer (answers m)
+            by None is = answer (answers m) refl
             by (Some a) is = asked a.0 a.1 is

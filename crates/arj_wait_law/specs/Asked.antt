@@ -1,9 +1,9 @@
 -- What was asked: requests come from where their actors began, answers go to who asked, and what a server has of bindings and of the
 -- last requests of actions was asked of some server.
-use Rattle.std.specs.Prelude.{⊤, ◌≡◌, ℕ, List, Some}
+use Rattle.std.specs.Prelude.{Bool, List, None, Option, Some, ℕ, ⊤, ◌≡◌}
 use Rattle.std.specs.List.{AllByRecursion}
 use Rattle.arj_base.specs.Uid.{object}
-use Rattle.arj_protocol.specs.Words.{Ask, Asked, Binding, Head, Header, ObjectState, Uid, asks}
+use Rattle.arj_protocol.specs.Words.{Ask, Asked, Binding, Body, Head, Header, ObjectState, Op, Path, Uid, asks}
 use Rattle.arj_protocol.specs.Words.ask
 use Rattle.arj_protocol.specs.Words.loaded
 use Rattle.arj_protocol.specs.Ask.{Reply, actor, answers, asked_by}
@@ -15,6 +15,13 @@ use Rattle.arj_address_law.specs.Binds.{BindsAreKnown}
 use Rattle.arj_run_law.specs.Worlds.{IsGood}
 use Rattle.arj_view_law.specs.Seen.{In, Post, Seen}
 use Rattle.arj_joint_law.specs.Forms.{AreSo, kind_of}
+use Rattle.arj_protocol.specs.Call.{At, AtActivate, AtLoad, AtNote, Goal, Run, Steps}
+use Rattle.arj_protocol.specs.Coord.{Calling, Coord, Doing, doing_of}
+use Rattle.arj_protocol.specs.Words.body
+use Rattle.arj_protocol.specs.Words.bound
+use Rattle.arj_protocol.specs.Named.{Made, Named}
+use Rattle.arj_protocol.specs.Naming.{Naming}
+use Rattle.arj_round_law.specs.Waits.{IsSaid}
 
 -- ---- requests
 
@@ -66,17 +73,65 @@ pub record IsAnsweredBy (sent : List Post) (p : Post) (a : Asked) (h : Head) (as
   pub asking : asks post.message ≡ Some (h, ask)
   pub asker : asked_by h ≡ a
 
--- a state that is sent is of the object for which was asked
-abbrev pub ReplyWasAsked : List Post → Post → Asked → Reply → Type 0
-ReplyWasAsked sent p a (Reply.Loaded (loaded.State st)) = (h : Head) × (x : ℕ) × IsAnsweredBy sent p a h (ask.Load x) × (st.uid ≡ object x)
-ReplyWasAsked sent p a r = ⊤
+-- A state that is sent is of the object for which was asked. A new binding goes to a Bind, and a line said of its object that it was made.
+abbrev pub ReplyWasAsked : List Post → (Body → Type 0) → Post → Asked → Reply → Type 0
+ReplyWasAsked sent said p a (Reply.Loaded (loaded.State st)) = (h : Head) × (x : ℕ) × IsAnsweredBy sent p a h (ask.Load x) × (st.uid ≡ object x)
+ReplyWasAsked sent said p a (Reply.Bound (bound.Make b server g stores)) = (h : Head) × (x : ℕ) × (include : Bool) × (avoid : Binding) × IsAnsweredBy sent p a h (ask.Bind x include avoid) × said (body.Bound x b server)
+ReplyWasAsked sent said p a r = ⊤
+
+-- ---- calls
+
+-- naming answered a Bind of this path for the object with this binding, made in this incarnation of its own, and a line said so
+pub record WasNamed (sent : List Post) (said : Body → Type 0) (p : Path) (x : ℕ) (b : Binding) (g : ℕ) : Type 0 where
+  pub reply : Post
+  pub asked : Asked
+  pub server : ℕ
+  pub stores : List ℕ
+  pub head : Head
+  pub include : Bool
+  pub avoid : Binding
+  pub posted : In reply sent
+  pub answer : answers reply.message ≡ Some (asked, Reply.Bound (bound.Make b server g stores))
+  pub by : IsAnsweredBy sent reply asked head (ask.Bind x include avoid)
+  pub path : head.path ≡ p
+  pub line : said (body.Bound x b server)
+
+-- a step of a call that has no known binding stands on one that naming answered so, and takes a state of the object to a server
+abbrev pub NamedAt : List Post → (Body → Type 0) → Goal → Path → ℕ → At → Type 0
+NamedAt sent said g p x (AtLoad k n rest) = (o : Op) → g ≡ Run o → WasNamed sent said p x k.binding k.grant
+NamedAt sent said g p x (AtActivate k st) = WasNamed sent said p x k.binding k.grant × ((let u = st.uid in u.num) ≡ x)
+NamedAt sent said g p x (AtNote k i) = WasNamed sent said p x k.binding k.grant
+NamedAt sent said g p x at = ⊤
+
+abbrev pub StepNamed : List Post → (Body → Type 0) → Steps → Type 0
+StepNamed sent said s = NamedAt sent said s.goal s.path s.x s.at
+
+abbrev pub StepsNamed : List Post → (Body → Type 0) → Coord → Type 0
+StepsNamed sent said c = (u : Uid) (d : Doing) (s : Steps) → doing_of u c ≡ Some d → d.now ≡ Calling s → StepNamed sent said s
+
+-- so it is of the binding under which a server is asked for a copy
+abbrev pub ActivateNamed : List Post → (Body → Type 0) → Head → Binding → ObjectState → Type 0
+ActivateNamed sent said h b st = (g : ℕ) × WasNamed sent said h.path (let u = st.uid in u.num) b g
+
+-- ---- naming
+
+-- a line said of each binding that naming made
+abbrev pub NamedWasSaid : (Body → Type 0) → ℕ → Named → Type 0
+NamedWasSaid said x o = AllByRecursion (λ (e : Uid × Made). said (body.Bound x (let m = e.1 in m.binding) (let m = e.1 in m.server))) o.made
+
+abbrev pub MadeWasSaid : (Body → Type 0) → Option Naming → Type 0
+MadeWasSaid said None = ⊤
+MadeWasSaid said (Some o) = AllByRecursion (λ (e : ℕ × Named). NamedWasSaid said e.0 e.1) o.objects
 
 -- ---- all nodes
 
--- So it is of each answer that was sent, and of each server that is up.
+-- So it is of each answer that was sent, of each request to activate a copy, and of each node that is up; and lines say which bindings were made.
 pub record WereAsked (M : Seen) : Type 0 where
-  pub replies : (p : Post) (a : Asked) (r : Reply) → In p M.sent → answers p.message ≡ Some (a, r) → ReplyWasAsked M.sent p a r
+  pub replies : (p : Post) (a : Asked) (r : Reply) → In p M.sent → answers p.message ≡ Some (a, r) → ReplyWasAsked M.sent (IsSaid M.lines) p a r
+  pub activates : (p : Post) (h : Head) (b : Binding) (st : ObjectState) → In p M.sent → asks p.message ≡ Some (h, ask.Activate b st) → ActivateNamed M.sent (IsSaid M.lines) h b st
   pub servers : (j : ℕ) (n : Node) (t : Parts) → M.nodes j ≡ Some n → n.live ≡ Some t → ServerWasAsked M.sent t.server
+  pub steps : (j : ℕ) (n : Node) (t : Parts) → M.nodes j ≡ Some n → n.live ≡ Some t → StepsNamed M.sent (IsSaid M.lines) t.coord
+  pub namings : (j : ℕ) (n : Node) (t : Parts) → M.nodes j ≡ Some n → n.live ≡ Some t → MadeWasSaid (IsSaid M.lines) t.naming
 
 -- states are of their objects' classes
 abbrev pub HaveForms : Header → Seen → Type 0

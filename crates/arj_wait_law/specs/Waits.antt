@@ -10,8 +10,7 @@ use Rattle.arj_protocol.specs.Effect.{Already, Disk, held_at, holder_of, prepare
 use Rattle.arj_protocol.specs.Named.{Named, note_named}
 use Rattle.arj_protocol.specs.Naming.{Naming}
 use Rattle.arj_protocol.specs.Node.{Parts}
-use Rattle.arj_protocol.specs.Order.{at_number, binding_less, has}
-use Rattle.arj_protocol.specs.Server.{active_binding}
+use Rattle.arj_protocol.specs.Order.{at_number, has}
 use Rattle.arj_address_law.specs.Addresses.{AreAddressed}
 use Rattle.arj_address_law.specs.Binds.{BindsAreKnown}
 use Rattle.arj_disk_run_law.specs.Entries.{HaveEntries}
@@ -32,7 +31,7 @@ ObjectsAreKnown hd M = ((IsGood M × BindsAreKnown M) × CallsAreOfHeader hd M) 
 
 -- States are of objects and of their classes, requests come from where their actors began, and answers and what servers have was asked for.
 abbrev pub AskersAreKnown : Header → Seen → Type 0
-AskersAreKnown hd M = ((IsGood M × HaveForms hd M) × WereAsked M) × RequestsAreHome M
+AskersAreKnown hd M = ((RequestsAreKnown M × HaveForms hd M) × WereAsked M) × RequestsAreHome M
 
 -- What is known in every run: whoever was told to have ended has ended; requests are of what waits; messages go to nodes of the header;
 -- calls are on its objects; and what states, requests and answers are of.
@@ -53,12 +52,12 @@ HasStored d x = (is_some (holder_of (object x) d.store) || is_some (held_at (obj
 abbrev pub IsNotedBut : Type 0 → Uid → ℕ → Known → ℕ → Parts → Type 0
 IsNotedBut over top x k i t = (o : Naming) (v : Named) → t.naming ≡ Some o → at_number x o.objects ≡ Some v → (k.grant == o.inc) ≡ true → is_some (note_named x top k.binding i v).reply ≡ false → over
 
--- What is still to be given where the request of a waiting step has come: that a store has a state; and that a server or naming refuses
--- only a binding that is overtaken. A bind needs nothing, nor does an invocation.
+-- What is still to be given where the request of a waiting step has come: that a store has a state; and that naming refuses only a binding
+-- that is overtaken. A bind, a request for a copy and an invocation need nothing.
 abbrev pub LeftOfStep : Disk → Parts → Seen → Steps → At → Type 0
 LeftOfStep d t M s (AtBind avoid) = ⊤
 LeftOfStep d t M s (AtLoad k n rest) = HasStored d s.x
-LeftOfStep d t M s (AtActivate k st) = binding_less k.binding (active_binding (let u = st.uid in u.num) t.server) ≡ true → IsOvertaken (IsSaid M.lines) s
+LeftOfStep d t M s (AtActivate k st) = ⊤
 LeftOfStep d t M s (AtNote k i) = IsNotedBut (IsOvertaken (IsSaid M.lines) s) (top_of s.path) s.x k i t
 LeftOfStep d t M s (AtInvoke k i) = ⊤
 
