@@ -33,10 +33,9 @@ use Rattle.arj_disk_run_law.specs.Rest.{KeepsHeard}
 use Rattle.arj_serial_law.specs.Cleaned.{AreDecidedOrLate, HaveForm, IsCleanIn}
 use Rattle.arj_serial_law.specs.Decided.{AreDecisions, AreNewestFirst, DecideChanges, Joined, Wrote, WroteSo}
 use Rattle.arj_lock_fact_law.specs.Entries.{HasObject}
-use Rattle.arj_lock_whole_law.proofs.WholeRuns.{runs_are_locked, runs_are_tied, runs_include_objects}
-use Rattle.arj_lock_whole_law.specs.Runs.{AreRest}
+use Rattle.arj_lock_whole_law.proofs.WholeRuns.{runs_call_objects, runs_include_objects}
 use Rattle.arj_part_law.specs.Actions.{Action}
-use Rattle.arj_serial_law.proofs.Seeing.{locked_tied}
+use Rattle.arj_serial_law.proofs.Seeing.{locked_runs_are_serial, locked_tied}
 use Rattle.arj_serial_law.proofs.Cleaning.{is_clean}
 use Rattle.arj_serial_law.proofs.Including.{are_decided}
 use Rattle.arj_serial_law.proofs.Shown.{files_clean}
@@ -48,10 +47,13 @@ use Rattle.arj_joint_law.specs.Shown.{FilesAre, IncludesAreThere}
 use Rattle.arj_joint_law.specs.Writers.{WritersAreNewestFirst}
 use Rattle.arj_joint_law.proofs.Called.{decided_writers_stand, decision_of, number_is, one_number, those_of, wrote_something}
 use Rattle.arj_joint_law.proofs.FormRuns.{runs_have_form}
-use Rattle.arj_joint_law.specs.Joined.{AreBareSo, AreWritten, IsJoinedSo}
-use Rattle.arj_joint_law.proofs.JoinedRuns.{header_has, runs_are_joined}
+use Rattle.arj_joint_law.specs.Joined.{AreBareSo, AreRestBeside, AreWritten, IsJoinedSo, JoinedRunsAreSerial}
+use Rattle.arj_joint_law.proofs.JoinedRuns.{runs_are_joined}
 use Rattle.arj_joint_law.proofs.OrderedRuns.{runs_are_ordered}
 use Rattle.arj_joint_law.proofs.Showing.{files_show_disks}
+use Rattle.arj_lock_law.specs.State.{State}
+use Rattle.arj_serial_law.specs.Seen.{IsSerialRun}
+use Rattle.arj_serial_law.specs.Tied.{IsTied}
 
 -- those behind the newest ones had their turns too
 turns_behind : (lines : List Line) (late others : List Done) → AreTurnsOf lines (late ++ others) → AreTurnsOf lines others
@@ -301,16 +303,21 @@ runs_are_clean hd es disks test form short heard tied decide files = let held = 
 
 -- ---- with the lock half
 
-pub lock_tied : (hd : Header) (es : List Asked) (test : ℕ → List Action → Seen → Bool) → length es ≤ most_events → AreRest hd test → AreLockTied hd (journal hd es)
-lock_tied hd es test short rest = record {
-  called = runs_are_tied hd test rest es short;
-  listed = λ x there. (let has = header_has hd x there in let h = runs_are_locked hd x has (test x) (rest x has) es short in let z = h.holds in locked_tied x (see h.sent (run_all es (format hd))) z.0 z.1 z.2 z.3 (first_values hd));
-}
-
 -- with both machines at once
-pub joined_at : (hd : Header) (es : List Asked) (heard_so : ℕ → Seen → Bool) (test : ℕ → List Action → Seen → Bool) → HeaderInForm hd → length es ≤ most_events → ((x : ℕ) → is_some (object_line hd x) ≡ true → KeepsHeard hd x (heard_so x)) → AreRest hd test
+pub joined_at : (hd : Header) (es : List Asked) (heard_so : ℕ → Seen → Bool) (test : ℕ → List Action → Seen → Bool) → HeaderInForm hd → length es ≤ most_events → ((x : ℕ) → is_some (object_line hd x) ≡ true → KeepsHeard hd x (heard_so x)) → AreRestBeside hd heard_so test
     → (x : ℕ) → is_some (object_line hd x) ≡ true → Holds hd (IsJoinedSo hd x) (run_all es (format hd))
-joined_at hd es heard_so test form short heard rest x there = runs_are_joined hd x (heard_so x) (test x) form there (heard x there) (rest x (header_has hd x there)) es short
+joined_at hd es heard_so test form short heard rest x there = runs_are_joined hd x (heard_so x) (test x) form there (heard x there) (rest x there) es short
+
+-- the journal is tied to the lock machines
+module _ (hd : Header) (es : List Asked) (joined : (x : ℕ) → is_some (object_line hd x) ≡ true → Holds hd (IsJoinedSo hd x) (run_all es (format hd))) where
+  tied_at : (x : ℕ) → is_some (object_line hd x) ≡ true → (S : State) × IsTied (first_values hd) (journal hd es) x S
+  tied_at x there = let h = joined x there in let j = h.holds in locked_tied x (see h.sent (run_all es (format hd))) j.begun j.alike (λ f a. let z = j.seen f a in (z.0, z.1, z.2)) j.requests (first_values hd)
+
+  pub lock_tied : AreLockTied hd (journal hd es)
+  lock_tied = record { called = λ x called. tied_at x (object_some hd x (runs_call_objects hd es x called)); listed = tied_at }
+
+  pub serial : IsSerialRun hd es
+  serial = locked_runs_are_serial hd es (λ x called. let h = joined x (object_some hd x (runs_call_objects hd es x called)) in let j = h.holds in record { sent = h.sent; stands = h.stands; holds = (j.begun, j.alike, (λ f a. let z = j.seen f a in (z.0, z.1, z.2)), j.requests) })
 
 abbrev pub held_in : (hd : Header) (es : List Asked) → ((x : ℕ) → is_some (object_line hd x) ≡ true → Holds hd (IsJoinedSo hd x) (run_all es (format hd))) → Held hd es
 held_in hd es joined x there = let h = joined x there in record { sent = h.sent; stands = h.stands; holds = (let j = h.holds in j.ordered) }
@@ -324,4 +331,7 @@ decides_in hd es joined decide x there =
 pub whole_runs_are_clean : WholeRunsAreClean
 whole_runs_are_clean hd es disks heard_so test form short heard rest decide files =
     let joined = joined_at hd es heard_so test form short heard rest in
-    are_clean hd es disks form (lock_tied hd es test short rest) (held_in hd es joined) (decides_in hd es joined decide) files
+    are_clean hd es disks form (lock_tied hd es joined) (held_in hd es joined) (decides_in hd es joined decide) files
+
+pub joined_runs_are_serial : JoinedRunsAreSerial
+joined_runs_are_serial hd es heard_so test form short heard rest = serial hd es (joined_at hd es heard_so test form short heard rest)

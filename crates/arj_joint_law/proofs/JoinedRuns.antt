@@ -1,6 +1,6 @@
 -- Both machines of each object at once, in every run.
 use Rattle.std.proofs.Common.{◌≡◌, ◌==◌, ℕ, true, List, is_some, subst, refl, Option, Some, None, eqb-true}
-use Rattle.arj_joint_law.specs.Joined.{IsJoinedSo, RunsAreJoined, world_of}
+use Rattle.arj_joint_law.specs.Joined.{IsBeside, IsJoinedSo, RunsAreJoined, world_of}
 use Rattle.arj_joint_law.proofs.Joining.{HasLocks, WithLocks, locks_part}
 use Rattle.arj_joint_law.proofs.OrderedRuns.{IsOrderedBeside, ordered_beside}
 use Rattle.arj_disk_run_law.proofs.BothEach.{counted_with, heard_part}
@@ -8,7 +8,7 @@ use Rattle.arj_disk_run_law.specs.Part.{KeepsPart}
 use Rattle.arj_disk_run_law.specs.Rest.{IsCountedWith, IsKnownWith, SeesCarried}
 use Rattle.arj_call_law.specs.Runs.{KnowsFew}
 use Rattle.arj_lock_whole_law.specs.Whole.{KnowsWhole}
-use Rattle.arj_lock_whole_law.proofs.WholeRuns.{kept_of_all}
+use Rattle.arj_lock_whole_law.proofs.WholeRuns.{kept_beside}
 use Rattle.arj_lock_whole_law.proofs.Gives.{gives_locks}
 use Rattle.arj_call_law.proofs.WorldRuns.{votes_in}
 use Rattle.arj_joint_law.proofs.Firsts.{line_there}
@@ -56,7 +56,7 @@ runs_are_joined hd x heard test form there kept rest es short =
     Joined tops A M = WithLocks x R (SeesCarried x) tops A M
 
     part : KeepsPart hd x (IsKnownWith heard) Joined
-    part = locks_part hd x (IsKnownWith heard) KnowsFew R (SeesCarried x) (λ M r. let s = r.1 in s.0) (kept_of_all hd x has E rest) (λ f. gives_locks hd x has E f (rest.gives f)) (λ M few. votes_in M few.1.1) (λ M few. few.1.1) (heard_part hd x heard (line_there hd x form there).0 kept) (λ tops A M p. p.0)
+    part = locks_part hd x (IsKnownWith heard) KnowsFew R (SeesCarried x) (λ M r. let s = r.1 in s.0) (kept_beside hd x has E rest.kept) (λ f. gives_locks hd x has E f (λ begun S M. IsBeside x heard f begun S M) (rest.gives f)) (λ M few. votes_in M few.1.1) (λ M few. few.1.1) (heard_part hd x heard (line_there hd x form there).0 kept) (λ tops A M p. p.0)
 
     joined : (sent : List Post) → IsOrderedBeside Joined hd x (see sent (run_all es (format hd))) → IsJoinedSo hd x (see sent (run_all es (format hd)))
     joined sent (o, tops, A, same, p, few) = record {

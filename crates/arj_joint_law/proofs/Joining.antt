@@ -54,7 +54,7 @@ use Rattle.arj_lock_run_law.specs.Sees.{SeesLocks, SeesUp}
 use Rattle.arj_lock_run_law.specs.Tied.{AreTied}
 use Rattle.arj_lock_run_law.specs.Votes.{AreVotedAt}
 use Rattle.arj_lock_run_law.proofs.KeptSteps.{LocksFrom, LocksSo, agree_older, first_kept, kept_act, kept_begin, kept_message, kept_restart, kept_tick, quiet_kept, stop_kept}
-use Rattle.arj_joint_law.specs.Joined.{ArePlannedSo, ChangesCalled, IsPlannedSo, IsRecordedAt}
+use Rattle.arj_joint_law.specs.Joined.{ArePlannedSo, ChangesCalled, IsPaired, IsPlannedSo, IsRecordedAt}
 use Rattle.arj_joint_law.proofs.Counting.{at_commit, changed_counted}
 use Rattle.arj_joint_law.proofs.Ending.{Ends, ends_along, ends_by, ends_of, message_ends, record_of}
 use Rattle.arj_joint_law.proofs.Recording.{AreOfTheirs, AreRecordedBy, IsConfirming, acts_put, here_then, message_puts, others_then, plainly, recorded_at, records_walk, tick_puts}
@@ -168,7 +168,7 @@ module _ (f : Fixed) (x : ℕ) (C : Uid → Type 0) (g : ℕ → Bool) (W : Worl
 
 -- ---- each handler
 
-module _ (hd : Header) (x : ℕ) (K G : Seen → Type 0) (R : List Action → Seen → Type 0) (P : Kinds → Office → Seen → Type 0) (to : (M : Seen) → K M → G M) (keeps : KeepsOf hd (λ begun M. G M) R) (gives : (f : Fixed) → GivesLocks hd f x (λ begun M. G M × R begun M)) (used : (M : Seen) → G M → AllVotesAreUsed M) (runs : (M : Seen) → G M → KnowsRun M)
+module _ (hd : Header) (x : ℕ) (K G : Seen → Type 0) (R : List Action → Seen → Type 0) (P : Kinds → Office → Seen → Type 0) (to : (M : Seen) → K M → G M) (keeps : KeepsOf hd (λ begun M. G M) R) (gives : (f : Fixed) → GivesLocks hd f x (λ begun S M. (G M × R begun M) × (K M × IsPaired x P f begun S M))) (used : (M : Seen) → G M → AllVotesAreUsed M) (runs : (M : Seen) → G M → KnowsRun M)
     (parts : KeepsPart hd x K P) (heard : (tops : Kinds) (A : Office) (M : Seen) → P tops A M → SeesHeard x tops A M) where
   abbrev Q : Kinds → Office → Seen → Type 0
   Q tops A M = WithLocks x R P tops A M
@@ -176,6 +176,13 @@ module _ (hd : Header) (x : ℕ) (K G : Seen → Type 0) (R : List Action → Se
   -- as the lock half has it
   abbrev locks_of : (W : World) (M : Seen) → HasLocks x R W M → LocksSo ⊤ x R M
   locks_of W M j = (j.0, j.1, j.2, (λ f a. let g = j.3 f a in (g.0, g.1, g.2, (λ u. g.3))), j.4)
+
+  abbrev Y : Fixed → List Action → State → Seen → Type 0
+  Y f begun S M = K M × IsPaired x P f begun S M
+
+  -- what is known of each state of the lock machine here
+  paired : (tops : Kinds) (M : Seen) (A : Office) → tops.walk ≡ None → K M → SeesBoth x tops A M → P tops A M → (j : HasLocks x R A.world M) → (f : Fixed) (a : Agrees f x j.0 M.sent) → Y f j.0 (let g = j.3 f a in g.0) M
+  paired tops M A walk r both part j f a = let g = j.3 f a in (r, (tops, walk, A, both, part, g.3, g.4))
 
   abbrev votes_used : (M : Seen) → G M → ⊤ → AllVotesAreUsed M
   votes_used M g u = used M g
@@ -238,12 +245,12 @@ module _ (hd : Header) (x : ℕ) (K G : Seen → Type 0) (R : List Action → Se
     quiet = λ tops e bs M A walk quiet r both (part, j) B changed seen. (
       parts.quiet tops e bs M A walk quiet r both part B changed seen,
       locks_next tops (Changes Quietly A) none nobody A.world M j.0 M.sent (λ f a. let g = j.3 f a in g.0) (λ Z c. moves_by Quietly A Z (let z = both.disks in z.whole) c) (no_one none M) (known_before none A.world M j (λ f a u never. absurd never)) (said e bs M)
-          (quiet_kept hd x G R keeps gives ⊤ votes_used e bs M quiet (to M r) (locks_of A.world M j)) (λ u c. inl (record { place = c.place; node = c.node; intent = c.intent; here = c.here; there = c.there })) (quiet_step e bs M) B changed seen,
+          (quiet_kept hd x G R Y keeps gives ⊤ votes_used e bs M quiet (to M r) (locks_of A.world M j)) (λ u c. inl (record { place = c.place; node = c.node; intent = c.intent; here = c.here; there = c.there })) (quiet_step e bs M) B changed seen,
     );
     stop = λ tops e k d live M A walk r both (part, j) B changed seen. (
       parts.stop tops e k d live M A walk r both part B changed seen,
       locks_next tops (Changes Quietly A) none nobody A.world (at k d live M) j.0 M.sent (λ f a. let g = j.3 f a in g.0) (λ Z c. moves_by Quietly A Z (let z = both.disks in z.whole) c) (no_one none (at k d live M)) (known_before none A.world (at k d live M) j (λ f a u never. absurd never)) (halted e k d M)
-          (stop_kept hd x G R keeps gives ⊤ votes_used e k d live M (to (at k d live M) r) (locks_of A.world (at k d live M) j)) (recorded_at none (at k d live M) k d None M (halted e k d M) (λ i. refl) (others_then none k d live M) (here_then none k d live M)) (step_halted k d live M e d M (near_same M) (λ down. refl)) B changed seen,
+          (stop_kept hd x G R Y keeps gives ⊤ votes_used e k d live M (to (at k d live M) r) (locks_of A.world (at k d live M) j) (paired tops (at k d live M) A walk r both part j)) (recorded_at none (at k d live M) k d None M (halted e k d M) (λ i. refl) (others_then none k d live M) (here_then none k d live M)) (step_halted k d live M e d M (near_same M) (λ down. refl)) B changed seen,
     );
     message = λ tops e k d t v from m outs M A walk n r sent meant is of own both (part, j).
         let p = parts.message tops e k d t v from m outs M A walk n r sent meant is of own both part in
@@ -255,7 +262,7 @@ module _ (hd : Header) (x : ℕ) (K G : Seen → Type 0) (R : List Action → Se
             only = h.only;
             both = h.both;
             along = along tops (Changes o h.office) C (ends_of o) A.world (up k d t M) j.0 M.sent (λ f a. let g = j.3 f a in g.0) (moves_from o A h.office h.only (let z = both.disks in z.whole)) (λ u is. inr (message_ends x d t u m is)) (known_before C A.world (up k d t M) j (waits_here tops k d t M A n both part (runs (up k d t M) (to (up k d t M) r)) j)) e k outs v d M h.along
-                (kept_message hd x G R keeps gives ⊤ votes_used e k d t v from m outs M (to (up k d t M) r) (locks_of A.world (up k d t M) j) sent meant is)
+                (kept_message hd x G R Y keeps gives ⊤ votes_used e k d t v from m outs M (to (up k d t M) r) (locks_of A.world (up k d t M) j) (paired tops (up k d t M) A walk r both part j) sent meant is)
                 (records_walk C (up k d t M) k e v outs d M (others_then C k d (Some t) M) (message_puts k d t (theirs tops k d t M n) from m v outs is) (here_then C k d (Some t) M)) (step_walk k d (Some t) M e v outs d M (near_same M) (was_up t) (was_up t));
           },
           p.1,
@@ -271,7 +278,7 @@ module _ (hd : Header) (x : ℕ) (K G : Seen → Type 0) (R : List Action → Se
             only = h.only;
             both = h.both;
             along = along tops (Changes Quietly h.office) C nobody A.world (up k d t M) j.0 M.sent (λ f a. let g = j.3 f a in g.0) (moves_from Quietly A h.office h.only (let z = both.disks in z.whole)) (no_one C (up k d t M)) (known_before C A.world (up k d t M) j (waits_here tops k d t M A n both part (runs (up k d t M) (to (up k d t M) r)) j)) e k did.outs (with_coord t did.part) d M h.along
-                (kept_act hd x G R keeps gives ⊤ votes_used e k d t i M is free (to (up k d t M) r) (locks_of A.world (up k d t M) j))
+                (kept_act hd x G R Y keeps gives ⊤ votes_used e k d t i M is free (to (up k d t M) r) (locks_of A.world (up k d t M) j) (paired tops (up k d t M) A walk r both part j))
                 (records_walk C (up k d t M) k e (with_coord t did.part) did.outs d M (others_then C k d (Some t) M) (acts_put t.coord (theirs tops k d t M n) d.intents i) (here_then C k d (Some t) M)) (step_walk k d (Some t) M e (with_coord t did.part) did.outs d M (near_same M) (was_up t) (was_up t));
           },
           p.1,
@@ -283,14 +290,14 @@ module _ (hd : Header) (x : ℕ) (K G : Seen → Type 0) (R : List Action → Se
         let older : (f : Fixed) → Agrees f x (a ∷ j.0) M.sent → Agrees f x j.0 M.sent = λ f w. agree_older f x a j.0 M.sent w in
         along tops (Changes Quietly A) none nobody A.world (up k d t M) (a ∷ j.0) M.sent (λ f w. let g = j.3 f (older f w) in g.0) (λ B c. moves_by Quietly A B (let z = both.disks in z.whole) c) (no_one none (up k d t M)) (λ f w. known_before none A.world (up k d t M) j (λ f b u never. absurd never) f (older f w)) e k did.outs (with_coord t did.part) d N
         (parts.begin tops e k d t l how parent M A walk n r new may free kind both part)
-        (kept_begin hd x G R keeps gives ⊤ votes_used e k d t l how parent M new may free (to (up k d t M) r) (locks_of A.world (up k d t M) j))
+        (kept_begin hd x G R Y keeps gives ⊤ votes_used e k d t l how parent M new may free (to (up k d t M) r) (locks_of A.world (up k d t M) j) (paired tops (up k d t M) A walk r both part j))
         (records_walk none (up k d t M) k e (with_coord t did.part) did.outs d N (others_then none k d (Some t) M) (tt, tt) (here_then none k d (Some t) M)) (step_walk k d (Some t) M e (with_coord t did.part) did.outs d N (given_near l how k M) (was_up t) (was_up t));
     tick = λ tops e k d t M A walk n r both (part, j).
         let outs = tick_outs (record { number = k; disk = d; live = Some t }) t in
         let v = with_coord t (let z = again_all t.coord.doings t.coord in z.part) in
         let C : Uid → Type 0 = λ u. IsConfirming t.coord u in
         along tops (Changes Quietly A) C nobody A.world (up k d t M) j.0 M.sent (λ f a. let g = j.3 f a in g.0) (λ B c. moves_by Quietly A B (let z = both.disks in z.whole) c) (no_one C (up k d t M)) (known_before C A.world (up k d t M) j (waits_here tops k d t M A n both part (runs (up k d t M) (to (up k d t M) r)) j)) e k outs v d M
-        (parts.tick tops e k d t M A walk n r both part) (kept_tick hd x G R keeps gives ⊤ votes_used e k d t M (to (up k d t M) r) (locks_of A.world (up k d t M) j))
+        (parts.tick tops e k d t M A walk n r both part) (kept_tick hd x G R Y keeps gives ⊤ votes_used e k d t M (to (up k d t M) r) (locks_of A.world (up k d t M) j) (paired tops (up k d t M) A walk r both part j))
         (records_walk C (up k d t M) k e v outs d M (others_then C k d (Some t) M) (tick_puts k d t (theirs tops k d t M n)) (here_then C k d (Some t) M)) (step_walk k d (Some t) M e v outs d M (near_same M) (was_up t) (was_up t));
     restart = λ tops e k d M A walk r both (part, j).
         let outs = restart_outs hd k (d.inc + 1) d in
@@ -298,11 +305,11 @@ module _ (hd : Header) (x : ℕ) (K G : Seen → Type 0) (R : List Action → Se
         along tops (OnlyFound (are_recorded d.intents) A) none (are_recorded d.intents) A.world (down k d M) j.0 M.sent (λ f a. let g = j.3 f a in g.0)
         (λ B c. (goes_along (are_recorded d.intents) A.world B.world (let z = both.disks in z.whole) c.along, ends_along (are_recorded d.intents) A.world B.world (let z = both.disks in z.whole) c.along))
         (λ u is. let r = record_of u d.intents is in inl (record { place = k; node = record { number = k; disk = d; live = None }; intent = r.0; here = node_here M k (record { number = k; disk = d; live = None }); there = r.1 })) (known_before none A.world (down k d M) j (λ f a u never. absurd never)) e k outs v d M
-        (parts.restart tops e k d M A walk r both part) (kept_restart hd x G R keeps gives ⊤ votes_used e k d M (to (down k d M) r) (locks_of A.world (down k d M) j))
+        (parts.restart tops e k d M A walk r both part) (kept_restart hd x G R Y keeps gives ⊤ votes_used e k d M (to (down k d M) r) (locks_of A.world (down k d M) j) (paired tops (down k d M) A walk r both part j))
         (records_walk none (down k d M) k e v outs d M (others_then none k d None M) (plainly none outs (restart_plain [] hd k d)) (here_then none k d None M)) (step_walk k d None M e v outs d M (near_same M) (λ down. restart_plain [] hd k d) (λ down. refl));
     first = λ tops walk kinds.
         let f = parts.first tops walk kinds in
-        let z = first_kept hd x G R keeps gives ⊤ votes_used in
+        let z = first_kept hd x G R Y keeps gives ⊤ votes_used in
         (f.0, f.1, (f.2, (z.0, z.1, z.2, (λ w agrees. let g = z.3 w agrees in (g.0, g.1, g.2, g.3 tt, nothing_yet w g.0 f.0 f.3 f.4)), z.4)), f.3, f.4);
   }
     where

@@ -42,4 +42,4 @@ runs_exclude hd es test form short heard tied decide all = let held = ordered_he
 pub whole_runs_exclude : WholeRunsExcludeInTime
 whole_runs_exclude hd es heard_so test form short heard rest decide all =
     let joined = joined_at hd es heard_so test form short heard rest in
-    in_time hd es form (lock_tied hd es test short rest) (held_in hd es joined) (decides_in hd es joined decide) all
+    in_time hd es form (lock_tied hd es joined) (held_in hd es joined) (decides_in hd es joined decide) all

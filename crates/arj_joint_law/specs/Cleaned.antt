@@ -18,11 +18,10 @@ use Rattle.arj_view_law.specs.Seen.{Seen, see}
 use Rattle.arj_binding_law.specs.Scripts.{most_events}
 use Rattle.arj_disk_run_law.specs.Rest.{KeepsHeard}
 use Rattle.arj_lock_law.specs.State as lock
-use Rattle.arj_lock_whole_law.specs.Runs.{AreRest}
 use Rattle.arj_part_law.specs.Actions.{Action}
 use Rattle.arj_serial_law.specs.Decided.{Joined, Wrote}
 use Rattle.arj_serial_law.specs.Tied.{AreTied, IsTied}
-use Rattle.arj_joint_law.specs.Joined.{AreBareSo, AreWritten}
+use Rattle.arj_joint_law.specs.Joined.{AreBareSo, AreRestBeside, AreWritten}
 use Rattle.arj_joint_law.specs.Ordered.{IsOrderedSo}
 use Rattle.arj_joint_law.specs.Shown.{FilesAre}
 
@@ -104,7 +103,7 @@ RunsAreClean = (hd : Header) (es : List Asked) (disks : Disks) (heard : ℕ → 
 abbrev pub WholeRunsAreClean : Type 0
 WholeRunsAreClean = (hd : Header) (es : List Asked) (disks : Disks) (heard : ℕ → Seen → Bool) (test : ℕ → List Action → Seen → Bool) → HeaderInForm hd → length es ≤ most_events
     → ((x : ℕ) → is_some (object_line hd x) ≡ true → KeepsHeard hd x (heard x))
-    → AreRest hd test
+    → AreRestBeside hd heard test
     → ((x : ℕ) → is_some (object_line hd x) ≡ true → DecideSo hd x es)
     → FilesAre (see [] (run_all es (format hd))) disks
     → Clean hd (journal hd es) disks

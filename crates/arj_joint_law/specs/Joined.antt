@@ -15,6 +15,9 @@ use Rattle.arj_protocol.specs.Step.{Node}
 use Rattle.arj_protocol.specs.World.{Asked, format, run_all}
 use Rattle.arj_part_law.specs.Actions.{Action}
 use Rattle.arj_disk_law.specs.Effects.{World}
+use Rattle.arj_disk_law.specs.Names.{Office}
+use Rattle.arj_disk_view_law.specs.Sees.{Kinds}
+use Rattle.arj_names_view_law.specs.Both.{SeesBoth}
 use Rattle.arj_disk_law.specs.State.{Done, State, decided}
 use Rattle.arj_disk_law.specs.Words as disk
 use Rattle.arj_disk_view_law.specs.Plans.{plan_at, used_at}
@@ -33,9 +36,9 @@ use Rattle.arj_lock_run_law.specs.Tied.{AreTied}
 use Rattle.arj_lock_run_law.specs.Votes.{AreVotedAt}
 use Rattle.arj_joint_law.specs.Ordered.{IsOrderedSo}
 use Rattle.arj_serial_law.specs.Decided.{Wrote, WroteSo}
-use Rattle.arj_serial_law.specs.Seen.{RequestsAreOne}
-use Rattle.arj_disk_run_law.specs.Rest.{KeepsHeard}
-use Rattle.arj_lock_whole_law.specs.Runs.{IsRest}
+use Rattle.arj_serial_law.specs.Seen.{IsSerialRun, RequestsAreOne}
+use Rattle.arj_disk_run_law.specs.Rest.{IsKnownWith, KeepsHeard, SeesCarried}
+use Rattle.arj_lock_whole_law.specs.Runs.{IsRestBeside}
 use Rattle.arj_binding_law.specs.Scripts.{most_events}
 
 -- ---- one top
@@ -77,6 +80,17 @@ pub record ArePlannedSo (f : Fixed) (x : ℕ) (S : lock.State) (W : World) (M : 
   pub records : (u : Uid) → IsRecordedAt M u → IsPlannedSo f x S W u
   pub bares : (u : Uid) → W.disk.bare (uid_number u) ≡ true → IsPlannedSo f x S W u × ((let p = W.disk.plan (uid_number u) in p.writes) ≡ None)
 
+-- ---- states beside each other
+
+-- The state of the lock machine in which the object is seen stands beside one of its disk machine, of which this holds: commits under way have the
+-- votes that came, and who is decided had planned so.
+abbrev pub IsPaired : ℕ → (Kinds → Office → Seen → Type 0) → Fixed → List Action → lock.State → Seen → Type 0
+IsPaired x P f begun S M = (tops : Kinds) × (tops.walk ≡ None) × (A : Office) × SeesBoth x tops A M × P tops A M × AreVotedAt f x S M × ArePlannedSo f x S A.world M
+
+-- so much may be counted on of a state of the lock machine
+abbrev pub IsBeside : ℕ → (Seen → Bool) → Fixed → List Action → lock.State → Seen → Type 0
+IsBeside x heard f begun S M = IsKnownWith heard M × IsPaired x (SeesCarried x) f begun S M
+
 -- ---- the run
 
 -- the world of the disk machine
@@ -103,7 +117,19 @@ pub record IsJoinedSo (hd : Header) (x : ℕ) (M : Seen) : Type 0 where
   pub wrote : AreWritten (first_values hd) M.lines x (let W = world_of ordered in W.disk.tops)
   pub bare : AreBareSo M.lines x (let W = world_of ordered in W.disk)
 
--- So it is in the run of every script, of each object of the header, with what is still taken of both halves.
+-- So it is in the run of every script, of each object of the header, with what is still taken of both halves: of the lock half only of states that
+-- stand beside one of the disk half.
 abbrev pub RunsAreJoined : Type 0
-RunsAreJoined = (hd : Header) (x : ℕ) (heard : Seen → Bool) (test : List Action → Seen → Bool) → HeaderInForm hd → is_some (object_line hd x) ≡ true → KeepsHeard hd x heard → IsRest hd x (λ begun M. test begun M ≡ true)
+RunsAreJoined = (hd : Header) (x : ℕ) (heard : Seen → Bool) (test : List Action → Seen → Bool) → HeaderInForm hd → is_some (object_line hd x) ≡ true → KeepsHeard hd x heard → IsRestBeside hd x (λ begun M. test begun M ≡ true) (IsBeside x heard)
     → (es : List Asked) → length es ≤ most_events → Holds hd (IsJoinedSo hd x) (run_all es (format hd))
+
+-- where for each object of the header what is still taken of the lock half is given of such states
+abbrev pub AreRestBeside : Header → (ℕ → Seen → Bool) → (ℕ → List Action → Seen → Bool) → Type 0
+AreRestBeside hd heard test = (x : ℕ) → is_some (object_line hd x) ≡ true → IsRestBeside hd x (λ begun M. test x begun M ≡ true) (IsBeside x (heard x))
+
+-- So the run of every script is serial.
+abbrev pub JoinedRunsAreSerial : Type 0
+JoinedRunsAreSerial = (hd : Header) (es : List Asked) (heard : ℕ → Seen → Bool) (test : ℕ → List Action → Seen → Bool) → HeaderInForm hd → length es ≤ most_events
+    → ((x : ℕ) → is_some (object_line hd x) ≡ true → KeepsHeard hd x (heard x))
+    → AreRestBeside hd heard test
+    → IsSerialRun hd es

@@ -1,7 +1,7 @@
 // What an object's machine begins with and how it decides, in whole runs, and that files are clean after them.
 ghost use Rattle.arj_joint_law.specs.Begun.{ObjectsAreThere, RunsBeginSo, RunsBeginSoBeside};
 ghost use Rattle.arj_joint_law.specs.Cleaned.{RunsAreClean, WholeRunsAreClean};
-ghost use Rattle.arj_joint_law.specs.Joined.{RunsAreJoined};
+ghost use Rattle.arj_joint_law.specs.Joined.{JoinedRunsAreSerial, RunsAreJoined};
 ghost use Rattle.arj_joint_law.specs.Marked.{RunsSayMarks};
 ghost use Rattle.arj_joint_law.specs.Ordered.{RunsAreOrdered, RunsAreOrderedBeside};
 ghost use Rattle.arj_joint_law.specs.Shown.{FilesShowDisks, IncludesAreListed};
@@ -43,10 +43,12 @@ pub fn runs_are_clean()
 /// machines at once: of the disk machine, as `decisions_come_behind_calls` has it; and of the lock machine, to which the journal is tied, in
 /// which commits under way have the votes that came. Each top that is decided, or has a record, has in the disk machine the plan with which it
 /// waited for naming in an earlier state of the lock machine: what it changes the object to is what the server voted that was called. So each
-/// decided top of the journal gave to the stores what it wrote, and one whose commit ended without a record wrote nothing. What both halves
-/// still take is taken. It does nothing when it runs.
+/// decided top of the journal gave to the stores what it wrote, and one whose commit ended without a record wrote nothing. So the run
+/// is serial. What both halves still take is taken, of the lock half of states that stand beside one of the disk half (`IsBeside`). It does
+/// nothing when it runs.
 pub fn runs_have_both_machines()
-    ensures { RunsAreJoined }
+    ensures joined { RunsAreJoined }
+    ensures serial { JoinedRunsAreSerial }
 {}
 
 /// In the run of every script each commit under way at a node that is up has said what it excludes: while its votes are collected, and while

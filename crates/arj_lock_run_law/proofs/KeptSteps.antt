@@ -219,7 +219,7 @@ not_begin i act l k parent same = let bad : true ≡ false = sym act ∙ ap is_a
 
 -- ---- each handler
 
-module _ (hd : Header) (x : ℕ) (G : Seen → Type 0) (R : List Action → Seen → Type 0) (keeps : KeepsOf hd (λ begun M. G M) R) (gives : (f : Fixed) → GivesLocks hd f x (λ begun M. G M × R begun M))
+module _ (hd : Header) (x : ℕ) (G : Seen → Type 0) (R : List Action → Seen → Type 0) (Y : Fixed → List Action → State → Seen → Type 0) (keeps : KeepsOf hd (λ begun M. G M) R) (gives : (f : Fixed) → GivesLocks hd f x (λ begun S M. (G M × R begun M) × Y f begun S M))
     (V : Type 0) (used : (M : Seen) → G M → V → AllVotesAreUsed M) where
   abbrev Kept : Seen → Type 0
   Kept N = LocksSo V x R N
@@ -227,6 +227,10 @@ module _ (hd : Header) (x : ℕ) (G : Seen → Type 0) (R : List Action → Seen
   -- what is seen from this state of each machine on
   abbrev pub From : (M : Seen) → Kept M → Seen → Type 0
   From M z N = LocksFrom V x R z.0 M.sent (λ f a. let g = z.3 f a in g.0) N
+
+  -- in each state in which it is seen more is known
+  abbrev pub Knows : (M : Seen) → Kept M → Type 0
+  Knows M z = (f : Fixed) (a : Agrees f x z.0 M.sent) → Y f z.0 (let g = z.3 f a in g.0) M
 
   -- what is seen, where what is fixed agrees
   seen_in : (f : Fixed) (M : Seen) (z : Kept M) (agrees : Agrees f x z.0 M.sent) → IsSeenIn (case_of f x z.0 (let g = z.3 f agrees in g.0)) M
@@ -241,21 +245,21 @@ module _ (hd : Header) (x : ℕ) (G : Seen → Type 0) (R : List Action → Seen
       let r = quiet_pathed hd z.0 e bs M quiet (pathed_in M z) in
       (r.1, keeps.quiet z.0 e bs M quiet more z.1.0 z.2, (λ f agrees. (let g = z.3 f agrees in (g.0, lines_stay (case_of f x z.0 g.0) e bs M g.1, quiets_stay (case_of f x z.0 g.0) e bs M quiet (seen_in f M z agrees), g.3, (agrees, stay)))), r.0.1)
 
-  pub stop_kept : (e k : ℕ) (d : Disk) (live : Option Parts) (M : Seen) → G (at k d live M) → (z : Kept (at k d live M)) → From (at k d live M) z (halted e k d M)
-  stop_kept e k d live M more z = let r = stop_pathed hd z.0 e k d live M (pathed_in (at k d live M) z) in (r.1, keeps.stop z.0 e k d live M more z.1.0 z.2, (λ f. by f live more z), r.0.1)
+  pub stop_kept : (e k : ℕ) (d : Disk) (live : Option Parts) (M : Seen) → G (at k d live M) → (z : Kept (at k d live M)) → Knows (at k d live M) z → From (at k d live M) z (halted e k d M)
+  stop_kept e k d live M more z more_known = let r = stop_pathed hd z.0 e k d live M (pathed_in (at k d live M) z) in (r.1, keeps.stop z.0 e k d live M more z.1.0 z.2, (λ f. by f live more z more_known), r.0.1)
     where
-      by : (f : Fixed) (live : Option Parts) → G (at k d live M) → (z : Kept (at k d live M)) → Agrees f x z.0 M.sent → (S : State) × SeesLocks f x z.0 S (halted e k d M) × AreTied f x (let N = halted e k d M in N.lines) S × (V → AreVotedAt f x S (halted e k d M)) × ((a : Agrees f x z.0 M.sent) × Run (let g = z.3 f a in g.0) S)
-      by f None more z agrees = (let g = z.3 f agrees in let h = down_stays (case_of f x z.0 g.0) e k d M (seen_in f (down k d M) z agrees) agrees in (h.0, h.1, h.2, (λ u. halted_votes f x e k d None M g.0 h.0 h.3 (g.3 u)), (agrees, h.3)))
-      by f (Some t) more z agrees =
+      by : (f : Fixed) (live : Option Parts) → G (at k d live M) → (z : Kept (at k d live M)) → Knows (at k d live M) z → Agrees f x z.0 M.sent → (S : State) × SeesLocks f x z.0 S (halted e k d M) × AreTied f x (let N = halted e k d M in N.lines) S × (V → AreVotedAt f x S (halted e k d M)) × ((a : Agrees f x z.0 M.sent) × Run (let g = z.3 f a in g.0) S)
+      by f None more z more_known agrees = (let g = z.3 f agrees in let h = down_stays (case_of f x z.0 g.0) e k d M (seen_in f (down k d M) z agrees) agrees in (h.0, h.1, h.2, (λ u. halted_votes f x e k d None M g.0 h.0 h.3 (g.3 u)), (agrees, h.3)))
+      by f (Some t) more z more_known agrees =
           let g = z.3 f agrees in
           let s : Spot = record { node = k; disk = d; parts = t; seen = M } in
           let seen = seen_in f (world_at s) z agrees in
-          let h = stops_go (case_of f x z.0 g.0) s e seen ((gives f).holds z.0 g.0 s (more, z.2) seen) agrees in
+          let h = stops_go (case_of f x z.0 g.0) s e seen ((gives f).holds z.0 g.0 s ((more, z.2), more_known f agrees) seen) agrees in
           (h.0, h.1, h.2, (λ u. halted_votes f x e k d (Some t) M g.0 h.0 h.3 (g.3 u)), (agrees, h.3))
 
   -- ---- a message
 
-  module _ (f : Fixed) (e : ℕ) (s : Spot) (from : ℕ) (more : G (world_at s)) (z : Kept (world_at s)) (agrees : Agrees f x z.0 (let M = s.seen in M.sent)) where
+  module _ (f : Fixed) (e : ℕ) (s : Spot) (from : ℕ) (more : G (world_at s)) (z : Kept (world_at s)) (agrees : Agrees f x z.0 (let M = s.seen in M.sent)) (known : Y f z.0 (let g = z.3 f agrees in g.0) (world_at s)) where
     abbrev begun : List Action
     begun = z.0
 
@@ -271,7 +275,7 @@ module _ (hd : Header) (x : ℕ) (G : Seen → Type 0) (R : List Action → Seen
     seen : IsSeenIn c (world_at s)
     seen = seen_in f (world_at s) z agrees
 
-    its : GivesLocks hd f x (λ begun M. G M × R begun M)
+    its : GivesLocks hd f x (λ begun S M. (G M × R begun M) × Y f begun S M)
     its = gives f
 
     coordinator_goes : (m : Message) (v : Parts) (outs : List Effect) → HasCome s from m v outs → is_for_parts m ≡ false → (o : Option (Uid × Bool)) → coordinated m ≡ o → Goes outs v
@@ -284,24 +288,24 @@ module _ (hd : Header) (x : ℕ) (G : Seen → Type 0) (R : List Action → Seen
             let r = heard from a.0 a.1 (let d = s.disk in d.intents) (coord_at s) in
             let q = took_heard s.parts v r outs (sym (handled_answer s.node s.disk s.parts from a.0 a.1) ∙ n.takes) in
             let meant = ap (answer_is_meant (coord_at s)) (sym of) ∙ (and_parts (asked_is_meant (let t = s.parts in t.server) (asks m)) (answer_is_meant (coord_at s) (answers m)) come.meant).1 in
-            subst (λ (w : Parts). Goes outs w) q.0 (subst (λ (es : List Effect). Goes es (with_coord s.parts r.part)) q.1 (answers_go c s e from a.0 a.1 seen (its.holds begun S s (more, z.2) seen) (its.heard begun S s from m a v outs (more, z.2) seen come of) n.sent meant))
+            subst (λ (w : Parts). Goes outs w) q.0 (subst (λ (es : List Effect). Goes es (with_coord s.parts r.part)) q.1 (answers_go c s e from a.0 a.1 seen (its.holds begun S s ((more, z.2), known) seen) (its.heard begun S s from m a v outs ((more, z.2), known) seen come of) n.sent meant))
     coordinator_goes m v outs come is (Some (u, true)) of =
         let n = subst (λ (w : Message). HasCome s from w v outs) (is_acked m u of) come in
         let r = acked from u (let d = s.disk in d.intents) (coord_at s) in
         let q = took_heard s.parts v r outs n.takes in
-        subst (λ (w : Parts). Goes outs w) q.0 (subst (λ (es : List Effect). Goes es (with_coord s.parts r.part)) q.1 (acks_go c s e from u seen (its.holds begun S s (more, z.2) seen) (its.acked begun S s from u v outs (more, z.2) seen n)))
+        subst (λ (w : Parts). Goes outs w) q.0 (subst (λ (es : List Effect). Goes es (with_coord s.parts r.part)) q.1 (acks_go c s e from u seen (its.holds begun S s ((more, z.2), known) seen) (its.acked begun S s from u v outs ((more, z.2), known) seen n)))
     coordinator_goes m v outs come is (Some (u, false)) of =
         let n = subst (λ (w : Message). HasCome s from w v outs) (is_query m u of) come in
         let taken : Took s.parts (answer_query from u (let d = s.disk in d.intents) (coord_at s)) ≡ Took v outs = n.takes in
         let same : s.parts ≡ v = cc taken in
         let sends : answer_query from u (let d = s.disk in d.intents) (coord_at s) ≡ outs = cc taken in
-        subst (λ (w : Parts). Goes outs w) same (subst (λ (es : List Effect). Goes es s.parts) sends (queries_go c s e from u seen (its.asked begun S s from u v outs (more, z.2) seen n)))
+        subst (λ (w : Parts). Goes outs w) same (subst (λ (es : List Effect). Goes es s.parts) sends (queries_go c s e from u seen (its.asked begun S s from u v outs ((more, z.2), known) seen n)))
 
     pub message_goes : (m : Message) (v : Parts) (outs : List Effect) → HasCome s from m v outs → Goes outs v
     message_goes m v outs come = by (is_for_parts m) refl
       where
         by : (b : Bool) → is_for_parts m ≡ b → Goes outs v
-        by true is = (let q = its.parts begun S s from m v outs (more, z.2) seen come is in messages_go c s e from m v outs seen q.0 q.1 come.sent is come.meant come.takes)
+        by true is = (let q = its.parts begun S s from m v outs ((more, z.2), known) seen come is in messages_go c s e from m v outs seen q.0 q.1 come.sent is come.meant come.takes)
         by false is = coordinator_goes m v outs come is (coordinated m) refl
 
     -- votes behind it
@@ -322,7 +326,7 @@ module _ (hd : Header) (x : ℕ) (G : Seen → Type 0) (R : List Action → Seen
                 let q = took_heard s.parts v r outs (sym (handled_answer s.node s.disk s.parts from a.0 a.1) ∙ n.takes) in
                 subst (λ (w : Parts). AreVoted f.act f.code x w.coord T) q.0
                 (heard_is_voted f.act f.code x from a.0 a.1 (let d = s.disk in d.intents) (coord_at s) T
-                (λ d k found is waits. votes_shown c s e from a.0 a.1 seen (its.holds begun S s (more, z.2) seen) (its.heard begun S s from m a v outs (more, z.2) seen come of) n.sent (used (world_at s) more u s.node (record { number = s.node; disk = s.disk; live = Some s.parts }) s.parts (node_here f x [] s.node s.disk (Some s.parts) s.seen) refl) T run d found k is waits)
+                (λ d k found is waits. votes_shown c s e from a.0 a.1 seen (its.holds begun S s ((more, z.2), known) seen) (its.heard begun S s from m a v outs ((more, z.2), known) seen come of) n.sent (used (world_at s) more u s.node (record { number = s.node; disk = s.disk; live = Some s.parts }) s.parts (node_here f x [] s.node s.disk (Some s.parts) s.seen) refl) T run d found k is waits)
                 had.1)
         coordinator (Some (w, true)) of off =
             let n = subst (λ (y : Message). HasCome s from y v outs) (is_acked m w of) come in
@@ -338,16 +342,16 @@ module _ (hd : Header) (x : ℕ) (G : Seen → Type 0) (R : List Action → Seen
         by true mine = let l = (subst (Leaves s.parts from (asks m)) come.takes (message_left s.node s.disk s.parts from m mine)).0 in subst (λ (q : Coord). AreVoted f.act f.code x q T) (sym l.coord) had.1
         by false mine = coordinator (coordinated m) refl mine
 
-  pub kept_message : (e k : ℕ) (d : Disk) (t v : Parts) (from : ℕ) (m : Message) (outs : List Effect) (M : Seen) → G (up k d t M) → (z : Kept (up k d t M)) → In (record { from = from; to = k; message = m }) M.sent → is_meant t m ≡ true → handle k d t from m ≡ Took v outs → Walks (From (up k d t M) z) e k outs (Up (From (up k d t M) z) k v) d M
-  kept_message e k d t v from m outs M more z there meant is =
+  pub kept_message : (e k : ℕ) (d : Disk) (t v : Parts) (from : ℕ) (m : Message) (outs : List Effect) (M : Seen) → G (up k d t M) → (z : Kept (up k d t M)) → Knows (up k d t M) z → In (record { from = from; to = k; message = m }) M.sent → is_meant t m ≡ true → handle k d t from m ≡ Took v outs → Walks (From (up k d t M) z) e k outs (Up (From (up k d t M) z) k v) d M
+  kept_message e k d t v from m outs M more z known there meant is =
       let s : Spot = record { node = k; disk = d; parts = t; seen = M } in
       kept_walk V x R z.0 e k outs v d M (λ f a. let g = z.3 f a in g.0) (keeps.message z.0 e k d t v from m outs M more z.1.0 z.2 there meant is) (message_pathed hd z.0 e k d t v from m outs M (pathed_in (up k d t M) z) there meant is)
-      (λ f agrees. (message_goes f e s from more z agrees m v outs (record { sent = there; meant = meant; takes = is }), message_votes f e s from more z agrees m v outs (record { sent = there; meant = meant; takes = is })))
+      (λ f agrees. (message_goes f e s from more z agrees (known f agrees) m v outs (record { sent = there; meant = meant; takes = is }), message_votes f e s from more z agrees (known f agrees) m v outs (record { sent = there; meant = meant; takes = is })))
 
   -- ---- the others
 
   -- at an input about an action the object is seen through what the coordinator does
-  module _ (f : Fixed) (e : ℕ) (s : Spot) (more : G (world_at s)) (z : Kept (world_at s)) (agrees : Agrees f x z.0 (let M = s.seen in M.sent)) where
+  module _ (f : Fixed) (e : ℕ) (s : Spot) (more : G (world_at s)) (z : Kept (world_at s)) (agrees : Agrees f x z.0 (let M = s.seen in M.sent)) (known : Y f z.0 (let g = z.3 f agrees in g.0) (world_at s)) where
     abbrev b : Case
     b = case_of f x z.0 (let g = z.3 f agrees in g.0)
 
@@ -359,15 +363,15 @@ module _ (hd : Header) (x : ℕ) (G : Seen → Type 0) (R : List Action → Seen
 
     pub input_goes : (i : Input) → is_act i ≡ true → refusal_up hd i (coord_at s) ≡ None → ActGoes i
     input_goes i is none =
-        let q = (gives f).act z.0 (let g = z.3 f agrees in g.0) s i (more, z.2) seen_so is none in
-        inputs_go hd b s e i seen_so ((gives f).holds z.0 (let g = z.3 f agrees in g.0) s (more, z.2) seen_so) q.0 is none q.1
+        let q = (gives f).act z.0 (let g = z.3 f agrees in g.0) s i ((more, z.2), known) seen_so is none in
+        inputs_go hd b s e i seen_so ((gives f).holds z.0 (let g = z.3 f agrees in g.0) s ((more, z.2), known) seen_so) q.0 is none q.1
 
-  pub kept_act : (e k : ℕ) (d : Disk) (t : Parts) (i : Input) (M : Seen) → is_act i ≡ true → refusal_up hd i t.coord ≡ None → G (up k d t M) → (z : Kept (up k d t M)) → let D = acts i d.intents t.coord in Walks (From (up k d t M) z) e k D.outs (Up (From (up k d t M) z) k (with_coord t D.part)) d M
-  kept_act e k d t i M is none more z =
+  pub kept_act : (e k : ℕ) (d : Disk) (t : Parts) (i : Input) (M : Seen) → is_act i ≡ true → refusal_up hd i t.coord ≡ None → G (up k d t M) → (z : Kept (up k d t M)) → Knows (up k d t M) z → let D = acts i d.intents t.coord in Walks (From (up k d t M) z) e k D.outs (Up (From (up k d t M) z) k (with_coord t D.part)) d M
+  kept_act e k d t i M is none more z known =
       let D = acts i d.intents t.coord in
       let s : Spot = record { node = k; disk = d; parts = t; seen = M } in
       kept_walk V x R z.0 e k D.outs (with_coord t D.part) d M (λ f a. let g = z.3 f a in g.0) (keeps.act z.0 e k d t i M is none more z.1.0 z.2) (act_pathed hd z.0 e k d t i M is none (pathed_in (up k d t M) z))
-      (λ f agrees. (input_goes f e s more z agrees i is none, (λ T run u. let h = had_votes f x k d t M (let g = z.3 f agrees in g.0) T run ((let g = z.3 f agrees in g.3) u) in (h.0, acts_are_voted f.act f.code x i d.intents t.coord T (not_begin i is) h.1))))
+      (λ f agrees. (input_goes f e s more z agrees (known f agrees) i is none, (λ T run u. let h = had_votes f x k d t M (let g = z.3 f agrees in g.0) T run ((let g = z.3 f agrees in g.3) u) in (h.0, acts_are_voted f.act f.code x i d.intents t.coord T (not_begin i is) h.1))))
 
   -- an action that isn't refused may stand where it begins
   module _ (f : Fixed) (e : ℕ) (s : Spot) (l : Label) (how : Kind) (parent : Option Label) (z : Kept (world_at s)) (older : Agrees f x z.0 (let M = s.seen in M.sent))
@@ -421,27 +425,27 @@ module _ (hd : Header) (x : ℕ) (G : Seen → Type 0) (R : List Action → Seen
   abbrev pub FromBegun : Action → (M : Seen) → Kept M → Seen → Type 0
   FromBegun a M z N = LocksFrom V x R (a ∷ z.0) M.sent (λ f w. let g = z.3 f (agree_older f x a z.0 M.sent w) in g.0) N
 
-  pub kept_begin : (e k : ℕ) (d : Disk) (t : Parts) (l : Label) (how : Kind) (parent : Option Label) (M : Seen) → label_at l M.labels ≡ None → MayGive M.labels k how parent → begin_refusal how t.coord parent ≡ None → G (up k d t M) → (z : Kept (up k d t M))
+  pub kept_begin : (e k : ℕ) (d : Disk) (t : Parts) (l : Label) (how : Kind) (parent : Option Label) (M : Seen) → label_at l M.labels ≡ None → MayGive M.labels k how parent → begin_refusal how t.coord parent ≡ None → G (up k d t M) → (z : Kept (up k d t M)) → Knows (up k d t M) z
       → let D = begin_action l how parent (parent_of parent t.coord) t.coord in Walks (FromBegun (begins_in how parent t) (up k d t M) z) e k D.outs (Up (FromBegun (begins_in how parent t) (up k d t M) z) k (with_coord t D.part)) d (given l (record { node = k; serial = is_serial_kind how }) M)
-  kept_begin e k d t l how parent M new may none more z =
+  kept_begin e k d t l how parent M new may none more z known =
       let D = begin_action l how parent (parent_of parent t.coord) t.coord in
       let s : Spot = record { node = k; disk = d; parts = t; seen = M } in
       let N = given l (record { node = k; serial = is_serial_kind how }) M in
       let a : Action = begins_in how parent t in
       kept_walk V x R (a ∷ z.0) e k D.outs (with_coord t D.part) d N (λ f w. let g = z.3 f (agree_older f x a z.0 M.sent w) in g.0) (keeps.begin z.0 e k d t l how parent M new may none more z.1.0 z.2) (begin_pathed hd z.0 e k d t l how parent M new may none (pathed_in (up k d t M) z))
-      (λ f agrees. let older = agree_older f x a z.0 M.sent agrees in (begins_go (case_of f x z.0 (let g = z.3 f older in g.0)) s e l (record { node = k; serial = is_serial_kind how }) how parent (parent_of parent t.coord) (seen_in f (world_at s) z older) (let w = agrees.whole in w.begun.0) (may_stand f e s l how parent z older new may none agrees) ((gives f).begin z.0 (let g = z.3 f older in g.0) s (more, z.2) (seen_in f (world_at s) z older)), (λ T run u. let h = had_votes f x k d t M (let g = z.3 f older in g.0) T run ((let g = z.3 f older in g.3) u) in (h.0, (others_are_voted f.act f.code x t.coord T h.1).0 l how parent))))
+      (λ f agrees. let older = agree_older f x a z.0 M.sent agrees in (begins_go (case_of f x z.0 (let g = z.3 f older in g.0)) s e l (record { node = k; serial = is_serial_kind how }) how parent (parent_of parent t.coord) (seen_in f (world_at s) z older) (let w = agrees.whole in w.begun.0) (may_stand f e s l how parent z older new may none agrees) ((gives f).begin z.0 (let g = z.3 f older in g.0) s ((more, z.2), known f older) (seen_in f (world_at s) z older)), (λ T run u. let h = had_votes f x k d t M (let g = z.3 f older in g.0) T run ((let g = z.3 f older in g.3) u) in (h.0, (others_are_voted f.act f.code x t.coord T h.1).0 l how parent))))
 
-  pub kept_tick : (e k : ℕ) (d : Disk) (t : Parts) (M : Seen) → G (up k d t M) → (z : Kept (up k d t M))
+  pub kept_tick : (e k : ℕ) (d : Disk) (t : Parts) (M : Seen) → G (up k d t M) → (z : Kept (up k d t M)) → Knows (up k d t M) z
       → Walks (From (up k d t M) z) e k (tick_outs (record { number = k; disk = d; live = Some t }) t) (Up (From (up k d t M) z) k (with_coord t (let q = again_all t.coord.doings t.coord in q.part))) d M
-  kept_tick e k d t M more z =
+  kept_tick e k d t M more z known =
       let s : Spot = record { node = k; disk = d; parts = t; seen = M } in
       kept_walk V x R z.0 e k (tick_outs (record { number = k; disk = d; live = Some t }) t) (with_coord t (let q = again_all t.coord.doings t.coord in q.part)) d M (λ f a. let g = z.3 f a in g.0) (keeps.tick z.0 e k d t M more z.1.0 z.2) (tick_pathed hd z.0 e k d t M (pathed_in (up k d t M) z))
-      (λ f agrees. let g = z.3 f agrees in let seen = seen_in f (world_at s) z agrees in let q = (gives f).tick z.0 g.0 s (more, z.2) seen in (ticks_go (case_of f x z.0 g.0) s e seen q.0 q.1 q.2, (λ T run u. let h = had_votes f x k d t M g.0 T run (g.3 u) in (h.0, (others_are_voted f.act f.code x t.coord T h.1).2 t.coord.doings))))
+      (λ f agrees. let g = z.3 f agrees in let seen = seen_in f (world_at s) z agrees in let q = (gives f).tick z.0 g.0 s ((more, z.2), known f agrees) seen in (ticks_go (case_of f x z.0 g.0) s e seen q.0 q.1 q.2, (λ T run u. let h = had_votes f x k d t M g.0 T run (g.3 u) in (h.0, (others_are_voted f.act f.code x t.coord T h.1).2 t.coord.doings))))
 
-  pub kept_restart : (e k : ℕ) (d : Disk) (M : Seen) → G (down k d M) → (z : Kept (down k d M)) → Walks (From (down k d M) z) e k (restart_outs hd k (d.inc + 1) d) (Up (From (down k d M) z) k (parts_in k (d.inc + 1) d)) d M
-  kept_restart e k d M more z =
+  pub kept_restart : (e k : ℕ) (d : Disk) (M : Seen) → G (down k d M) → (z : Kept (down k d M)) → Knows (down k d M) z → Walks (From (down k d M) z) e k (restart_outs hd k (d.inc + 1) d) (Up (From (down k d M) z) k (parts_in k (d.inc + 1) d)) d M
+  kept_restart e k d M more z known =
       kept_walk V x R z.0 e k (restart_outs hd k (d.inc + 1) d) (parts_in k (d.inc + 1) d) d M (λ f a. let g = z.3 f a in g.0) (keeps.restart z.0 e k d M more z.1.0 z.2) (restart_pathed hd z.0 e k d M (pathed_in (down k d M) z))
-      (λ f agrees. let g = z.3 f agrees in let seen = seen_in f (down k d M) z agrees in (restarts_go hd (case_of f x z.0 g.0) e k d M seen ((gives f).restart z.0 g.0 k d M (more, z.2) seen), (λ T run u. new_votes f x k d M (d.inc + 1) d.intents g.0 T run (g.3 u))))
+      (λ f agrees. let g = z.3 f agrees in let seen = seen_in f (down k d M) z agrees in (restarts_go hd (case_of f x z.0 g.0) e k d M seen ((gives f).restart z.0 g.0 k d M ((more, z.2), known f agrees) seen), (λ T run u. new_votes f x k d M (d.inc + 1) d.intents g.0 T run (g.3 u))))
 
   pub first_kept : Kept (see [] (format hd))
   first_kept = let r = first_pathed hd in ([], r.1, keeps.first, (λ f agrees. let g = first_goes hd f x (gives f).first in (g.0, g.1, g.2, (λ u. first_votes hd f x g.0))), r.0.1)
@@ -453,18 +457,19 @@ module _ (hd : Header) (x : ℕ) (G : Seen → Type 0) (R : List Action → Seen
   walk_from : (begun : List Action) (sent : List Post) (from : (f : Fixed) → Agrees f x begun sent → State) (e k : ℕ) (outs : List Effect) (v : Parts) (d : Disk) (N : Seen) → Walks (LocksFrom V x R begun sent from) e k outs (Up (LocksFrom V x R begun sent from) k v) d N → Walks Kept e k outs (Up Kept k v) d N
   walk_from begun sent from e k outs v d N w = walks_to (LocksFrom V x R begun sent from) Kept e k outs (Up (LocksFrom V x R begun sent from) k v) (Up Kept k v) d N (kept_from begun sent from) (λ c Z h. kept_from begun sent from (up k c v Z) h) w
 
-  pub so_given : KeepsGiven hd G (LocksSo V x R)
-  so_given = record {
+  -- where no more is needed
+  pub so_given : ((f : Fixed) (begun : List Action) (S : State) (M : Seen) → Y f begun S M) → KeepsGiven hd G (LocksSo V x R)
+  so_given always = record {
     quiet = λ e bs M quiet more z. kept_from z.0 M.sent (λ f a. let g = z.3 f a in g.0) (said e bs M) (quiet_kept e bs M quiet more z);
-    stop = λ e k d live M more z. kept_from z.0 M.sent (λ f a. let g = z.3 f a in g.0) (halted e k d M) (stop_kept e k d live M more z);
-    message = λ e k d t v from m outs M more z there meant is. walk_from z.0 M.sent (λ f a. let g = z.3 f a in g.0) e k outs v d M (kept_message e k d t v from m outs M more z there meant is);
-    act = λ e k d t i M is none more z. let D = acts i d.intents t.coord in walk_from z.0 M.sent (λ f a. let g = z.3 f a in g.0) e k D.outs (with_coord t D.part) d M (kept_act e k d t i M is none more z);
+    stop = λ e k d live M more z. kept_from z.0 M.sent (λ f a. let g = z.3 f a in g.0) (halted e k d M) (stop_kept e k d live M more z (λ f a. always f z.0 (let g = z.3 f a in g.0) (at k d live M)));
+    message = λ e k d t v from m outs M more z there meant is. walk_from z.0 M.sent (λ f a. let g = z.3 f a in g.0) e k outs v d M (kept_message e k d t v from m outs M more z (λ f a. always f z.0 (let g = z.3 f a in g.0) (up k d t M)) there meant is);
+    act = λ e k d t i M is none more z. let D = acts i d.intents t.coord in walk_from z.0 M.sent (λ f a. let g = z.3 f a in g.0) e k D.outs (with_coord t D.part) d M (kept_act e k d t i M is none more z (λ f a. always f z.0 (let g = z.3 f a in g.0) (up k d t M)));
     begin = λ e k d t l how parent M new may none more z.
         let D = begin_action l how parent (parent_of parent t.coord) t.coord in
         let a = begins_in how parent t in
-        walk_from (a ∷ z.0) M.sent (λ f w. let g = z.3 f (agree_older f x a z.0 M.sent w) in g.0) e k D.outs (with_coord t D.part) d (given l (record { node = k; serial = is_serial_kind how }) M) (kept_begin e k d t l how parent M new may none more z);
-    tick = λ e k d t M more z. walk_from z.0 M.sent (λ f a. let g = z.3 f a in g.0) e k (tick_outs (record { number = k; disk = d; live = Some t }) t) (with_coord t (let q = again_all t.coord.doings t.coord in q.part)) d M (kept_tick e k d t M more z);
-    restart = λ e k d M more z. walk_from z.0 M.sent (λ f a. let g = z.3 f a in g.0) e k (restart_outs hd k (d.inc + 1) d) (parts_in k (d.inc + 1) d) d M (kept_restart e k d M more z);
+        walk_from (a ∷ z.0) M.sent (λ f w. let g = z.3 f (agree_older f x a z.0 M.sent w) in g.0) e k D.outs (with_coord t D.part) d (given l (record { node = k; serial = is_serial_kind how }) M) (kept_begin e k d t l how parent M new may none more z (λ f a. always f z.0 (let g = z.3 f a in g.0) (up k d t M)));
+    tick = λ e k d t M more z. walk_from z.0 M.sent (λ f a. let g = z.3 f a in g.0) e k (tick_outs (record { number = k; disk = d; live = Some t }) t) (with_coord t (let q = again_all t.coord.doings t.coord in q.part)) d M (kept_tick e k d t M more z (λ f a. always f z.0 (let g = z.3 f a in g.0) (up k d t M)));
+    restart = λ e k d M more z. walk_from z.0 M.sent (λ f a. let g = z.3 f a in g.0) e k (restart_outs hd k (d.inc + 1) d) (parts_in k (d.inc + 1) d) d M (kept_restart e k d M more z (λ f a. always f z.0 (let g = z.3 f a in g.0) (down k d M)));
     first = first_kept;
   }
 
@@ -487,18 +492,39 @@ given_as hd G P Q to back one = record {
     likewise : (e k : ℕ) (outs : List Effect) (v : Parts) (d : Disk) (M : Seen) → Walks P e k outs (Up P k v) d M → Walks Q e k outs (Up Q k v) d M
     likewise e k outs v d M w = walks_to P Q e k outs (Up P k v) (Up Q k v) d M to (λ c N p. to (up k c v N) p) w
 
-module _ (hd : Header) (x : ℕ) (G : Seen → Type 0) (R : List Action → Seen → Type 0) (keeps : KeepsOf hd (λ begun M. G M) R) (gives : (f : Fixed) → GivesLocks hd f x (λ begun M. G M × R begun M)) where
+-- what gives more from less
+pub gives_by : (hd : Header) (f : Fixed) (x : ℕ) (R Q : List Action → State → Seen → Type 0) → ((begun : List Action) (S : State) (M : Seen) → Q begun S M → R begun S M) → GivesLocks hd f x R → GivesLocks hd f x Q
+gives_by hd f x R Q to g = record {
+  holds = λ begun S s q. g.holds begun S s (to begun S (world_at s) q);
+  parts = λ begun S s from m v outs q. g.parts begun S s from m v outs (to begun S (world_at s) q);
+  asked = λ begun S s from u v outs q. g.asked begun S s from u v outs (to begun S (world_at s) q);
+  acked = λ begun S s from u v outs q. g.acked begun S s from u v outs (to begun S (world_at s) q);
+  heard = λ begun S s from m a v outs q. g.heard begun S s from m a v outs (to begun S (world_at s) q);
+  act = λ begun S s i q. g.act begun S s i (to begun S (world_at s) q);
+  begin = λ begun S s q. g.begin begun S s (to begun S (world_at s) q);
+  tick = λ begun S s q. g.tick begun S s (to begun S (world_at s) q);
+  restart = λ begun S k d M q. g.restart begun S k d M (to begun S (down k d M) q);
+  first = g.first;
+}
+
+module _ (hd : Header) (x : ℕ) (G : Seen → Type 0) (R : List Action → Seen → Type 0) (keeps : KeepsOf hd (λ begun M. G M) R) (gives : (f : Fixed) → GivesLocks hd f x (λ begun S M. G M × R begun M)) where
+  abbrev Nothing : Fixed → List Action → State → Seen → Type 0
+  Nothing f begun S M = ⊤
+
+  gives_all : (f : Fixed) → GivesLocks hd f x (λ begun S M. (G M × R begun M) × Nothing f begun S M)
+  gives_all f = gives_by hd f x (λ begun S M. G M × R begun M) (λ begun S M. (G M × R begun M) × Nothing f begun S M) (λ begun S M q. q.0) (gives f)
+
   pub locks_given : KeepsGiven hd G (AreLocksSeen x R)
   locks_given = given_as hd G (LocksSo ⊥ x R) (AreLocksSeen x R)
       (λ M z. (z.0, z.1, z.2, (λ f agrees. let g = z.3 f agrees in (g.0, g.1, g.2)), z.4))
       (λ M z. (z.0, z.1, z.2, (λ f agrees. let g = z.3 f agrees in (g.0, g.1, g.2, (λ never. absurd never))), z.4))
-      (so_given hd x G R keeps gives ⊥ (λ M g never. absurd never))
+      (so_given hd x G R Nothing keeps gives_all ⊥ (λ M g never. absurd never) (λ f begun S M. tt))
 
   pub votes_given : ((M : Seen) → G M → AllVotesAreUsed M) → KeepsGiven hd G (AreLocksVoted x R)
   votes_given used = given_as hd G (LocksSo ⊤ x R) (AreLocksVoted x R)
       (λ M z. (z.0, z.1, z.2, (λ f agrees. let g = z.3 f agrees in (g.0, g.1, g.2, g.3 tt)), z.4))
       (λ M z. (z.0, z.1, z.2, (λ f agrees. let g = z.3 f agrees in (g.0, g.1, g.2, (λ u. g.3))), z.4))
-      (so_given hd x G R keeps gives ⊤ (λ M g u. used M g))
+      (so_given hd x G R Nothing keeps gives_all ⊤ (λ M g u. used M g) (λ f begun S M. tt))
 
 pub votes_are_kept : VotesAreKept
 votes_are_kept hd x before test keeps gives used everywhere = kept_both hd (λ M. before M ≡ true) (AreLocksVoted x (λ begun N. test begun N ≡ true)) everywhere (votes_given hd x (λ M. before M ≡ true) (λ begun M. test begun M ≡ true) keeps gives used)

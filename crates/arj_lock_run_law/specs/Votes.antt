@@ -31,10 +31,10 @@ AreLocksVoted x R M = (begun : List Action) × IsAlikeOf begun M × R begun M ×
 -- script.
 abbrev pub VotesAreKept : Type 0
 VotesAreKept = (hd : Header) (x : ℕ) (before : Seen → Bool) (test : List Action → Seen → Bool)
-    → KeepsOf hd (λ begun M. before M ≡ true) (λ begun M. test begun M ≡ true) → ((f : Fixed) → GivesLocks hd f x (λ begun M. (before M ≡ true) × (test begun M ≡ true))) → ((M : Seen) → before M ≡ true → AllVotesAreUsed M)
+    → KeepsOf hd (λ begun M. before M ≡ true) (λ begun M. test begun M ≡ true) → ((f : Fixed) → GivesLocks hd f x (λ begun S M. (before M ≡ true) × (test begun M ≡ true))) → ((M : Seen) → before M ≡ true → AllVotesAreUsed M)
     → Keeps hd (λ M. before M ≡ true) → Keeps hd (λ M. (before M ≡ true) × AreLocksVoted x (λ begun N. test begun N ≡ true) M)
 
 abbrev pub RunsKeepVotes : Type 0
 RunsKeepVotes = (hd : Header) (x : ℕ) (before : Seen → Bool) (test : List Action → Seen → Bool)
-    → KeepsOf hd (λ begun M. before M ≡ true) (λ begun M. test begun M ≡ true) → ((f : Fixed) → GivesLocks hd f x (λ begun M. (before M ≡ true) × (test begun M ≡ true))) → ((M : Seen) → before M ≡ true → AllVotesAreUsed M)
+    → KeepsOf hd (λ begun M. before M ≡ true) (λ begun M. test begun M ≡ true) → ((f : Fixed) → GivesLocks hd f x (λ begun S M. (before M ≡ true) × (test begun M ≡ true))) → ((M : Seen) → before M ≡ true → AllVotesAreUsed M)
     → Keeps hd (λ M. before M ≡ true) → (es : List world.Asked) → Holds hd (λ M. (before M ≡ true) × AreLocksVoted x (λ begun N. test begun N ≡ true) M) (run_all es (format hd))

@@ -1,6 +1,6 @@
 -- What is known of the protocol in every run gives what the handlers count on, with what is still to be given.
 use Rattle.std.proofs.Common.{◌≡◌, ◌≢◌, ◌⊎◌, ◌∙◌, ◌<◌, ◌≤◌, ◌+◌, ◌&&◌, ℕ, Bool, true, false, cond, List, [], ◌∷◌, Option, Some, None, refl, sym, ap, subst, inl, inr, ⊎_elim, Contains, arith}
-use Rattle.std.specs.Prelude.{is_some}
+use Rattle.std.specs.Prelude.{⊤, is_some}
 use Rattle.std.specs.Ordering.{is_eq}
 use Rattle.std.proofs.lemmas.Bool.{or_left}
 use Rattle.arj_base.specs.Order.{uid_order}
@@ -85,6 +85,7 @@ use Rattle.arj_lock_whole_law.proofs.Avoids.{avoids_by, renewed_at}
 use Rattle.arj_lock_whole_law.proofs.AvoidWalks.{avoids_to}
 use Rattle.arj_lock_whole_law.proofs.Of.{walk_end}
 use Rattle.arj_lock_whole_law.proofs.Whole.{whole_of}
+use Rattle.arj_lock_run_law.proofs.KeptSteps.{gives_by}
 
 -- ---- lists of records
 
@@ -369,13 +370,13 @@ module _ (hd : Header) (x : ℕ) (has : HasObject hd x) (E : List Action → See
 
     -- ---- naming and servers
 
-    module _ (rest : GivesRest f x Known_all) where
+    module _ (Y : List Action → State → Seen → Type 0) (rest : GivesRest f x (λ b T N. Known_all b N × Y b T N)) (more : Y begun S (world_at s)) where
       spot : KnowsSpot c s
       spot = record {
         parted = whole.parted;
         server = record {
           listed = listed;
-          left = λ u told new over never. rest.left begun S s u knows seen told new over never;
+          left = λ u told new over never. rest.left begun S s u (knows, more) seen told new over never;
           unvoted = λ u told new top open_unit. unvoted f x begun S s seen whole.parted whole.records whole.aborts u told top open_unit;
         };
         naming = λ n is. record {
@@ -393,7 +394,7 @@ module _ (hd : Header) (x : ℕ) (has : HasObject hd x) (E : List Action → See
         asks = knows_asks;
         ends = works.ends;
         binds = binds;
-        last = rest.last begun S s from m a knows seen there of;
+        last = rest.last begun S s from m a (knows, more) seen there of;
       }
 
     -- naming behind a message
@@ -411,19 +412,24 @@ module _ (hd : Header) (x : ℕ) (has : HasObject hd x) (E : List Action → See
         grown a b less (inl same) = omega (arith, less, same)
         grown a b less (inr one) = omega (arith, less, one)
 
-  pub gives_locks : GivesRest f x Known_all → GivesLocks hd f x Known_all
-  gives_locks rest = record {
-    holds = λ begun S s knows seen. holds begun S s knows seen;
-    parts = λ begun S s from m v outs knows seen come mine. (spot begun S s knows seen rest, holds_after begun S s knows seen from m v outs come);
-    asked = λ begun S s from u v outs knows seen come. about begun S s knows seen from u come.sent;
-    acked = λ begun S s from u v outs knows seen come. whole_roots begun S s knows seen u;
-    heard = λ begun S s from m a v outs knows seen come of. answer begun S s knows seen rest from m a come.sent of;
-    act = λ begun S s i knows seen is free. (knows_input begun S s knows seen, knows_acts begun S s knows seen i is free);
-    begin = λ begun S s knows seen. new_root (coord_at s) (let w = works begun S s knows seen in w.roots);
-    tick = λ begun S s knows seen. let w = works begun S s knows seen in (knows_asks begun S s knows seen, w.ends, tells begun S s knows seen);
-    restart = λ begun S k d M knows seen is inc. entries_found x inc d.names (entry_at k d M knows.1.0.entry is);
+  pub gives_locks : (Y : List Action → State → Seen → Type 0) → GivesRest f x (λ b T N. Known_all b N × Y b T N) → GivesLocks hd f x (λ b T N. Known_all b N × Y b T N)
+  gives_locks Y rest = record {
+    holds = λ begun S s knows seen. holds begun S s knows.0 seen;
+    parts = λ begun S s from m v outs knows seen come mine. (spot begun S s knows.0 seen Y rest knows.1, holds_after begun S s knows.0 seen from m v outs come);
+    asked = λ begun S s from u v outs knows seen come. about begun S s knows.0 seen from u come.sent;
+    acked = λ begun S s from u v outs knows seen come. whole_roots begun S s knows.0 seen u;
+    heard = λ begun S s from m a v outs knows seen come of. answer begun S s knows.0 seen Y rest knows.1 from m a come.sent of;
+    act = λ begun S s i knows seen is free. (knows_input begun S s knows.0 seen, knows_acts begun S s knows.0 seen i is free);
+    begin = λ begun S s knows seen. new_root (coord_at s) (let w = works begun S s knows.0 seen in w.roots);
+    tick = λ begun S s knows seen. let w = works begun S s knows.0 seen in (knows_asks begun S s knows.0 seen, w.ends, tells begun S s knows.0 seen);
+    restart = λ begun S k d M knows seen is inc. entries_found x inc d.names (entry_at k d M knows.0.1.0.entry is);
     first = λ is inc. entries_found x inc (let d = first_disk hd 1 in d.names) (first_there x hd has);
   }
     where
       entry_at : (k : ℕ) (d : Disk) (M : Seen) → HoldsEntry x (down k d M) → k ≡ 1 → is_some (held_at (entry x) d.names) ≡ true
       entry_at k d M holds_it is = holds_it (record { number = k; disk = d; live = None }) (subst (λ (j : ℕ). (let W = down k d M in W.nodes j) ≡ Some (record { number = k; disk = d; live = None })) is (λ i. cond (same_number k i) (Some (record { number = k; disk = d; live = None })) (M.nodes k)))
+
+  -- where no more is known of the machine's state
+  pub gives_alone : GivesRest f x (λ b T N. Known_all b N) → GivesLocks hd f x (λ b T N. Known_all b N)
+  gives_alone rest = gives_by hd f x (λ b T N. Known_all b N × ⊤) (λ b T N. Known_all b N) (λ b T N q. (q, tt))
+      (gives_locks (λ b T N. ⊤) (record { left = λ b T s u q. rest.left b T s u q.0; last = λ b T s from m a q. rest.last b T s from m a q.0 }))

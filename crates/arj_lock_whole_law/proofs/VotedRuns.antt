@@ -17,7 +17,7 @@ use Rattle.arj_lock_run_law.specs.Votes.{AreLocksVoted}
 use Rattle.arj_lock_run_law.proofs.KeptSteps.{votes_given}
 use Rattle.arj_lock_whole_law.specs.Runs.{AreVotesSeen, IsRest, RunsHaveVotes}
 use Rattle.arj_lock_whole_law.specs.Whole.{KnowsWhole}
-use Rattle.arj_lock_whole_law.proofs.Gives.{gives_locks}
+use Rattle.arj_lock_whole_law.proofs.Gives.{gives_alone}
 use Rattle.arj_lock_whole_law.proofs.WholeRuns.{kept_of_all}
 
 module _ (hd : Header) (x : ℕ) (has : HasObject hd x) (E : List Action → Seen → Type 0) (rest : IsRest hd x E) where
@@ -25,7 +25,7 @@ module _ (hd : Header) (x : ℕ) (has : HasObject hd x) (E : List Action → See
   Kept begun M = KnowsWhole x begun M × E begun M
 
   voted : KeepsGiven hd KnowsFew (AreLocksVoted x Kept)
-  voted = votes_given hd x KnowsFew Kept (kept_of_all hd x has E rest) (λ f. gives_locks hd x has E f (rest.gives f)) (λ M few. votes_in M few.1.1)
+  voted = votes_given hd x KnowsFew Kept (kept_of_all hd x has E rest) (λ f. gives_alone hd x has E f (rest.gives f)) (λ M few. votes_in M few.1.1)
 
   run_voted : (es : List Asked) → length es ≤ most_events → Holds hd (AreVotesSeen x) (run_all es (format hd))
   run_voted es most =

@@ -24,22 +24,26 @@ use Rattle.arj_serial_law.proofs.Seeing.{agrees_at, fixed_at, locked_runs_are_se
 use Rattle.arj_lock_whole_law.specs.Runs.{AreAllSeen, HandlersKeepWhole, IsRest, RunsAreLocked, RunsAreSerial, RunsAreTied, RunsCallObjects, RunsIncludeObjects, RunsSeeLocks}
 use Rattle.arj_lock_whole_law.specs.Whole.{KnowsWhole}
 use Rattle.arj_lock_whole_law.proofs.CalledWalks.{called_there, calls_keep, included_there}
-use Rattle.arj_lock_whole_law.proofs.Gives.{gives_locks}
+use Rattle.arj_lock_whole_law.proofs.Gives.{gives_alone}
 use Rattle.arj_lock_whole_law.proofs.Of.{of_both, of_more}
 use Rattle.arj_lock_whole_law.proofs.Whole.{whole_of}
 
 pub handlers_keep_whole : HandlersKeepWhole
 handlers_keep_whole hd x has = whole_of hd x has
 
+-- what is known of the protocol is kept with a relation that is kept beside it
+pub kept_beside : (hd : Header) (x : ℕ) → HasObject hd x → (E : List Action → Seen → Type 0) → KeepsOf hd (λ begun M. KnowsFew M × KnowsWhole x begun M) E → KeepsOf hd (λ begun M. KnowsFew M) (λ begun M. KnowsWhole x begun M × E begun M)
+kept_beside hd x has E kept = of_both hd (λ begun M. KnowsFew M) (KnowsWhole x) E (of_more hd (λ begun M. KnowsFew M) (λ begun M. KnowsFew M × E begun M) (KnowsWhole x) (λ begun M h. h.0) (whole_of hd x has)) kept
+
 module _ (hd : Header) (x : ℕ) (has : HasObject hd x) (E : List Action → Seen → Type 0) (rest : IsRest hd x E) where
   abbrev Kept : List Action → Seen → Type 0
   Kept begun M = KnowsWhole x begun M × E begun M
 
   pub kept_of_all : KeepsOf hd (λ begun M. KnowsFew M) Kept
-  kept_of_all = of_both hd (λ begun M. KnowsFew M) (KnowsWhole x) E (of_more hd (λ begun M. KnowsFew M) (λ begun M. KnowsFew M × E begun M) (KnowsWhole x) (λ begun M h. h.0) (whole_of hd x has)) rest.kept
+  kept_of_all = kept_beside hd x has E rest.kept
 
   locks : KeepsGiven hd KnowsFew (AreLocksSeen x Kept)
-  locks = locks_given hd x KnowsFew Kept kept_of_all (λ f. gives_locks hd x has E f (rest.gives f))
+  locks = locks_given hd x KnowsFew Kept kept_of_all (λ f. gives_alone hd x has E f (rest.gives f))
 
   -- ---- at the end
 

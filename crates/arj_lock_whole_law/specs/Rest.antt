@@ -15,6 +15,6 @@ use Rattle.arj_lock_run_law.specs.Kept.{case_of}
 -- Of servers: where an abort comes of an action that isn't aborted, whose unit is over, and that is new, nothing is left of a committed top
 -- with a surviving write, but what is below an aborted action. And of stores, by the disk machine: what they give to a call is the last
 -- committed state, where the binding is current.
-pub record GivesRest (f : Fixed) (x : ℕ) (R : List Action → Seen → Type 0) : Type 0 where
-  pub left : (begun : List Action) (S : State) (s : Spot) (u : Uid) → R begun (world_at s) → IsSeenIn (case_of f x begun S) (world_at s) → IsToldAbort s u → is_told u (server_at s) ≡ false → IsUnitOver (case_of f x begun S) u → (IsAborted (case_of f x begun S) u → ⊥) → HasNoneLeft (view_in (case_of f x begun S) s.node) u (server_at s) S
-  pub last : (begun : List Action) (S : State) (s : Spot) (from : ℕ) (m : Message) (a : Asked × Reply) → R begun (world_at s) → IsSeenIn (case_of f x begun S) (world_at s) → In (record { from = from; to = s.node; message = m }) (let M = s.seen in M.sent) → answers m ≡ Some a → GivesLast (case_of f x begun S) s from a.0 a.1
+pub record GivesRest (f : Fixed) (x : ℕ) (R : List Action → State → Seen → Type 0) : Type 0 where
+  pub left : (begun : List Action) (S : State) (s : Spot) (u : Uid) → R begun S (world_at s) → IsSeenIn (case_of f x begun S) (world_at s) → IsToldAbort s u → is_told u (server_at s) ≡ false → IsUnitOver (case_of f x begun S) u → (IsAborted (case_of f x begun S) u → ⊥) → HasNoneLeft (view_in (case_of f x begun S) s.node) u (server_at s) S
+  pub last : (begun : List Action) (S : State) (s : Spot) (from : ℕ) (m : Message) (a : Asked × Reply) → R begun S (world_at s) → IsSeenIn (case_of f x begun S) (world_at s) → In (record { from = from; to = s.node; message = m }) (let M = s.seen in M.sent) → answers m ≡ Some a → GivesLast (case_of f x begun S) s from a.0 a.1

@@ -37,7 +37,12 @@ Known x E begun M = KnowsFew M × (KnowsWhole x begun M × E begun M)
 -- A relation that is kept beside what is known of the protocol, and gives what is still to be given.
 pub record IsRest (hd : Header) (x : ℕ) (E : List Action → Seen → Type 0) : Type 0 where
   pub kept : KeepsOf hd (λ begun M. KnowsFew M × KnowsWhole x begun M) E
-  pub gives : (f : Fixed) → GivesRest f x (Known x E)
+  pub gives : (f : Fixed) → GivesRest f x (λ begun S M. Known x E begun M)
+
+-- The same, where more is known of the machine's state in which the object is seen.
+pub record IsRestBeside (hd : Header) (x : ℕ) (E : List Action → Seen → Type 0) (Y : Fixed → List Action → State → Seen → Type 0) : Type 0 where
+  pub kept : KeepsOf hd (λ begun M. KnowsFew M × KnowsWhole x begun M) E
+  pub gives : (f : Fixed) → GivesRest f x (λ begun S M. Known x E begun M × Y f begun S M)
 
 -- The object is seen by its lock machine, in these codes and from this first value: what is fixed agrees with all that was done, and the
 -- journal is tied to the machine's state.

@@ -51,7 +51,7 @@ LockedRunsAreSerial = (hd : Header) (es : List Asked) → AreLocked hd es → Is
 
 -- a relation of the actions that were begun is kept, beside what holds everywhere, and gives what handlers count on
 abbrev pub IsGiven : Header → ℕ → (Seen → Bool) → (List Action → Seen → Bool) → Type 0
-IsGiven hd x before test = KeepsOf hd (λ begun M. before M ≡ true) (λ begun M. test begun M ≡ true) × ((f : Fixed) → GivesLocks hd f x (λ begun M. (before M ≡ true) × (test begun M ≡ true)))
+IsGiven hd x before test = KeepsOf hd (λ begun M. before M ≡ true) (λ begun M. test begun M ≡ true) × ((f : Fixed) → GivesLocks hd f x (λ begun S M. (before M ≡ true) × (test begun M ≡ true)))
 
 -- Where there is one for each object of which a call was answered, and what holds everywhere knows requests, the run is serial.
 abbrev pub GivenRunsAreSerial : Type 0
