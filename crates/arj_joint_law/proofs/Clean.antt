@@ -15,7 +15,7 @@ use Rattle.arj_line_law.specs.Right.{AreRight}
 use Rattle.arj_line_law.specs.Knows.{IsKept}
 use Rattle.arj_line_law.proofs.Runs.{lines_keep, run_written}
 use Rattle.arj_disk_law.specs.Order.{counts_of}
-use Rattle.arj_disk_law.specs.State.{Done, decided as decided_so, decided_in, target}
+use Rattle.arj_disk_law.specs.State.{Done, Packed, decided as decided_so, decided_in, target}
 use Rattle.arj_disk_law.specs.Words as disk
 use Rattle.arj_disk_line_law.specs.Said.{IsJournalled}
 use Rattle.arj_line_law.specs.Idle.{HasNothing}
@@ -31,7 +31,7 @@ use Rattle.arj_view_law.proofs.Happens.{runs_hold}
 use Rattle.arj_binding_law.specs.Scripts.{most_events}
 use Rattle.arj_disk_run_law.specs.Rest.{KeepsHeard}
 use Rattle.arj_serial_law.specs.Cleaned.{AreDecidedOrLate, HaveForm, IsCleanIn}
-use Rattle.arj_serial_law.specs.Decided.{AreDecisions, AreNewestFirst, DecideChanges, Joined, Wrote, WroteSo}
+use Rattle.arj_serial_law.specs.Decided.{AreDecisions, AreNewestFirst, DecideChanges, Wrote, WroteSo}
 use Rattle.arj_lock_fact_law.specs.Entries.{HasObject}
 use Rattle.arj_lock_whole_law.proofs.WholeRuns.{runs_call_objects, runs_include_objects}
 use Rattle.arj_part_law.specs.Actions.{Action}
@@ -105,18 +105,30 @@ all_those P ts each = by ts (λ u i. each u (in_to u ts i))
 later : (u : Top) (t : Top) (ts : List Top) → Contains ts u → Contains (t ∷ ts) u
 later u t ts i = in_to u (t ∷ ts) (inr (in_from u ts i))
 
--- each of them changed the object, by a write or an include
-newest_first : (lines : List Line) (x : ℕ) (ts : List Top) → ((t : Top) → Contains ts t → Wrote lines x t ⊎ Joined lines x t) → WritersAreNewestFirst lines x ts → JoinersAreNewestFirst lines x ts → AreNewestFirst ts
-newest_first lines x [] changed writers joiners = tt
-newest_first lines x (t ∷ ts) changed writers joiners = (
-  all_those (λ (u : Top). u.at < t.at) ts (λ u i. by u i (changed u (later u t ts i)) (changed t (in_to t (t ∷ ts) (inl refl)))),
-  newest_first lines x ts (λ u i. changed u (later u t ts i)) writers.1 joiners.1,
+-- each of two of them wrote the object, or one of the two didn't
+newest_first : (lines : List Line) (x : ℕ) (ts : List Top) → ((t : Top) → Contains ts t → Wrote lines x t ⊎ (Wrote lines x t → ⊥)) → WritersAreNewestFirst lines x ts → JoinersAreNewestFirst lines x ts → AreNewestFirst ts
+newest_first lines x [] wrote writers joiners = tt
+newest_first lines x (t ∷ ts) wrote writers joiners = (
+  all_those (λ (u : Top). u.at < t.at) ts (λ u i. by u i (wrote u (later u t ts i)) (wrote t (in_to t (t ∷ ts) (inl refl)))),
+  newest_first lines x ts (λ u i. wrote u (later u t ts i)) writers.1 joiners.1,
 )
   where
-    by : (u : Top) → Contains ts u → Wrote lines x u ⊎ Joined lines x u → Wrote lines x t ⊎ Joined lines x t → u.at < t.at
+    by : (u : Top) → Contains ts u → Wrote lines x u ⊎ (Wrote lines x u → ⊥) → Wrote lines x t ⊎ (Wrote lines x t → ⊥) → u.at < t.at
     by u i (inl a) (inl b) = writers.0 u i a b
-    by u i (inl a) (inr b) = joiners.0 u i (inr b)
-    by u i (inr a) b = joiners.0 u i (inl a)
+    by u i (inl a) (inr b) = joiners.0 u i (λ w v. b v)
+    by u i (inr a) b = joiners.0 u i (λ w v. a w)
+
+-- a decided top gave something to the stores, and wrote the object, or it didn't
+wrote_or_not : (values : Values) (lines : List Line) (x : ℕ) (ds : List Done) (ts : List Top) → AreDecisions values lines x ds ts → (t : Top) → In t ts → Wrote lines x t ⊎ (Wrote lines x t → ⊥)
+wrote_or_not values lines x [] [] are t i = absurd i
+wrote_or_not values lines x [] (u ∷ ts) are t i = absurd are
+wrote_or_not values lines x (d ∷ ds) [] are t i = absurd are
+wrote_or_not values lines x (d ∷ ds) (u ∷ ts) are t (inl same) = subst (λ (z : Top). Wrote lines x z ⊎ (Wrote lines x z → ⊥)) same (let q = are.0 in by (let p = d.plan in p.writes) q.wrote)
+  where
+    by : (o : Option Packed) → WroteSo values lines x u o → Wrote lines x u ⊎ (Wrote lines x u → ⊥)
+    by None none = inr (λ (c, listed, write, whose). never write (none c listed whose))
+    by (Some w) (c, last, writer, content) = inl (c, last.there, last.write, last.whose)
+wrote_or_not values lines x (d ∷ ds) (u ∷ ts) are t (inr i) = wrote_or_not values lines x ds ts are.1 t i
 
 -- ---- those that are named wrote what they gave
 
@@ -236,13 +248,16 @@ module _ (hd : Header) (es : List Asked) (form : HeaderInForm hd) (tied : AreLoc
         in_to t its.those (subst (λ u. In u its.those) (one_number (first_values hd) (journal hd es) x z.0 right z.1 r.0 t (let o = e.2 in o.listed) (in_from t (tops (journal hd es)) c) r.2) r.1)
     all t c (inr wrote) = in_to t its.those (wrote_all t (in_from t (tops (journal hd es)) c) wrote)
 
+    wrote_so : (t : Top) → Contains its.those t → Wrote (journal hd es) x t ⊎ (Wrote (journal hd es) x t → ⊥)
+    wrote_so t i = wrote_or_not (first_values hd) (journal hd es) x (filter counts_of d.others) its.those decisions t (in_from t its.those i)
+
     changes : DecideChanges hd (journal hd es) x d.others
     changes = record {
       those = its.those;
       each = decisions;
-      called = newest_first (journal hd es) x its.those its.changed (let t = tied.listed x there in decided_writers_stand (first_values hd) (journal hd es) x t.0 right t.1 d.others its.those turns decisions (once_behind d.late d.others (subst AreOnce d.are (let o = h.holds in o.once)))) its.joiners;
+      called = newest_first (journal hd es) x its.those wrote_so (let t = tied.listed x there in decided_writers_stand (first_values hd) (journal hd es) x t.0 right t.1 d.others its.those turns decisions (once_behind d.late d.others (subst AreOnce d.are (let o = h.holds in o.once)))) its.joiners;
       counts = is_one_of its.those;
-      counted = λ t i. (is_there t its.those (in_from t its.those i), its.changed t i);
+      counted = λ t i. (is_there t its.those (in_from t its.those i), ⊎_elim (λ wrote. inl wrote) (λ none. inr (its.changed t i none)) (wrote_so t i));
       all = all;
       idle = its.idle;
     }

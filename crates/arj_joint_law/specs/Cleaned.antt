@@ -1,5 +1,5 @@
 -- Runs whose files are clean, by both machines of each object, with what these are still asked for.
-use Rattle.std.specs.Prelude.{⊤, ◌≡◌, ◌⊎◌, ◌<◌, ◌≤◌, ◌++◌, ◌==◌, not, ℕ, Bool, true, List, [], ◌∷◌, None, Some, filter, is_some, length, Contains}
+use Rattle.std.specs.Prelude.{⊤, ◌≡◌, ◌<◌, ◌≤◌, ◌++◌, ◌==◌, not, ℕ, Bool, true, List, [], ◌∷◌, None, Some, filter, is_some, length, Contains}
 use Rattle.std.specs.List.{list_any}
 use Rattle.arj_journal.specs.ScriptForm.{HeaderInForm}
 use Rattle.arj_model.specs.Actions.{acts}
@@ -25,10 +25,10 @@ use Rattle.arj_joint_law.specs.Joined.{AreBareSo, AreRestBeside, AreWritten}
 use Rattle.arj_joint_law.specs.Ordered.{IsOrderedSo}
 use Rattle.arj_joint_law.specs.Shown.{FilesAre}
 
--- of these tops, the newest first, each two of which one included a store of the object had their commits called in turn
+-- of these tops, the newest first, each two of which one didn't write the object had their commits called in turn
 abbrev pub JoinersAreNewestFirst : List Line → ℕ → List Top → Type 0
 JoinersAreNewestFirst lines x [] = ⊤
-JoinersAreNewestFirst lines x (t ∷ ts) = ((u : Top) → Contains ts u → Joined lines x u ⊎ Joined lines x t → u.at < t.at) × JoinersAreNewestFirst lines x ts
+JoinersAreNewestFirst lines x (t ∷ ts) = ((u : Top) → Contains ts u → (Wrote lines x u → Wrote lines x t → ⊥) → u.at < t.at) × JoinersAreNewestFirst lines x ts
 
 -- the top is one of these
 abbrev pub is_one_of : List Top → Top → Bool
@@ -51,14 +51,14 @@ AreNamed lines x [] [] = ⊤
 AreNamed lines x (d ∷ ds) (t ∷ ts) = IsNamed lines x d t × AreNamed lines x ds ts
 AreNamed lines x ds ts = ⊥
 
--- The decided tops of the disk machine that count are these tops of the journal, and each of them changed the object. As
--- `DecideChanges` of `arj_serial_law`, but what they wrote and excluded isn't asked; of the order of commit calls only what includes have to do with
--- is, and not that each top which wrote the object is one of these.
+-- The decided tops of the disk machine that count are these tops of the journal, and each of them that didn't write the object included a store
+-- of it. As `DecideChanges` of `arj_serial_law`, but what they wrote and excluded isn't asked, nor anything of two that wrote the object; and not
+-- that each top which wrote it is one of these.
 pub record DecideThose (header : Header) (lines : List Line) (x : ℕ) (S : State) (ds : List Done) : Type 0 where
   pub those : List Top
   pub each : AreNamed lines x (filter counts_of ds) those
   pub joiners : JoinersAreNewestFirst lines x those
-  pub changed : (t : Top) → Contains those t → Wrote lines x t ⊎ Joined lines x t
+  pub changed : (t : Top) → Contains those t → (Wrote lines x t → ⊥) → Joined lines x t
   pub idle : IdleInPlace lines x (is_one_of those) (first_stores header x) (serial_tops lines)
 
 -- So it is of all but the newest ones: those that the journal doesn't have since their nodes are late to say so, and whoever was decided
