@@ -31,7 +31,7 @@ use Rattle.arj_round_law.specs.Waits.{IsOvertaken, IsSaid, IsToSettle, coord_in,
 use Rattle.arj_disk_run_law.specs.Entries.{IsEntryNode, KnowsEntries}
 use Rattle.arj_lock_fact_law.specs.Entries.{HasObject}
 use Rattle.arj_protocol.specs.Order.{at_number, at_uid, binding_less, binding_number, has, unbound}
-use Rattle.arj_wait_law.specs.Told.{ArePastIn}
+use Rattle.arj_past_law.specs.Told.{ArePastIn}
 use Rattle.arj_wait_law.specs.Waits.{AnswersRest, KnownGive, LeftOfCommit, LeftOfStep, WaitsAreKnown}
 use Rattle.arj_wait_law.proofs.Known.{all_send, are_objects, class_is, copy_fits, has_each, keyed_at, loads_own, not_below, object_is, op_fits, used_is, waits_req}
 use Rattle.arj_wait_law.proofs.Replies.{activate_answers, bind_answers, confirm_answers, invoke_answers, load_answers, prepare_answers, record_answers, taken_void, vote_answers}

@@ -33,9 +33,9 @@ use Rattle.arj_address_law.proofs.Runs.{so_kept}
 use Rattle.arj_lock_fact_law.specs.Requests.{RequestsAreKnown}
 use Rattle.arj_lock_fact_law.proofs.Requests.{requests_keep}
 use Rattle.arj_round_law.proofs.Quiesces.{asked_both}
-use Rattle.arj_wait_law.specs.Told.{EndsArePast}
+use Rattle.arj_past_law.specs.Told.{EndsArePast}
 use Rattle.arj_wait_law.specs.Waits.{AskersAreKnown, HandlersKeepWaits, ObjectsAreKnown}
-use Rattle.arj_wait_law.proofs.Past.{past_keep}
+use Rattle.arj_past_law.proofs.Past.{past_keep}
 use Rattle.arj_wait_law.specs.Asked.{HaveForms, RequestsAreHome, WereAsked}
 use Rattle.arj_joint_law.proofs.FormRuns.{kept_forms}
 use Rattle.arj_joint_law.specs.Forms.{AreSo, kind_of}

@@ -1,6 +1,3 @@
-pub mod Tellers
-pub mod Handling
-pub mod Past
 pub mod Untold
 pub mod Replies
 pub mod Serving

@@ -18,7 +18,7 @@ use Rattle.arj_part_law.proofs.Begun.{begun_tree, path_found}
 use Rattle.arj_part_law.proofs.GoodTrees.{above_of, found_by, over_below, shorter}
 use Rattle.arj_run_law.specs.Worlds.{IsGoodOf, IsMemory, IsUp}
 use Rattle.arj_view_law.specs.Seen.{Seen}
-use Rattle.arj_wait_law.specs.Told.{ArePastIn, IsClosedAt, IsPast, ToldPast, live_in}
+use Rattle.arj_past_law.specs.Told.{ArePastIn, IsClosedAt, IsPast, ToldPast, live_in}
 
 -- who passes the test stands in the list
 any_on : (test : Uid → Bool) (us : List Uid) → list_any test us ≡ true → (w : Uid) × (is_on us w ≡ true) × (test w ≡ true)

@@ -23,7 +23,7 @@ use Rattle.arj_view_law.specs.Seen.{Seen, up}
 use Rattle.arj_round_law.specs.Rounds.{AnswersWaits, HasCome}
 use Rattle.arj_round_law.specs.Waits.{IsOvertaken, IsSaid, want_of_call, want_of_commit}
 use Rattle.arj_wait_law.specs.Asked.{HaveForms, RequestsAreHome, WereAsked}
-use Rattle.arj_wait_law.specs.Told.{EndsArePast}
+use Rattle.arj_past_law.specs.Told.{EndsArePast}
 
 -- What calls wait for are objects of the header, and naming has each of these.
 abbrev pub ObjectsAreKnown : Header → Seen → Type 0

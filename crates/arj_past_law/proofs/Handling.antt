@@ -46,8 +46,8 @@ use Rattle.arj_disk_run_law.proofs.Holders.{call_top, entry_top, top_path_is}
 use Rattle.arj_disk_run_law.proofs.Lists.{all_append, all_each, all_filter, all_keys, all_set, all_tops}
 use Rattle.arj_disk_run_law.proofs.Means.{All, IsOwnReply, both, confirm_means, queries_mean, response_means, says_mean, server_means, told_means}
 use Rattle.arj_disk_run_law.proofs.RowWalks.{rows_activate, rows_invoke, rows_told as rows_ended, rows_vote, votes_own}
-use Rattle.arj_wait_law.specs.Told.{IsNamedBy}
-use Rattle.arj_wait_law.proofs.Tellers.{AllTell, TellsOf, tell_both, tell_map}
+use Rattle.arj_past_law.specs.Told.{IsNamedBy}
+use Rattle.arj_past_law.proofs.Tellers.{AllTell, TellsOf, tell_both, tell_map}
 
 -- ---- who was told
 

@@ -61,9 +61,9 @@ use Rattle.arj_disk_run_law.proofs.Means.{All, again_means, coord_means, queries
 use Rattle.arj_address_law.proofs.Lists.{some_is}
 use Rattle.arj_lock_fact_law.specs.Acts.{KeepsOf, begins_in}
 use Rattle.arj_lock_fact_law.proofs.Acts.{kept_of}
-use Rattle.arj_wait_law.specs.Told.{ArePast, ArePastIn, EndsArePast, HandlersKeepPast, IsClosedAt, IsNamedBy, IsPast, IsPastNode, RunsKeepPast, SaysPast, ToldPast, live_in}
-use Rattle.arj_wait_law.proofs.Handling.{By, HasEnd, HoldsBegun, IsOwnNamed, LeavesPast, holders_begun, message_left, tell_queries}
-use Rattle.arj_wait_law.proofs.Tellers.{AllTell, Knows, TellsOf, tell_acked, tell_acts, tell_again, tell_heard, tell_query, tell_records}
+use Rattle.arj_past_law.specs.Told.{ArePast, ArePastIn, EndsArePast, HandlersKeepPast, IsClosedAt, IsNamedBy, IsPast, IsPastNode, RunsKeepPast, SaysPast, ToldPast, live_in}
+use Rattle.arj_past_law.proofs.Handling.{By, HasEnd, HoldsBegun, IsOwnNamed, LeavesPast, holders_begun, message_left, tell_queries}
+use Rattle.arj_past_law.proofs.Tellers.{AllTell, Knows, TellsOf, tell_acked, tell_acts, tell_again, tell_heard, tell_query, tell_records}
 
 -- ---- who is up
 

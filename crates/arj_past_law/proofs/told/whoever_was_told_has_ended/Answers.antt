@@ -1,5 +1,5 @@
-use Rattle.arj_wait_law.proofs.Past.{past_keep, past_run}
-use Rattle.arj_wait_law.proofs.told.whoever_was_told_has_ended.Goals as goal
+use Rattle.arj_past_law.proofs.Past.{past_keep, past_run}
+use Rattle.arj_past_law.proofs.told.whoever_was_told_has_ended.Goals as goal
 
 pub returns-clause-handlers : goal.returns-clause-handlers
 returns-clause-handlers c = past_keep

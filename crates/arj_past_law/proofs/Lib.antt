@@ -1,0 +1,3 @@
+pub mod Tellers
+pub mod Handling
+pub mod Past
