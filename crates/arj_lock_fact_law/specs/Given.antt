@@ -9,9 +9,8 @@
 -- That a repeated vote shows the first: `repeated_votes_agree` of `arj_lock_law`.
 -- The whole world as the machine sees it (`arj_lock_run_law`) gives what messages show, `IsReached`, `IsFresh`, and that no more is decided
 -- than was (`IfDecided`, `IsBacked`).
--- Nobody gives it yet: `HasNoneLeft` where an abort comes of an action whose unit is over, and at naming what is told of committed tops: who
--- acknowledged an end was told of it in that incarnation, and no vote or call of that action names a later one; and rows that a restart
--- gives back, which have no heir. `IsConfirming.again`: all Confirms of one top are one (`Parted`), and a Confirm was sent of whom naming
+-- Whole runs (`arj_lock_whole_law`) give `HasNoneLeft` where an abort comes of an action whose unit is over: who acknowledged an end was told
+-- of it in that incarnation, or was asked to vote in earlier ones; with what is taken there of records. `IsConfirming.again`: all Confirms of one top are one (`Parted`), and a Confirm was sent of whom naming
 -- confirmed, which the machine confirmed too (`arj_lock_run_law`).
 use Rattle.std.specs.Prelude.{◌≡◌, ◌≢◌, ℕ, true, false, List, Some, Contains}
 use Rattle.arj_protocol.specs.Words.{Ask, Head, Uid, asks}

@@ -192,7 +192,7 @@ module _ (us : List Act) where
     | inl p ↦ inl (same_number (s.action a).stage 4 p)
     | inr p ↦ elim (or_one (((s.action (Root (root a))).stage == 3) && all_of (λ e. not (on e.holder a)) (s.server n).log) (is_top a && (((s.action a).stage == 3) && not ((s.server n).voted a))) p) [
       | inl q ↦ (let r = and_both ((s.action (Root (root a))).stage == 3) (all_of (λ e. not (on e.holder a)) (s.server n).log) q in
-          inr (inl (same_number (s.action (Root (root a))).stage 3 r.0, λ e i o three c j w f k. differ o (is_not (on e.holder a) (all_in (λ x. not (on x.holder a)) (s.server n).log r.1 e i)))))
+          inr (inl (same_number (s.action (Root (root a))).stage 3 r.0, λ e i o three voted c j w f k. differ o (is_not (on e.holder a) (all_in (λ x. not (on x.holder a)) (s.server n).log r.1 e i)))))
       | inr q ↦ (let r = and_both (is_top a) (((s.action a).stage == 3) && not ((s.server n).voted a)) q in let x = and_both ((s.action a).stage == 3) (not ((s.server n).voted a)) r.1 in
           inr (inr (r.0, same_number (s.action a).stage 3 x.0, is_not ((s.server n).voted a) x.1)))
     ]

@@ -294,16 +294,19 @@ value_drop_rows s n a guard h v later = server_values s h v n x s.net later (inl
             alive : Alive s c.act
             alive = clean_alive s c.act ok.0.0
 
+            -- the server is that of the call's binding, and voted for its top
+            its_vote : (s.action (top c.act)).stage ≡ 3 → (s.server n).voted (top c.act) ≡ true
+            its_vote three =
+                let k = kept ok.0 in
+                subst (λ (y : ℕ). (s.server y).voted (top c.act) ≡ true) e (subst (λ (b : ℕ). (server_of s b).voted (top c.act) ≡ true) k (is_voted h c j alive three (subst (λ (b : ℕ). IsUp s b) (sym k) old)))
+
             never : Guard (DropRows n a) s → ⊥
             never (inl four) = let l = alive a o in omega (arith, l, four)
             never (inr (inl g)) = elim ok.0.1 [
               | inl goes ↦ (let three = g.0 in let r : (s.action (Root (root c.act))).stage ≡ (s.action (Root (root a))).stage = ap (λ (u : ℕ). (s.action (Root u)).stage) (on_root c.act a o) in omega (arith, goes, three, r))
-              | inr three ↦ g.1 f i (gone_on s v n a f q) (ap (λ (y : Act). (s.action (top y)).stage) by ∙ three) c j write (survives_of s h v c j alive three) (ap top (sym by))
+              | inr three ↦ g.1 f i (gone_on s v n a f q) (ap (λ (y : Act). (s.action (top y)).stage) by ∙ three) (subst (λ (y : Act). (s.server n).voted (top y) ≡ true) (sym by) (its_vote three)) c j write (survives_of s h v c j alive three) (ap top (sym by))
             ]
             never (inr (inr g)) =
                 let e' : top c.act ≡ a = top_of c.act a g.0 o in
                 let three : (s.action (top c.act)).stage ≡ 3 = ap (λ (y : Act). (s.action y).stage) e' ∙ g.1 in
-                let k = kept ok.0 in
-                let voted = is_voted h c j alive three (subst (λ (b : ℕ). IsUp s b) (sym k) old) in
-                let voted' : (s.server n).voted a ≡ true = subst (λ (y : ℕ). (s.server y).voted a ≡ true) e (subst (λ (b : ℕ). (server_of s b).voted a ≡ true) k (subst (λ (y : Act). (server_of s (s.kept (root c.act))).voted y ≡ true) e' voted)) in
-                differ voted' g.2
+                differ (subst (λ (y : Act). (s.server n).voted y ≡ true) e' (its_vote three)) g.2

@@ -97,9 +97,9 @@ Spoilt s a = (u : Act) × (on a u ≡ true) × (((s.action u).stage ≡ 4) ⊎ (
 abbrev pub IsFolded : State → List Entry → Act → Type 0
 IsFolded s log m = (e : Entry) → In e log → on e.holder m ≡ true → (e.holder ≡ m) ⊎ Spoilt s e.by
 
--- No write of a committed top with surviving writes is left below the action.
-abbrev pub IsDrained : State → List Entry → Act → Type 0
-IsDrained s log a = (e : Entry) → In e log → on e.holder a ≡ true → (s.action (top e.by)).stage ≡ 3 → (c : Call) → In c s.calls → c.write ≡ true → Survives s c.act → top c.act ≢ top e.by
+-- No write of a committed top with surviving writes, for which the server voted, is left there below the action.
+abbrev pub IsDrained : State → Server → Act → Type 0
+IsDrained s v a = (e : Entry) → In e v.log → on e.holder a ≡ true → (s.action (top e.by)).stage ≡ 3 → v.voted (top e.by) ≡ true → (c : Call) → In c s.calls → c.write ≡ true → Survives s c.act → top c.act ≢ top e.by
 
 -- The copy of the binding, in the incarnation that the root knows, is gone from this server.
 abbrev pub IsElsewhere : Server → ℕ → ℕ → Type 0

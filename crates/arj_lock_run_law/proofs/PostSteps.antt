@@ -97,7 +97,7 @@ module _ (f : Fixed) (x : ℕ) (begun more : List Action) (grows : (a : Action) 
   told_stays : (k : ℕ) (u : Uid) (e : End) → IsToldSo (view_of f x begun k) S u e → IsToldSo (view_of f x more k) T u e
   told_stays k u ending.Commit h = one_stays k u ending.Commit h
   told_stays k u ending.Abort (inl h) = inl (one_stays k u ending.Abort h)
-  told_stays k u ending.Abort (inr (inl h)) = inr (inl (over_stays S T reached run (Root (root (f.act u))) h))
+  told_stays k u ending.Abort (inr (inl h)) = inr (inl (over_stays S T reached run (Root (root (f.act u))) h.0, h.1))
   told_stays k u ending.Abort (inr (inr h)) = inr (inr (h.0, over_stays S T reached run (f.act u) h.1))
 
   other_stays : (k : ℕ) (m : Message) → IsOtherSeen (view_of f x begun k) S m → IsOtherSeen (view_of f x more k) T m

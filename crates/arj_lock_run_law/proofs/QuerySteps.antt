@@ -14,10 +14,10 @@ use Rattle.arj_protocol.specs.Ending.{answer_decided, answer_query, answer_recor
 use Rattle.arj_protocol.specs.Order.{at_uid, has}
 use Rattle.arj_protocol.specs.Says.{AreAll}
 use Rattle.arj_protocol.specs.Tree.{Branch, branch_of, ended_so, has_end, is_committed, is_constituent, is_open, is_open_branch}
-use Rattle.arj_lock_law.specs.Actions.{Root, is_top, root}
+use Rattle.arj_lock_law.specs.Actions.{Root, is_action, is_top, root}
 use Rattle.arj_lock_law.specs.Machine.{stay}
 use Rattle.arj_lock_law.specs.State.{State}
-use Rattle.arj_part_law.specs.Actions.{Action, action_of}
+use Rattle.arj_part_law.specs.Actions.{Action, act_of, action_of}
 use Rattle.arj_part_law.specs.Coords.{IsGoodCoord}
 use Rattle.arj_part_law.proofs.Begun.{one_action, serial_alone}
 use Rattle.arj_part_law.proofs.Keys.{at_in}
@@ -38,7 +38,7 @@ use Rattle.arj_lock_run_law.proofs.NameSteps.{confirms_more}
 use Rattle.arj_lock_run_law.proofs.OtherSteps.{confirms_of, SeesOthers, here_of, others_of, with_here}
 use Rattle.arj_lock_run_law.proofs.RestartWalks.{is_no_work, quiet_walk}
 use Rattle.arj_lock_run_law.proofs.TieSteps.{tied_now}
-use Rattle.arj_lock_run_law.proofs.TopSteps.{placed_top}
+use Rattle.arj_lock_run_law.proofs.TopSteps.{placed_top, unnested_top}
 use Rattle.arj_lock_run_law.proofs.WalkSteps.{AreSendsSeen, IsSendSeen}
 
 module _ (c : Case) (s : Spot) (is_seen : IsSeenIn c (world_at s)) where
@@ -93,7 +93,7 @@ module _ (c : Case) (s : Spot) (is_seen : IsSeenIn c (world_at s)) where
       unit : b.kind ≡ kind.Serial → IsToldSo v S u ending.Abort
       unit serial =
           let alone = serial_alone c.begun whole.begun (action_of b) (in_from (action_of b) c.begun begun_b) serial in
-          inr (inl (let q = here.coord in q.units u b found (ap first_uid alone.0 ∙ place) over))
+          inr (inl ((let q = here.coord in q.units u b found (ap first_uid alone.0 ∙ place) over), subst (λ (z : Uid). is_action (f.act z) ≡ true → is_top (f.act z) ≡ true) place (unnested_top (f.act (actor b.path)) b.kind (whole.placed (action_of b) begun_b) unnested)))
 
       top : b.kind ≢ kind.Serial → IsToldSo v S u ending.Abort
       top unserial = ends b.ended refl over
@@ -134,7 +134,7 @@ module _ (c : Case) (s : Spot) (is_seen : IsSeenIn c (world_at s)) where
         past : branch_of u C.tree ≡ None → IsToldSo v S u ending.Abort
         past none = ⊎_elim
             (λ there. absurd (let bad : ◌≡◌ {A = Option Branch} None (Some there.0) = sym none ∙ ap (λ (w : Uid). branch_of w C.tree) (sym about.2) ∙ there.1 in cc bad))
-            (λ p. inr (inl (subst (λ (w : Uid). (let a = S.action (Root (root (f.act w))) in a.stage) ≡ 3) about.2 p.over)))
+            (λ p. inr (inl (subst (λ (w : Uid). (let a = S.action (Root (root (f.act w))) in a.stage) ≡ 3) about.2 p.over, subst (λ (w : Uid). is_action (f.act w) ≡ true → is_top (f.act w) ≡ true) about.2 (unnested_top (f.act (act_of about.0)) (let a = about.0 in a.kind) (whole.placed about.0 about.1) about.3))))
             (here.past about.0 about.1 (ap (λ (w : Uid). w.node) about.2 ∙ about.4))
 
         by : (o : Option Branch) → branch_of u C.tree ≡ o → is_open_branch o ≡ false → IsToldSo v S u ending.Abort

@@ -93,7 +93,7 @@ module _ (c : Case) (s : Spot) (from : ℕ) (m : Message) (is_seen : IsSeenIn c 
   shows_end u ending.Abort told (inl gone) fresh = ended_are_shown v u ending.Abort S gone
   shows_end u ending.Abort told (inr so) fresh = ⊎_elim
       (λ over. ⊎_elim (λ gone. ended_are_shown v u ending.Abort S gone) (λ never. over_are_shown v u srv S reached whole its_family up_here.server over (let k = knows.server in k.left u (told refl) fresh over never)) (is_four (let a = S.action (place_in c u) in a.stage)))
-      (λ open_unit. ⊎_elim (λ over. absurd (open_unit over)) (λ top. unvoted_are_shown v u srv S up_here.server fresh (let k = knows.server in k.unvoted u (told refl) fresh top open_unit) top.0 top.1) so)
+      (λ open_unit. ⊎_elim (λ over. absurd (open_unit over.0)) (λ top. unvoted_are_shown v u srv S up_here.server fresh (let k = knows.server in k.unvoted u (told refl) fresh top open_unit) top.0 top.1) so)
       (over_or u)
 
   telling : (n : Message) → n ≡ m → IsOtherSeen v S n → FitsOther c.begun n → IsTellingShown v srv S n
@@ -158,7 +158,7 @@ module _ (c : Case) (s : Spot) (from : ℕ) (m : Message) (is_seen : IsSeenIn c 
     -- ends
     may_go : (u : Uid) → IsToldAbort s u → IsToldSo v S u ending.Abort → is_on n.told u ≡ false → MayGo S (place_in c u)
     may_go u told (inl gone) fresh = inl (inl gone)
-    may_go u told (inr (inl over)) fresh = inl (inr over)
+    may_go u told (inr (inl over)) fresh = inl (inr over.0)
     may_go u told (inr (inr top)) fresh = ⊎_elim
         (λ over. inl (inr over))
         (λ open_unit. ⊎_elim (λ confirmed. absurd (k.unconfirmed u told fresh top open_unit confirmed)) (λ not_confirmed. inr (top.0, top.1, not_confirmed)) (by_cases (let o = S.naming in o.confirmed (place_in c u))))

@@ -16,7 +16,7 @@ use Rattle.arj_protocol.specs.Ending.{aborts_with, abort_action, all_aborted, en
 use Rattle.arj_protocol.specs.Tree.{Branch, branch_of, ends_of, open_below, root_of}
 use Rattle.arj_model.specs.Actions.{begun_of}
 use Rattle.arj_protocol.specs.World.{numbered}
-use Rattle.arj_lock_law.specs.Actions.{Root, is_action, root}
+use Rattle.arj_lock_law.specs.Actions.{Root, is_action, is_top, root}
 use Rattle.arj_lock_law.specs.State.{State}
 use Rattle.arj_part_law.specs.Actions.{Stands, action_of}
 use Rattle.arj_part_law.specs.Copies.{Paths}
@@ -53,6 +53,7 @@ use Rattle.arj_lock_run_law.proofs.GoodSteps.{steady}
 use Rattle.arj_lock_run_law.proofs.OtherSteps.{here_of}
 use Rattle.arj_lock_run_law.proofs.StepSteps.{aborted_stepped, ended_stepped}
 use Rattle.arj_lock_run_law.proofs.TieSteps.{none_both, on_page, page_at}
+use Rattle.arj_lock_run_law.proofs.TopSteps.{unnested_top}
 
 -- ---- lists of messages
 
@@ -127,6 +128,10 @@ module _ (c : Case) (s : Spot) (is_seen : IsSeenIn c (world_at s)) (C : Coord) (
         own kind.Constituent same stands = absurd (cc same)
         own kind.Independent same stands = absurd (cc same)
 
+    not_action : q.kind ≡ kind.Serial → is_action (let f = c.fixed in f.act u) ≡ true → is_top (let f = c.fixed in f.act u) ≡ true
+    not_action serial = subst (λ (z : Uid). is_action (let f = c.fixed in f.act z) ≡ true → is_top (let f = c.fixed in f.act z) ≡ true) (knows.good.tree.lists.places u q found)
+        (unnested_top (let f = c.fixed in f.act (actor q.path)) q.kind (let a = is_seen.agrees in let g = a.whole in g.placed (action_of q) (knows.good.known u q found)) (λ nested. cc (sym serial ∙ nested)))
+
     pub tolds_shown : AreShownSends c s T (tolds_of intents C u)
     tolds_shown = subst (λ (o : Option Branch). AreShownSends c s T (tolds_of_branch u intents C o)) (sym found) (by q.kind refl)
       where
@@ -138,7 +143,7 @@ module _ (c : Case) (s : Spot) (is_seen : IsSeenIn c (world_at s)) (C : Coord) (
 
         by : (k : Kind) → q.kind ≡ k → AreShownSends c s T (tolds_by u k q.path intents C)
         by kind.Nested k = tell_shown c s T (root_of q.path) false (up_to u (ends_of (root_of q.path) C.tree)) (servers_told u (root_at (root_of q.path) C) C) (listed_shown (root_of q.path) u)
-        by kind.Serial k = tell_shown c s T u false ((u, ending.Abort) ∷ []) (filter (λ n. not (is_deferred u intents n)) (nodes_sent u (root_at u C))) (abort_one u (inr (inl (unit_over k))))
+        by kind.Serial k = tell_shown c s T u false ((u, ending.Abort) ∷ []) (filter (λ n. not (is_deferred u intents n)) (nodes_sent u (root_at u C))) (abort_one u (inr (inl (unit_over k, not_action k))))
         by kind.Top k = top kind.Top k (λ bad. cc bad) (λ bad. cc bad)
         by kind.Constituent k = top kind.Constituent k (λ bad. cc bad) (λ bad. cc bad)
         by kind.Independent k = top kind.Independent k (λ bad. cc bad) (λ bad. cc bad)

@@ -9,7 +9,7 @@ use Rattle.arj_protocol.specs.Words.{Kind, Uid, is_on, last_uid, tops_of, uid_eq
 use Rattle.arj_protocol.specs.Words.kind
 use Rattle.arj_protocol.specs.Ask.{top_path}
 use Rattle.arj_protocol.specs.Tree.{root_of}
-use Rattle.arj_lock_law.specs.Actions.{Act, is_top, on}
+use Rattle.arj_lock_law.specs.Actions.{Act, is_action, is_top, on}
 use Rattle.arj_lock_law.proofs.Paths.{on_self}
 use Rattle.arj_part_law.specs.Actions.{Action, AreBegun, Stands, act_of, owner_in, owners_of}
 use Rattle.arj_part_law.proofs.Begun.{on_more, path_length, path_some, serial_alone}
@@ -53,6 +53,13 @@ placed_top a kind.Independent placed nested serial = placed
 placed_top a kind.Constituent placed nested serial = placed
 placed_top a kind.Nested placed nested serial = absurd (nested refl)
 placed_top a kind.Serial placed nested serial = absurd (serial refl)
+
+pub unnested_top : (a : Act) (k : Kind) → IsPlaced a k → k ≢ kind.Nested → is_action a ≡ true → is_top a ≡ true
+unnested_top a kind.Top placed nested acts = placed
+unnested_top a kind.Independent placed nested acts = placed
+unnested_top a kind.Constituent placed nested acts = placed
+unnested_top a kind.Nested placed nested acts = absurd (nested refl)
+unnested_top a kind.Serial placed nested acts = absurd (let no_way : true ≡ false = sym acts ∙ placed in cc no_way)
 
 module _ (g : Family) (all : AreOneTree g) where
   pub topped_of : (a : Action) → Contains g.begun a → a.kind ≢ kind.Serial → IsTopped g.act a.path

@@ -104,8 +104,8 @@ abbrev pub server_at : Spot → Server
 server_at s = let t = s.parts in t.server
 
 -- A server lists each copy under its object. Where an abort comes to it of an action that isn't aborted, whose unit is over, and that is new
--- to it, nothing is left there of a committed top with a surviving write, but what is below an aborted action; and where one comes of a
--- committed top whose unit isn't over, it didn't vote for that.
+-- to it, nothing is left there of a committed top with a surviving write, for which it voted, but what is below an aborted action; and where
+-- one comes of a committed top whose unit isn't over, it didn't vote for that.
 pub record KnowsServer (c : Case) (s : Spot) : Type 0 where
   pub listed : (y : ℕ) (o : Copy) → Contains {X = ℕ × Copy} (let v = server_at s in v.objects) (y, o) → at_number y (let v = server_at s in v.objects) ≡ Some o
   pub left : (u : Uid) → IsToldAbort s u → is_told u (server_at s) ≡ false → IsUnitOver c u → (IsAborted c u → ⊥) → HasNoneLeft (view_in c s.node) u (server_at s) c.state

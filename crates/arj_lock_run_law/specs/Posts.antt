@@ -7,7 +7,7 @@ use Rattle.arj_protocol.specs.Words.message
 use Rattle.arj_protocol.specs.Ask.{Reply, answers, asked_by, top_of}
 use Rattle.arj_protocol.specs.Order.{binding_number}
 use Rattle.arj_lock_law.specs.Actions as machine
-use Rattle.arj_lock_law.specs.Actions.{Root, is_top, root}
+use Rattle.arj_lock_law.specs.Actions.{Root, is_action, is_top, root}
 use Rattle.arj_lock_law.specs.State as machine_state
 use Rattle.arj_lock_law.specs.State.{State}
 use Rattle.arj_part_law.specs.Actions.{Action}
@@ -52,11 +52,11 @@ pub record IsAnswerSeen (v : View) (sent : List Post) (p : Post) (r : Asked × R
 
 -- ---- ends
 
--- An end that is told is the action's own; or it is told as an abort where the action's unit is over, or where the action is a top
+-- An end that is told is the action's own; or it is told as an abort of a top or a serializing action where the unit is over, or of a top
 -- that is committed.
 abbrev pub IsToldSo : View → State → Uid → End → Type 0
 IsToldSo v S u ending.Commit = HasEnded v S u ending.Commit
-IsToldSo v S u ending.Abort = HasEnded v S u ending.Abort ⊎ (((let a = S.action (Root (root (v.family.act u))) in a.stage) ≡ 3) ⊎ ((is_top (v.family.act u) ≡ true) × ((let a = S.action (v.family.act u) in a.stage) ≡ 3)))
+IsToldSo v S u ending.Abort = HasEnded v S u ending.Abort ⊎ ((((let a = S.action (Root (root (v.family.act u))) in a.stage) ≡ 3) × (is_action (v.family.act u) ≡ true → is_top (v.family.act u) ≡ true)) ⊎ ((is_top (v.family.act u) ≡ true) × ((let a = S.action (v.family.act u) in a.stage) ≡ 3)))
 
 abbrev pub AreToldSo : View → List (Uid × End) → State → Type 0
 AreToldSo v ends S = (u : Uid) (e : End) → Contains {X = Uid × End} ends (u, e) → IsToldSo v S u e

@@ -1,5 +1,5 @@
 -- What stays where ends are applied at a server.
-use Rattle.std.proofs.Common.{◌≡◌, ◌⊎◌, ◌∙◌, ℕ, List, [], ◌∷◌, Bool, true, false, cond, filter, map, Option, Some, None, refl, sym, ap, subst, inl, inr, ⊎_elim, arith}
+use Rattle.std.proofs.Common.{◌≡◌, ◌≢◌, ◌⊎◌, ◌∙◌, ℕ, List, [], ◌∷◌, Bool, true, false, cond, filter, map, Option, Some, None, refl, sym, ap, subst, inl, inr, ⊎_elim, arith}
 use Rattle.arj_protocol.specs.Words.{InvokedReply, Uid}
 use Rattle.arj_protocol.specs.Words.invoked
 use Rattle.arj_protocol.specs.Copy.{Copy}
@@ -7,8 +7,8 @@ use Rattle.arj_protocol.specs.Order.{binding_number}
 use Rattle.arj_lock_law.specs.Actions.{Act, In, Root, Sub, on, root, same, top}
 use Rattle.arj_lock_law.specs.Machine.{Guard, handed, with_server}
 use Rattle.arj_lock_law.specs.State as machine
-use Rattle.arj_lock_law.specs.State.{Entry, Server, State}
-use Rattle.arj_lock_law.specs.Steps.{DropRows}
+use Rattle.arj_lock_law.specs.State.{Call, Entry, Server, State}
+use Rattle.arj_lock_law.specs.Steps.{DropRows, Survives}
 use Rattle.arj_lock_law.proofs.Paths.{at_here, on_above, on_up, same_is}
 use Rattle.arj_lock_view_law.specs.Acts.{Acts}
 use Rattle.arj_lock_view_law.specs.Copies.{AreLeft, Codes, CountsForNone, IsDead, KeepsServer, MayUndo, OnlyEnds, OnlyServer}
@@ -106,8 +106,8 @@ drop_later n a S T only may = subst (Guard (DropRows n a)) (sym only.rest) (by m
     by (inl aborted) = inl aborted
     by (inr (inl over)) = inr (inl (
       over.0,
-      λ e i above committed c called write survives. (let f = only.left e i in
-          (λ is. over.1 f.0 f.1 (f.3 a above) (ap (λ (b : Act). (let z = S.action (top b) in z.stage)) (sym f.2) ∙ committed) c called write survives (is ∙ ap top f.2))),
+      λ e i above committed voted c called write survives. (let f = only.left e i in
+          (λ is. over.1 f.0 f.1 (f.3 a above) (ap (λ (b : Act). (let z = S.action (top b) in z.stage)) (sym f.2) ∙ committed) (ap (λ (b : Act). (let z = S.server n in z.voted (top b))) (sym f.2) ∙ sym (let k = only.keeps in ap (λ (g : Act → Bool). g (top e.by)) k.voted) ∙ voted) c called write survives (is ∙ ap top f.2))),
     ))
     by (inr (inr apart)) = inr (inr (apart.0, apart.1, (let k = only.keeps in ap (λ (f : Act → Bool). f a) k.voted ∙ apart.2)))
 
@@ -115,6 +115,9 @@ pub undo_later : (n : ℕ) (a : Act) (S T : State) → OnlyEnds n S T → MayUnd
 undo_later n a S T only (inl may) = inl (drop_later n a S T only may)
 undo_later n a S T only (inr over) = inr (ap (λ (s : State). (let z = s.action (Root (root a)) in z.stage)) only.rest ∙ over.0, λ e i above. (let f = only.left e i in by e f.0 f.2 f.4 (over.1 f.0 f.1 (f.3 a above))))
   where
-    by : (e f : Entry) → e.by ≡ f.by → ((b : Act) → on f.holder b ≡ true → (S.action b).stage ≡ 4 → on e.holder b ≡ true) → IsDead S f.holder a ⊎ CountsForNone S f → IsDead T e.holder a ⊎ CountsForNone T e
+    by : (e f : Entry) → e.by ≡ f.by → ((b : Act) → on f.holder b ≡ true → (S.action b).stage ≡ 4 → on e.holder b ≡ true) → IsDead S f.holder a ⊎ CountsForNone n S f → IsDead T e.holder a ⊎ CountsForNone n T e
     by e f same still (inl d) = inl (d.0, still d.0 d.1 d.3, d.2, ap (λ (s : State). (let z = s.action d.0 in z.stage)) only.rest ∙ d.3)
-    by e f same still (inr none) = inr (subst (λ (s : State). CountsForNone s e) (sym only.rest) (λ committed c called write survives is. none (ap (λ (b : Act). (let z = S.action (top b) in z.stage)) (sym same) ∙ committed) c called write survives (is ∙ ap top same)))
+    by e f same still (inr none) = inr (λ committed voted c called write survives.
+        (subst (λ (s : State). (s.action (top e.by)).stage ≡ 3 → (d : Call) → In d s.calls → d.write ≡ true → Survives s d.act → top d.act ≢ top e.by) (sym only.rest)
+        (λ three d calls writes lives is. none (ap (λ (b : Act). (let z = S.action (top b) in z.stage)) (sym same) ∙ three) (ap (λ (b : Act). (let z = S.server n in z.voted (top b))) (sym same) ∙ sym (let k = only.keeps in ap (λ (g : Act → Bool). g (top e.by)) k.voted) ∙ voted) d calls writes lives (is ∙ ap top same)))
+        committed c called write survives)

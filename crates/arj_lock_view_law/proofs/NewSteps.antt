@@ -1,5 +1,5 @@
 -- An action that begins is seen.
-use Rattle.std.proofs.Common.{◌≡◌, ◌≢◌, ◌≤◌, ◌+◌, ◌⊎◌, ◌∙◌, ◌||◌, ◌++◌, zero, suc, ℕ, List, [], ◌∷◌, true, false, cond, length, Option, Some, None, is_some, refl, sym, ap, subst, inl, inr, ⊎_elim, arith}
+use Rattle.std.proofs.Common.{◌≡◌, ◌≤◌, ◌+◌, ◌⊎◌, ◌∙◌, ◌||◌, ◌++◌, zero, suc, ℕ, List, [], ◌∷◌, true, false, cond, length, Option, Some, None, is_some, refl, sym, ap, subst, inl, inr, ⊎_elim, arith}
 use Rattle.std.specs.Prelude.{Contains, slice_get}
 use Rattle.arj_base.specs.Path.{before_last, first_uid}
 use Rattle.arj_base.specs.Rows.{front, last_uid}

@@ -62,8 +62,8 @@ module _ (v : View) (u : Uid) (s : Server) (S : State) (reached : IsReached S) (
       by (inr none) (inr off) four_or = inr (λ b up below four. ⊎_elim (λ it. differ (ap (λ (z : Act). on z (act u)) (sym it) ∙ below) off) (λ above. none b above below four) (on_up a j b up))
 
   -- a write that is left is dead, or of nobody that counts
-  undone : AreUndone S (let m = S.server v.node in m.log) (act u)
-  undone e i above = ⊎_elim (λ dead. inl dead) (λ living. inr (λ committed k called write survives same. by (at_number v.x s.objects) refl living committed k called write survives same)) (dead_on e.holder)
+  undone : AreUndone v.node S (act u)
+  undone e i above = ⊎_elim (λ dead. inl dead) (λ living. inr (λ committed voted k called write survives same. by (at_number v.x s.objects) refl living committed voted k called write survives same)) (dead_on e.holder)
     where
       holds : EntryHolds S v.node e
       holds = let all = run_values reached.1 (start_holds reached.0) (start_values reached.0) in let values = all.1 in values.logs v.node e i
@@ -71,8 +71,8 @@ module _ (v : View) (u : Uid) (s : Server) (S : State) (reached : IsReached S) (
       has : (o : Option Copy) → at_number v.x s.objects ≡ o → SeesObject act v.code v.x s.inc o (S.server v.node) S
       has o is = subst (λ (f : Option Copy). SeesObject act v.code v.x s.inc f (S.server v.node) S) is sees.object
 
-      here : (c : Copy) → at_number v.x s.objects ≡ Some c → NoneDead e.holder → CountsForNone S e
-      here c there living committed k called write survives same =
+      here : (c : Copy) → at_number v.x s.objects ≡ Some c → NoneDead e.holder → CountsForNone v.node S e
+      here c there living committed voted k called write survives same =
           let copy : SeesCopy act v.code v.x c (S.server v.node) = (has (Some c) there).0 in
           let f = held_for act v.code c.stack (let m = S.server v.node in m.log) copy.overs e i in
           let w : Uid = last_uid f.0.holder in
@@ -83,10 +83,10 @@ module _ (v : View) (u : Uid) (s : Server) (S : State) (reached : IsReached S) (
           let on_it : is_on f.0.holder t.0 ≡ true = on_path t.0 ∙ ap (on (act w)) (sym t.1) ∙ on_top (act w) in
           let unit : root (act t.0) ≡ root (act u) = ap root (sym t.1) ∙ top_root (act w) ∙ ap root (sym f.2) ∙ on_root e.holder (act u) above in
           let its_top : top e.by ≡ act t.0 = one_top e.by e.holder holds.holder holds.path ∙ ap top f.2 ∙ t.1 in
-          differ on_it (none t.0 k c f.0 unit (ap (λ (b : Act). (S.action b).stage) (sym its_top) ∙ committed) called write survives (same ∙ its_top) there (in_to f.0 c.stack f.1)
+          differ on_it (none t.0 k c f.0 unit (ap (λ (b : Act). (S.action b).stage) (sym its_top) ∙ committed) called write survives (same ∙ its_top) (ap (λ (b : Act). (let m = S.server v.node in m.voted b)) (sym its_top) ∙ voted) there (in_to f.0 c.stack f.1)
           (on_path u ∙ ap (λ (h : Act). on h (act u)) (sym f.2) ∙ above, λ z at under four. living (act z) (ap (λ (h : Act). on h (act z)) f.2 ∙ sym (on_path z) ∙ at) under four))
 
-      by : (o : Option Copy) → at_number v.x s.objects ≡ o → NoneDead e.holder → CountsForNone S e
+      by : (o : Option Copy) → at_number v.x s.objects ≡ o → NoneDead e.holder → CountsForNone v.node S e
       by None is living = let empty = has None is in absurd (subst (In e) empty.1 i)
       by (Some c) is living = here c is living
 

@@ -1,18 +1,18 @@
 -- An abort at a server goes in the machine.
-use Rattle.std.proofs.Common.{◌≡◌, ◌⊎◌, ◌∙◌, ◌++◌, not, ℕ, List, [], ◌∷◌, Bool, true, false, cond, filter, refl, sym, ap, subst, inl, inr, ⊎_elim}
+use Rattle.std.proofs.Common.{◌≡◌, ◌≢◌, ◌⊎◌, ◌∙◌, ◌++◌, not, ℕ, List, [], ◌∷◌, Bool, true, false, cond, filter, refl, sym, ap, subst, inl, inr, ⊎_elim}
 use Rattle.std.specs.List.{AllByRecursion}
 use Rattle.std.proofs.lemmas.List.Elements.{filter-append}
 use Rattle.arj_protocol.specs.Words.{Uid, Row, object, is_on, last_uid}
 use Rattle.arj_protocol.specs.Words.ending
 use Rattle.arj_protocol.specs.Copy.{Over, end_copy, undone}
-use Rattle.arj_lock_law.specs.Actions.{Act, In, Root, on, root}
+use Rattle.arj_lock_law.specs.Actions.{Act, In, Root, on, root, top}
 use Rattle.arj_lock_law.specs.Machine.{Guard, next, stay, step}
 use Rattle.arj_lock_law.specs.Rows as machine
-use Rattle.arj_lock_law.specs.State.{Entry, Server, State}
-use Rattle.arj_lock_law.specs.Steps.{DropRows}
+use Rattle.arj_lock_law.specs.State.{Call, Entry, Server, State}
+use Rattle.arj_lock_law.specs.Steps.{DropRows, Survives}
 use Rattle.arj_lock_law.proofs.Paths.{at_here, by_cases, differ, on_trans}
 use Rattle.arj_lock_view_law.specs.Acts.{Acts}
-use Rattle.arj_lock_view_law.specs.Copies.{AreHeld, AreUndone, Codes, CountsForNone, IsDead, IsOver, MayUndo, OnlyEnds, SeesCopy, SeesOvers, UndoingsAreSeen}
+use Rattle.arj_lock_view_law.specs.Copies.{AreHeld, Codes, CountsForNone, IsDead, IsOver, MayUndo, OnlyEnds, SeesCopy, SeesOvers, UndoingsAreSeen}
 use Rattle.arj_lock_view_law.specs.Going.{Goes}
 use Rattle.arj_lock_view_law.proofs.LeftSteps.{ends_both, ends_only, left_kept}
 use Rattle.arj_lock_view_law.proofs.RunSteps.{goes_then, goes_to}
@@ -89,26 +89,26 @@ abbrev AreAborted : State → Act → List Act → Type 0
 AreAborted S a bs = (b : Act) → In b bs → (on b a ≡ true) × ((S.action b).stage ≡ 4)
 
 -- each write below the action is below one of them, or counts for none
-abbrev AreBelow : State → Act → List Act → List Entry → Type 0
-AreBelow S a bs log = (e : Entry) → In e log → on e.holder a ≡ true → ((b : Act) × In b bs × (on e.holder b ≡ true)) ⊎ CountsForNone S e
+abbrev AreBelow : ℕ → State → Act → List Act → List Entry → Type 0
+AreBelow n S a bs log = (e : Entry) → In e log → on e.holder a ≡ true → ((b : Act) × In b bs × (on e.holder b ≡ true)) ⊎ CountsForNone n S e
 
-dead_of : (S : State) (a : Act) (log : List Entry) → AreUndone S log a → (bs : List Act) × AreAborted S a bs × AreBelow S a bs log
-dead_of S a [] undone = ([], (λ b i. absurd i), λ e i above. absurd i)
-dead_of S a (f ∷ es) undone = with_one (dead_of S a es (λ e i above. undone e (inr i) above)) (by_cases (on f.holder a))
+dead_of : (n : ℕ) (S : State) (a : Act) (log : List Entry) → ((e : Entry) → In e log → on e.holder a ≡ true → IsDead S e.holder a ⊎ CountsForNone n S e) → (bs : List Act) × AreAborted S a bs × AreBelow n S a bs log
+dead_of n S a [] undone = ([], (λ b i. absurd i), λ e i above. absurd i)
+dead_of n S a (f ∷ es) undone = with_one (dead_of n S a es (λ e i above. undone e (inr i) above)) (by_cases (on f.holder a))
   where
-    with_one : ((bs : List Act) × AreAborted S a bs × AreBelow S a bs es) → (on f.holder a ≡ true) ⊎ (on f.holder a ≡ false) → (bs : List Act) × AreAborted S a bs × AreBelow S a bs (f ∷ es)
+    with_one : ((bs : List Act) × AreAborted S a bs × AreBelow n S a bs es) → (on f.holder a ≡ true) ⊎ (on f.holder a ≡ false) → (bs : List Act) × AreAborted S a bs × AreBelow n S a bs (f ∷ es)
     with_one (bs, aborted, below) (inr off) = (bs, aborted, λ e i above. ⊎_elim (λ (is : e ≡ f). differ (ap (λ (y : Entry). on y.holder a) (sym is) ∙ above) off) (λ j. below e j above) i)
     with_one (bs, aborted, below) (inl above_f) = by (undone f (inl refl) above_f)
       where
-        by : IsDead S f.holder a ⊎ CountsForNone S f → (cs : List Act) × AreAborted S a cs × AreBelow S a cs (f ∷ es)
+        by : IsDead S f.holder a ⊎ CountsForNone n S f → (cs : List Act) × AreAborted S a cs × AreBelow n S a cs (f ∷ es)
         by (inl d) = (
           d.0 ∷ bs,
           (λ b i. ⊎_elim (λ (is : b ≡ d.0). subst (λ (z : Act). (on z a ≡ true) × ((S.action z).stage ≡ 4)) (sym is) (d.2, d.3)) (λ j. aborted b j) i),
           λ e i above. ⊎_elim (λ (is : e ≡ f). inl (d.0, inl refl, ap (λ (y : Entry). on y.holder d.0) is ∙ d.1)) (λ j. ⊎_elim (λ h. inl (h.0, inr h.1, h.2)) (λ none. inr none) (below e j above)) i,
         )
-        by (inr none) = (bs, aborted, λ e i above. ⊎_elim (λ (is : e ≡ f). inr (subst (CountsForNone S) (sym is) none)) (λ j. below e j above) i)
+        by (inr none) = (bs, aborted, λ e i above. ⊎_elim (λ (is : e ≡ f). inr (subst (CountsForNone n S) (sym is) none)) (λ j. below e j above) i)
 
-undo_all : (n : ℕ) (a : Act) (bs : List Act) (S : State) → (S.action (Root (root a))).stage ≡ 3 → AreAborted S a bs → AreBelow S a bs (let v = S.server n in v.log) → Goes S (λ T. (T.server n ≡ without a (S.server n)) × OnlyEnds n S T)
+undo_all : (n : ℕ) (a : Act) (bs : List Act) (S : State) → (S.action (Root (root a))).stage ≡ 3 → AreAborted S a bs → AreBelow n S a bs (let v = S.server n in v.log) → Goes S (λ T. (T.server n ≡ without a (S.server n)) × OnlyEnds n S T)
 undo_all n a [] S over aborted below = drop_goes n a S (inr (inl (over, λ e i above. ⊎_elim (λ h. absurd h.1) (λ none. none) (below e i above))))
 undo_all n a (b ∷ bs) S over aborted below =
     let its = aborted b (inl refl) in
@@ -130,15 +130,20 @@ undo_all n a (b ∷ bs) S over aborted below =
         by false is rest (inl it) = (inl it, ap (λ (y : Entry). on y.holder b) it ∙ is)
         by false is rest (inr j) = let r = rest j in (inr r.0, r.1)
 
-    left : (T : State) → T.server n ≡ without b (S.server n) → OnlyEnds n S T → AreBelow T a bs (let v = T.server n in v.log)
+    counts : (T : State) → OnlyEnds n S T → (e : Entry) → CountsForNone n S e → CountsForNone n T e
+    counts T only e none = λ committed voted c called write survives.
+        let k = only.keeps in
+        (subst (λ (s : State). (s.action (top e.by)).stage ≡ 3 → (d : Call) → In d s.calls → d.write ≡ true → Survives s d.act → top d.act ≢ top e.by) (sym only.rest) (λ three. none three (sym (ap (λ (f : Act → Bool). f (top e.by)) k.voted) ∙ voted))) committed c called write survives
+
+    left : (T : State) → T.server n ≡ without b (S.server n) → OnlyEnds n S T → AreBelow n T a bs (let v = T.server n in v.log)
     left T is only e i above =
         let k = kept e (let v = S.server n in v.log) (subst (λ (w : Server). In e w.log) is i) in
-        ⊎_elim (λ h. ⊎_elim (λ (it : h.0 ≡ b). differ (ap (on e.holder) (sym it) ∙ h.2) k.1) (λ j. inl (h.0, j, h.2)) h.1) (λ none. inr (subst (λ (s : State). CountsForNone s e) (sym only.rest) none)) (below e k.0 above)
+        ⊎_elim (λ h. ⊎_elim (λ (it : h.0 ≡ b). differ (ap (on e.holder) (sym it) ∙ h.2) k.1) (λ j. inl (h.0, j, h.2)) h.1) (λ none. inr (counts T only e none)) (below e k.0 above)
 
 -- the machine drops what the action and all below it had, where it may undo that
 pub undo_goes : (n : ℕ) (a : Act) (S : State) → MayUndo n a S → Goes S (λ T. (T.server n ≡ without a (S.server n)) × OnlyEnds n S T)
 undo_goes n a S (inl may) = drop_goes n a S may
-undo_goes n a S (inr over) = let d = dead_of S a (let v = S.server n in v.log) over.1 in undo_all n a d.0 S over.0 d.1 d.2
+undo_goes n a S (inr over) = let d = dead_of n S a (let v = S.server n in v.log) over.1 in undo_all n a d.0 S over.0 d.1 d.2
 
 pub undoings_are_seen : UndoingsAreSeen
 undoings_are_seen act code n x u c S told may sees =

@@ -132,18 +132,18 @@ pub record IsTold (act : Acts) (u : Uid) (c : Copy) : Type 0 where
 abbrev pub IsDead : State → Act → Act → Type 0
 IsDead S h a = (b : Act) × (on h b ≡ true) × (on b a ≡ true) × ((S.action b).stage ≡ 4)
 
--- it is of no committed top with a surviving write
-abbrev pub CountsForNone : State → Entry → Type 0
-CountsForNone S e = (S.action (top e.by)).stage ≡ 3 → (c : Call) → In c S.calls → c.write ≡ true → Survives S c.act → top c.act ≢ top e.by
+-- it is of no committed top with a surviving write, for which the server voted
+abbrev pub CountsForNone : ℕ → State → Entry → Type 0
+CountsForNone n S e = (S.action (top e.by)).stage ≡ 3 → (S.server n).voted (top e.by) ≡ true → (c : Call) → In c S.calls → c.write ≡ true → Survives S c.act → top c.act ≢ top e.by
 
--- each write below the action is dead, or counts for none
-abbrev pub AreUndone : State → List Entry → Act → Type 0
-AreUndone S log a = (e : Entry) → In e log → on e.holder a ≡ true → IsDead S e.holder a ⊎ CountsForNone S e
+-- each write at the server below the action is dead, or counts for none
+abbrev pub AreUndone : ℕ → State → Act → Type 0
+AreUndone n S a = (e : Entry) → In e (S.server n).log → on e.holder a ≡ true → IsDead S e.holder a ⊎ CountsForNone n S e
 
 -- The machine may drop the rows; or the unit is over, and each write below the action is dead, which the machine drops first, or counts
 -- for none.
 abbrev pub MayUndo : ℕ → Act → State → Type 0
-MayUndo n a S = Guard (DropRows n a) S ⊎ (((S.action (Root (root a))).stage ≡ 3) × AreUndone S (let v = S.server n in v.log) a)
+MayUndo n a S = Guard (DropRows n a) S ⊎ (((S.action (Root (root a))).stage ≡ 3) × AreUndone n S a)
 
 -- An end that a server takes for an abort, where the machine may drop rows, it may be after others: what the action and all below it wrote
 -- is undone, and their rows go.
