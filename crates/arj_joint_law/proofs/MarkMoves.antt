@@ -369,10 +369,10 @@ module _ (F : List ℕ → ℕ → ℕ → Bool) (c : Coord) (distinct : Distinc
           old = subst (All F) (sym at) a
 
           here : CoordCase d t from m v outs → All F v.coord
-          here (cases.OfParts same plain sent_to) = subst (All F) (sym same) old
+          here (cases.OfParts mine same plain sent_to) = subst (All F) (sym same) old
           here (cases.Asks u query same outs_are) = subst (All F) (sym same) old
           here (cases.Heard q r some same outs_are) = absurd (never (q, r) some)
-          here (cases.Acks u same outs_are) = subst (All F) same (acked_same F from u d.intents t.coord old)
+          here (cases.Acks u which same outs_are) = subst (All F) same (acked_same F from u d.intents t.coord old)
 
 -- ---- marks and calls
 

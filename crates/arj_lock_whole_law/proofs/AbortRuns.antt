@@ -255,10 +255,10 @@ module _ (begun : List Action) (e k : ℕ) (d : Disk) (t : Parts) (M : Seen) (go
               query_tells begun good.begun (paths_of begun) tree from u d.intents t.coord was_firm works b.0 found (λ nested. a.3 (ap (λ (z : Action). z.kind) (sym one) ∙ nested))
 
       runs : CoordCase d t from m v outs → Runs begun t.coord v.coord outs
-      runs (OfParts same plain sent_to) = plain_runs begun t.coord v.coord outs (parts_tell begun v.coord from (asks m) outs plain sent_to)
+      runs (OfParts mine same plain sent_to) = plain_runs begun t.coord v.coord outs (parts_tell begun v.coord from (asks m) outs plain sent_to)
       runs (Asks u query same outs_are) = plain_runs begun t.coord v.coord outs (subst (AllTell begun v.coord) outs_are (subst (λ c. AllTell begun c (answer_query from u d.intents t.coord)) (sym same) (asked u query)))
       runs (Heard a r of same outs_are) = subst (Runs begun t.coord v.coord) outs_are (subst (λ c. Runs begun t.coord c (let q = heard from a r d.intents t.coord in q.outs)) same (heard_runs begun good.begun (paths_of begun) tree from a r d.intents t.coord coord (subst (IsFirm begun good.begun (paths_of begun) tree) (sym same) (firm_of v end))))
-      runs (Acks u same outs_are) = plain_runs begun t.coord v.coord outs (subst (AllTell begun v.coord) outs_are (subst (λ c. AllTell begun c (let q = acked from u d.intents t.coord in q.outs)) same (acked_tells begun good.begun (paths_of begun) tree from u d.intents t.coord was_firm (roots u))))
+      runs (Acks u which same outs_are) = plain_runs begun t.coord v.coord outs (subst (AllTell begun v.coord) outs_are (subst (λ c. AllTell begun c (let q = acked from u d.intents t.coord in q.outs)) same (acked_tells begun good.begun (paths_of begun) tree from u d.intents t.coord was_firm (roots u))))
 
   -- ---- inputs and ticks
 

@@ -124,10 +124,10 @@ module _ (begun : List Action) (e k : ℕ) (d : Disk) (t : Parts) (M : Seen) (bo
   message_walk from m v outs there is = walk_on v outs (by (coord_case k d t v from m outs is))
     where
       by : CoordCase d t from m v outs → Avoids (WasAvoided M.sent) v.coord
-      by (OfParts same plain sent_to) = subst (Avoids (WasAvoided M.sent)) (sym same) own
-      by (Asks u query same outs_are) = subst (Avoids (WasAvoided M.sent)) (sym same) own
+      by (OfParts mine same plain sent_to) = subst (Avoids (WasAvoided M.sent)) (sym same) own
+      by (Asks u which same outs_are) = subst (Avoids (WasAvoided M.sent)) (sym same) own
       by (Heard a r of same outs_are) = subst (Avoids (WasAvoided M.sent)) same (avoids_heard (WasAvoided M.sent) (none_was M.sent) M.sent k t.coord place own from a r d.intents (answers_fit begun e k d t M good bound_all from m there a r of))
-      by (Acks u same outs_are) = subst (Avoids (WasAvoided M.sent)) same (avoids_acked (WasAvoided M.sent) (none_was M.sent) M.sent k t.coord place own from u d.intents)
+      by (Acks u which same outs_are) = subst (Avoids (WasAvoided M.sent)) same (avoids_acked (WasAvoided M.sent) (none_was M.sent) M.sent k t.coord place own from u d.intents)
 
   pub act_walk : (hd : Header) (i : Input) → is_act i ≡ true → refusal_up hd i t.coord ≡ None → Walks AvoidsAreKnown e k (let r = acts_of i d.intents t.coord in r.outs) (Up AvoidsAreKnown k (with_coord t (acts_of i d.intents t.coord).part)) d M
   act_walk hd i is free =

@@ -120,13 +120,13 @@ module _ (P : ℕ → Goal → Type 0) (O : ℕ → Type 0) where
         (by (coord_case k d t v from m outs is))
       where
         by : CoordCase d t from m v outs → AsksOf v.coord
-        by (OfParts same plain sent_to) = subst AsksOf (sym same) own
+        by (OfParts mine same plain sent_to) = subst AsksOf (sym same) own
         by (Asks u query same outs_are) = subst AsksOf (sym same) own
         by (Heard a r of same outs_are) = subst AsksOf same (wait_heard P M.sent k t.coord place own.0 from a r d.intents fits, uses_heard O M.sent k t.coord place own.1 from a r d.intents fits)
           where
             fits : AnswersWaiting from a r t.coord
             fits = answers_fit begun e k d t M good bound_all from m there a r of
-        by (Acks u same outs_are) = subst AsksOf same (wait_acked P M.sent k t.coord place own.0 from u d.intents, uses_acked O M.sent k t.coord place own.1 from u d.intents)
+        by (Acks u which same outs_are) = subst AsksOf same (wait_acked P M.sent k t.coord place own.0 from u d.intents, uses_acked O M.sent k t.coord place own.1 from u d.intents)
 
     pub act_walk : (hd : Header) (i : Input) → ((x : ℕ) (o : Op) → is_some (class_at x hd) ≡ true → lacks_op o (class_at x hd) ≡ false → P x (Run o)) → ((l : Label) (x s : ℕ) → i ≡ input.Include l x s → is_some (class_at x hd) ≡ true → P x (Include s)) → ((x : ℕ) → is_some (class_at x hd) ≡ true → O x) → is_act i ≡ true → refusal_up hd i t.coord ≡ None → Walks (CallsOf P O) e k (let r = acts_of i d.intents t.coord in r.outs) (Up (CallsOf P O) k (with_coord t (acts_of i d.intents t.coord).part)) d M
     act_walk hd i runs includes of is free = let r = acts_of i d.intents t.coord in walk_on (with_coord t r.part) r.outs (acts_say P t.coord own.0 i d.intents other) (wait_acts P M.sent k t.coord place own.0 hd i d.intents runs includes free other, uses_acts O M.sent k t.coord place own.1 hd i d.intents of free other)

@@ -15,10 +15,10 @@ use Rattle.arj_lock_run_law.proofs.LeftSteps.{AreSentTo, Leaves, message_left}
 use Rattle.arj_lock_run_law.proofs.WalkSteps.{leaves}
 
 pub data CoordCase (d : Disk) (t : Parts) (from : ℕ) (m : Message) (v : Parts) (outs : List Effect) : Type 0 where
-  OfParts : v.coord ≡ t.coord → AreAll leaves outs → AreSentTo from (asks m) outs → CoordCase d t from m v outs
+  OfParts : is_for_parts m ≡ true → v.coord ≡ t.coord → AreAll leaves outs → AreSentTo from (asks m) outs → CoordCase d t from m v outs
   Asks : (u : Uid) → m ≡ message.Query (record { act = u }) → v.coord ≡ t.coord → answer_query from u d.intents t.coord ≡ outs → CoordCase d t from m v outs
   Heard : (a : Asked) (r : Reply) → answers m ≡ Some (a, r) → (let q = heard from a r d.intents t.coord in q.part) ≡ v.coord → (let q = heard from a r d.intents t.coord in q.outs) ≡ outs → CoordCase d t from m v outs
-  Acks : (u : Uid) → (let q = acked from u d.intents t.coord in q.part) ≡ v.coord → (let q = acked from u d.intents t.coord in q.outs) ≡ outs → CoordCase d t from m v outs
+  Acks : (u : Uid) → m ≡ message.Acked (record { act = u }) → (let q = acked from u d.intents t.coord in q.part) ≡ v.coord → (let q = acked from u d.intents t.coord in q.outs) ≡ outs → CoordCase d t from m v outs
 
 pub coord_case : (k : ℕ) (d : Disk) (t v : Parts) (from : ℕ) (m : Message) (outs : List Effect) → handle k d t from m ≡ Took v outs → CoordCase d t from m v outs
 coord_case k d t v from m outs is = by (is_for_parts m) refl
@@ -35,12 +35,12 @@ coord_case k d t v from m outs is = by (is_for_parts m) refl
     other apart (Some (u, true)) of =
         let taken = subst (λ (z : Message). handle k d t from z ≡ Took v outs) (is_acked m u of) is in
         let q = took_heard t v (acked from u d.intents t.coord) outs taken in
-        Acks u (ap (λ (z : Parts). z.coord) q.0) q.1
+        Acks u (is_acked m u of) (ap (λ (z : Parts). z.coord) q.0) q.1
     other apart (Some (u, false)) of =
         let taken : Took t (answer_query from u d.intents t.coord) ≡ Took v outs = subst (λ (z : Message). handle k d t from z ≡ Took v outs) (is_query m u of) is in
         let same : t ≡ v = cc taken in
         Asks u (is_query m u of) (ap (λ (z : Parts). z.coord) (sym same)) (cc taken)
 
     by : (b : Bool) → is_for_parts m ≡ b → CoordCase d t from m v outs
-    by true mine = let l = subst (Leaves t from (asks m)) is (message_left k d t from m mine) in let w = l.0 in OfParts w.coord w.plain l.1
+    by true mine = let l = subst (Leaves t from (asks m)) is (message_left k d t from m mine) in let w = l.0 in OfParts mine w.coord w.plain l.1
     by false apart = other apart (coordinated m) refl

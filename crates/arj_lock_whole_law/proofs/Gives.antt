@@ -81,6 +81,7 @@ use Rattle.arj_lock_whole_law.specs.Avoids.{Avoids, WasAvoided}
 use Rattle.arj_lock_whole_law.specs.Rest.{GivesRest}
 use Rattle.arj_lock_whole_law.specs.Whole.{KnowsWhole}
 use Rattle.arj_lock_whole_law.proofs.AbortGives.{unconfirmed, unvoted}
+use Rattle.arj_lock_whole_law.proofs.Drained.{none_left}
 use Rattle.arj_lock_whole_law.proofs.Avoids.{avoids_by, renewed_at}
 use Rattle.arj_lock_whole_law.proofs.AvoidWalks.{avoids_to}
 use Rattle.arj_lock_whole_law.proofs.Of.{walk_end}
@@ -376,7 +377,7 @@ module _ (hd : Header) (x : ℕ) (has : HasObject hd x) (E : List Action → See
         parted = whole.parted;
         server = record {
           listed = listed;
-          left = λ u told new over never. rest.left begun S s u (knows, more) seen told new over never;
+          left = λ u told new over never. none_left f x begun S s seen whole.aborts whole.acks (λ t c three called writes survives same. rest.recorded begun S (world_at s) t c (knows, more) seen three called writes survives same) u told never;
           unvoted = λ u told new top open_unit. unvoted f x begun S s seen whole.parted whole.records whole.aborts u told top open_unit;
         };
         naming = λ n is. record {
@@ -432,4 +433,4 @@ module _ (hd : Header) (x : ℕ) (has : HasObject hd x) (E : List Action → See
   -- where no more is known of the machine's state
   pub gives_alone : GivesRest f x (λ b T N. Known_all b N) → GivesLocks hd f x (λ b T N. Known_all b N)
   gives_alone rest = gives_by hd f x (λ b T N. Known_all b N × ⊤) (λ b T N. Known_all b N) (λ b T N q. (q, tt))
-      (gives_locks (λ b T N. ⊤) (record { left = λ b T s u q. rest.left b T s u q.0; last = λ b T s from m a q. rest.last b T s from m a q.0 }))
+      (gives_locks (λ b T N. ⊤) (record { recorded = λ b T N t k q. rest.recorded b T N t k q.0; last = λ b T s from m a q. rest.last b T s from m a q.0 }))

@@ -13,6 +13,12 @@ pub mod AvoidWalks
 pub mod Called
 pub mod CalledSays
 pub mod CalledWalks
+pub mod AckSteps
+pub mod AckTells
+pub mod AckOuts
+pub mod AckServes
+pub mod AckWalks
+pub mod Drained
 pub mod Whole
 pub mod Gives
 pub mod WholeRuns

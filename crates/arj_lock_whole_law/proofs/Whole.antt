@@ -16,6 +16,8 @@ use Rattle.arj_call_law.specs.Runs.{KnowsFew}
 use Rattle.arj_call_law.proofs.MadeLines.{counts_are_said}
 use Rattle.arj_line_law.specs.Knows.{IsKept}
 use Rattle.arj_line_law.proofs.Runs.{lines_keep}
+use Rattle.arj_past_law.specs.Told.{ArePastIn}
+use Rattle.arj_past_law.proofs.Past.{past_of}
 use Rattle.arj_disk_run_law.specs.Records.{AreRecorded}
 use Rattle.arj_disk_run_law.proofs.RecordWalks.{KeptBy, format_recorded, kept_walk, message_kept, recorded_more, restart_recorded, stop_recorded, tick_kept}
 use Rattle.arj_disk_run_law.proofs.Telling.{acked_kept, acts_kept, heard_kept, same_kept}
@@ -33,10 +35,12 @@ use Rattle.arj_lock_fact_law.proofs.Requests.{requests_keep}
 use Rattle.arj_lock_fact_law.proofs.UpperWalks.{uppers_of}
 use Rattle.arj_lock_fact_law.proofs.Works.{works_keep}
 use Rattle.arj_lock_whole_law.specs.Aborts.{AbortsAreKnown}
+use Rattle.arj_lock_whole_law.specs.Acks.{AcksAreKnown}
 use Rattle.arj_lock_whole_law.specs.Avoids.{AvoidsAreKnown}
 use Rattle.arj_lock_whole_law.specs.Tops.{HoldsNames, TopsAreKnown}
 use Rattle.arj_lock_whole_law.specs.Whole.{KnowsWhole}
 use Rattle.arj_lock_whole_law.proofs.AbortRuns.{AbortsNeed, aborts_of}
+use Rattle.arj_lock_whole_law.proofs.AckWalks.{AcksNeed, acks_of}
 use Rattle.arj_lock_whole_law.proofs.AvoidWalks.{avoids_of}
 use Rattle.arj_lock_whole_law.proofs.Names.{held_names}
 use Rattle.arj_lock_whole_law.proofs.Of.{of_as, of_both, of_kept, of_more}
@@ -130,17 +134,30 @@ module _ (hd : Header) (x : ℕ) (has : HasObject hd x) where
   abbrev Told : List Action → Seen → Type 0
   Told begun M = IsKept M × AbortsAreKnown begun M
 
+  abbrev Acked : List Action → Seen → Type 0
+  Acked begun M = ArePastIn begun M × AcksAreKnown begun M
+
+  abbrev Ends : List Action → Seen → Type 0
+  Ends begun M = Told begun M × Acked begun M
+
   abbrev Whole : List Action → Seen → Type 0
-  Whole begun M = All begun M × Told begun M
+  Whole begun M = All begun M × Ends begun M
 
   told : KeepsOf hd (With All) Told
   told = of_both hd (With All) (λ begun M. IsKept M) AbortsAreKnown (of_kept hd (λ begun M. With All begun M × AbortsAreKnown begun M) IsKept (lines_keep hd))
       (of_more hd AbortsNeed (λ begun M. With All begun M × IsKept M) AbortsAreKnown (λ begun M h. ((h.1.1, (let z = h.0.1 in z.1.1.1.1)), ((let z = h.0.1 in z.0.1), (let z = h.0.1 in z.1.1.1.0)))) (aborts_of hd))
 
+  acked : KeepsOf hd (With All) Acked
+  acked = of_both hd (With All) ArePastIn AcksAreKnown (of_more hd (λ begun M. ⊤) (λ begun M. With All begun M × AcksAreKnown begun M) ArePastIn (λ begun M h. tt) (past_of hd))
+      (of_more hd AcksNeed (λ begun M. With All begun M × ArePastIn begun M) AcksAreKnown (λ begun M h. (h.0.0, (h.1, (let z = h.0.1 in (z.1.1.1.0, (z.1.1.1.1, z.1.0.0.0)))))) (acks_of hd))
+
+  ends : KeepsOf hd (With All) Ends
+  ends = of_both hd (With All) Told Acked (of_more hd (With All) (λ begun M. With All begun M × Acked begun M) Told (λ begun M h. h.0) told) (of_more hd (With All) (λ begun M. With All begun M × Told begun M) Acked (λ begun M h. h.0) acked)
+
   whole : KeepsOf hd Few Whole
-  whole = of_both hd Few All Told (more Told All all) told
+  whole = of_both hd Few All Ends (more Ends All all) ends
 
   pub whole_of : KeepsOf hd (λ begun M. KnowsFew M) (KnowsWhole x)
   whole_of = of_as hd Few Whole (KnowsWhole x)
-      (λ begun M w. let z = w.0 in record { names = z.0.0; tops = z.0.1; works = z.1.0.0.0; avoids = z.1.0.0.1; grants = z.1.0.1.0; requests = z.1.0.1.1; counts = z.1.1.0.0; entry = z.1.1.0.1; records = z.1.1.1.0; parted = z.1.1.1.1; written = w.1.0; aborts = w.1.1 })
-      (λ begun M w. (((w.names, w.tops), (((w.works, w.avoids), (w.grants, w.requests)), ((w.counts, w.entry), (w.records, w.parted)))), (w.written, w.aborts))) whole
+      (λ begun M w. let z = w.0 in record { names = z.0.0; tops = z.0.1; works = z.1.0.0.0; avoids = z.1.0.0.1; grants = z.1.0.1.0; requests = z.1.0.1.1; counts = z.1.1.0.0; entry = z.1.1.0.1; records = z.1.1.1.0; parted = z.1.1.1.1; written = w.1.0.0; aborts = w.1.0.1; past = w.1.1.0; acks = w.1.1.1 })
+      (λ begun M w. (((w.names, w.tops), (((w.works, w.avoids), (w.grants, w.requests)), ((w.counts, w.entry), (w.records, w.parted)))), ((w.written, w.aborts), (w.past, w.acks)))) whole

@@ -2,8 +2,8 @@
 ghost use Rattle.arj_lock_whole_law.specs.Runs.{HandlersKeepWhole, RunsAreLocked, RunsAreSerial, RunsAreTied, RunsCallObjects, RunsHaveVotes, RunsIncludeObjects, RunsSeeLocks};
 
 /// Each handler before which few bindings were made keeps all that is known of the protocol alone, for the actions that were begun, wherever
-/// a stop falls: of naming and its locks, of questions and what is prepared, of records, of coordinators and what they ask and avoid. It
-/// does nothing when it runs.
+/// a stop falls: of naming and its locks, of questions and what is prepared, of records, of coordinators and what they ask and avoid, of
+/// aborts that are told, and of who acknowledges commits. It does nothing when it runs.
 pub fn handlers_keep_the_whole()
     ensures { HandlersKeepWhole }
 {}
