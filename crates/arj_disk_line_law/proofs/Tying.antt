@@ -134,7 +134,7 @@ tied_first Idle W M none empty = ((λ u n here d. absurd (never d (ap (λ ds. is
 pub was_up : {A : Type 0} (t : Parts) → Some t ≡ None → A
 was_up t is = absurd (cc is)
 
-module _ (hd : Header) (x : ℕ) (R G : Seen → Type 0) (P : Kinds → Office → Seen → Type 0) (Idle : List Line → Uid → Type 0) (kept : Keeps hd R) (parts : KeepsPart hd x (λ M. R M × G M) P) (idles : KnowsIdle R Idle) where
+module _ (hd : Header) (x : ℕ) (R G : Seen → Type 0) (P : Kinds → Office → Seen → Type 0) (Idle : List Line → Uid → Type 0) (kept : Keeps hd R) (parts : KeepsPart hd x (λ W M. R M × G M) P) (idles : KnowsIdle R Idle) where
   abbrev pub Both : Seen → Type 0
   Both M = R M × IsKept M
 
@@ -192,7 +192,7 @@ module _ (hd : Header) (x : ℕ) (R G : Seen → Type 0) (P : Kinds → Office �
   goes_from : (o : Change) (A C : Office) → C.world ≡ A.world → machine.Whole A.world → (B : Office) → Changes o C B → Goes A.world B.world
   goes_from o A C same whole B c = subst (λ W. Goes W B.world) same (goes_by o C B (subst machine.Whole (sym same) whole) c)
 
-  pub tied_part : KeepsPart hd x (λ M. Both M × G M) (WithTie P Idle)
+  pub tied_part : KeepsPart hd x (λ W M. Both M × G M) (WithTie P Idle)
   tied_part = record {
     quiet = λ tops e bs M A walk quiet r both (part, tie) B changed seen. let w = lines_too.quiet e bs M quiet r.0.1 in (
       parts.quiet tops e bs M A walk quiet (r.0.0, r.1) both part B changed seen,
@@ -265,7 +265,7 @@ one_act (x ∷ xs) apart a b (inr i) (inr j) same = one_act xs apart.3 a b i j s
 abbrev pub IsJournalledBeside : (Kinds → Office → Seen → Type 0) → ℕ → Seen → Type 0
 IsJournalledBeside P x M = (j : IsJournalled x M) × (A : Office) × (A.world ≡ j.machine) × P j.tops A M × KnowsFew M
 
-pub journalled_beside : (hd : Header) (x : ℕ) (R : Seen → Type 0) (P : Kinds → Office → Seen → Type 0) → Keeps hd R → KeepsPart hd x (λ M. R M × KnowsScript M) P → (es : List Asked) → length es ≤ most_events → Holds hd (IsJournalledBeside P x) (run_all es (format hd))
+pub journalled_beside : (hd : Header) (x : ℕ) (R : Seen → Type 0) (P : Kinds → Office → Seen → Type 0) → Keeps hd R → KeepsPart hd x (λ W M. R M × KnowsScript M) P → (es : List Asked) → length es ≤ most_events → Holds hd (IsJournalledBeside P x) (run_all es (format hd))
 journalled_beside hd x R P kept parts es short =
     let Idle : List Line → Uid → Type 0 = λ ls u. IsIdle (book ls) u in
     let idles = knows_idle R in
@@ -308,7 +308,7 @@ journalled_beside hd x R P kept parts es short =
         let same = one_act (acts_of lines) sound.distinct p a (subst (λ xs. Among p xs) b.begun (in_from p (let B = book lines in B.acts) its)) (in_from a (acts_of lines) there) uid in
         absurd (never (ap (λ (y : Act). is_top y.kind) same ∙ top) plain)
 
-journalled : (hd : Header) (x : ℕ) (R : Seen → Type 0) (P : Kinds → Office → Seen → Type 0) → Keeps hd R → KeepsPart hd x (λ M. R M × KnowsScript M) P → (es : List Asked) → length es ≤ most_events → Holds hd (IsJournalled x) (run_all es (format hd))
+journalled : (hd : Header) (x : ℕ) (R : Seen → Type 0) (P : Kinds → Office → Seen → Type 0) → Keeps hd R → KeepsPart hd x (λ W M. R M × KnowsScript M) P → (es : List Asked) → length es ≤ most_events → Holds hd (IsJournalled x) (run_all es (format hd))
 journalled hd x R P kept parts es short = let h = journalled_beside hd x R P kept parts es short in record { sent = h.sent; stands = h.stands; holds = h.holds.0 }
 
 pub runs_are_journalled : RunsAreJournalled

@@ -71,7 +71,7 @@ pub record IsJournalled (x : ℕ) (M : Seen) : Type 0 where
 -- What is kept beside the machine's state of what coordinators have and messages claim has it in the run of every script: nodes are
 -- good there, and calls are known while few bindings were made.
 abbrev pub RunsAreJournalled : Type 0
-RunsAreJournalled = (hd : Header) (x : ℕ) (part : Kinds → Office → Seen → Bool) → KeepsPart hd x (λ M. IsGood M × KnowsFew M) (λ tops A M. part tops A M ≡ true)
+RunsAreJournalled = (hd : Header) (x : ℕ) (part : Kinds → Office → Seen → Bool) → KeepsPart hd x (λ W M. IsGood M × KnowsFew M) (λ tops A M. part tops A M ≡ true)
     → (es : List Asked) → length es ≤ most_events → Holds hd (IsJournalled x) (run_all es (format hd))
 
 -- So it is with what is still taken of the relation that is built of it, for an object of the header.

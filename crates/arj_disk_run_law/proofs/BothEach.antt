@@ -13,6 +13,7 @@ use Rattle.arj_protocol.specs.Order.{uid_number}
 use Rattle.arj_protocol.specs.Step.{Node, acts, parent_of, parts_in, restart_outs}
 use Rattle.arj_protocol.specs.World.{Asked, format, is_serial_kind, run_all}
 use Rattle.arj_disk_law.specs.Guards.{only_decides}
+use Rattle.arj_disk_law.specs.Effects.{World}
 use Rattle.arj_disk_law.specs.Names.{Office}
 use Rattle.arj_disk_law.specs.State.{Packed}
 use Rattle.arj_disk_law.proofs.Base.{test_same}
@@ -46,7 +47,7 @@ use Rattle.arj_disk_view_law.specs.Formats.{HasObject}
 use Rattle.arj_disk_run_law.specs.Bindings.{AreGoodCounted, KnowsScript}
 use Rattle.arj_line_law.specs.Knows.{IsKept}
 use Rattle.arj_line_law.proofs.Runs.{lines_keep}
-use Rattle.arj_disk_run_law.specs.Rest.{IsCountedWith, IsKnownWith, KeepsHeard, SeesCarried}
+use Rattle.arj_disk_run_law.specs.Rest.{IsCountedWith, IsKnownWith, KeepsHeard, KeepsHeardBeside, SeesCarried}
 use Rattle.arj_disk_run_law.proofs.Begun.{kinds_agree}
 use Rattle.arj_disk_run_law.proofs.Bindings.{good_counted, names_own, records_free_in}
 use Rattle.arj_disk_run_law.proofs.Copies.{copies_agree}
@@ -89,7 +90,7 @@ counted x tops k d t M m A n knows have both of is it = record {
     here = let e = mine_of x k d (Some t) M have (ap (λ z. 1 == z) (knows.naming_here n is).0) in subst (λ o. KnowsEntries x o d.names) is (e.live t refl)
 
 -- where more holds before each handler
-pub both_each : (hd : Header) (x : ℕ) (R G : Seen → Type 0) (P : Kinds → Office → Seen → Type 0) → KeepsPart hd x (λ M. R M × G M) P → KeepsEach hd x (λ M. (R M × HaveEntries x M) × G M) (IsCarried P x)
+pub both_each : (hd : Header) (x : ℕ) (R G : Seen → Type 0) (P : Kinds → Office → Seen → Type 0) → KeepsPart hd x (λ W M. R M × G M) P → KeepsEach hd x (λ M. (R M × HaveEntries x M) × G M) (IsCarried P x)
 both_each hd x R G P parts = record {
   sees = λ tops M s. (s.0.world, s.1.disks);
   quiet = λ tops e bs M walk quiet r (A, both, part). let s = lines_keep_both x tops e bs A M walk both (lines_seen x (followed tops A.world (λ n. false)) e bs M (A.world, walks_start x tops (λ n. false) A M both)) in (s.0, s.2, parts.quiet tops e bs M A walk quiet (r.0.0, r.1) both part s.0 s.1 s.2);
@@ -110,7 +111,7 @@ both_each hd x R G P parts = record {
 }
 
 -- entries at naming are kept beside, where both halves of the object are seen at first
-pub with_entries : (hd : Header) (x : ℕ) (R S : Seen → Type 0) (P : Kinds → Office → Seen → Type 0) → KeepsPart hd x S P → Keeps hd R → Keeps hd (λ M. R M × HaveEntries x M)
+pub with_entries : (hd : Header) (x : ℕ) (R S : Seen → Type 0) (P : Kinds → Office → Seen → Type 0) → KeepsPart hd x (λ W M. S M) P → Keeps hd R → Keeps hd (λ M. R M × HaveEntries x M)
 with_entries hd x R S P parts kept = kept_both hd R (HaveEntries x) kept (keeps_given hd R (HaveEntries x) (keeps_entries x hd there))
   where
     none : Agrees (kinds_of []) []
@@ -131,7 +132,7 @@ with_entries hd x R S P parts kept = kept_both hd R (HaveEntries x) kept (keeps_
 
 -- Both halves of the object's machine are carried through a run beside a relation that is kept: so it is with whatever follows where nodes
 -- have their numbers.
-pub runs_beside : (hd : Header) (x : ℕ) (R : Seen → Type 0) (P : Kinds → Office → Seen → Type 0) → Keeps hd R → KeepsPart hd x (λ M. R M × KnowsScript M) P → (G : Seen → Type 0)
+pub runs_beside : (hd : Header) (x : ℕ) (R : Seen → Type 0) (P : Kinds → Office → Seen → Type 0) → Keeps hd R → KeepsPart hd x (λ W M. R M × KnowsScript M) P → (G : Seen → Type 0)
     → ((M : Seen) → ((k : ℕ) (n : Node) → M.nodes k ≡ Some n → n.number ≡ k) → KnowsFew M → IsKeptInRun (λ N. R N × HaveEntries x N) (IsCarried P x) M → G M) → (es : List Asked) → length es ≤ most_events → Holds hd G (run_all es (format hd))
 runs_beside hd x R P kept parts G gives es short =
     let r = script_holds hd (IsKeptInRun Known Q) (all_keep hd x Known KnowsScript Q known_everywhere (gives_votes Known) (both_each hd x R KnowsScript P parts)) es short in
@@ -150,7 +151,7 @@ runs_beside hd x R P kept parts G gives es short =
 pub kinds_there : (R : Seen → Type 0) (Q : Kinds → Seen → Type 0) (M : Seen) (h : IsKeptInRun R Q M) → Agrees (kinds_of h.0) h.0
 kinds_there R Q M h = let g = h.1 in kinds_agree h.0 (let k = g.0 in k.begun) g.1
 
-agree_beside : (hd : Header) (x : ℕ) (R : Seen → Type 0) (P : Kinds → Office → Seen → Type 0) → Keeps hd R → KeepsPart hd x (λ M. R M × KnowsScript M) P → (es : List Asked) → length es ≤ most_events → Holds hd (CopiesAgree x) (run_all es (format hd))
+agree_beside : (hd : Header) (x : ℕ) (R : Seen → Type 0) (P : Kinds → Office → Seen → Type 0) → Keeps hd R → KeepsPart hd x (λ W M. R M × KnowsScript M) P → (es : List Asked) → length es ≤ most_events → Holds hd (CopiesAgree x) (run_all es (format hd))
 agree_beside hd x R P kept parts = runs_beside hd x R P kept parts (CopiesAgree x)
     (λ M numbers few h. let s = h.1.5 (kinds_of h.0) (kinds_there (λ N. R N × HaveEntries x N) (IsCarried P x) M h) in copies_agree x (kinds_of h.0) s.0.world M s.1.disks)
 
@@ -158,12 +159,18 @@ pub runs_agree : RunsAgree
 runs_agree hd x part parts es short = agree_beside hd x IsGood (λ tops A M. part tops A M ≡ true) (parts_good hd) (part_few hd x IsGood (λ tops A M. part tops A M ≡ true) parts) es short
 
 -- what is kept beside, where naming's bindings are its own
-pub heard_part : (hd : Header) (x : ℕ) (test : Seen → Bool) → HasObject hd x → KeepsHeard hd x test → KeepsPart hd x (IsKnownWith test) (SeesCarried x)
-heard_part hd x test has rest = heard_kept hd x (IsKnownWith test) (λ M r. ((let g = r.0.0.0 in g.0.0.0), (let s = r.1 in s.0))) (λ M r. let g = r.0.0.0 in let s = r.1 in (names_own M g s.0, g.0.0.1, records_free_in M g s.0, r.0.0.1, s.1)) has rest.naming
+pub heard_beside : (hd : Header) (x : ℕ) (test : Seen → Bool) (Z : World → Seen → Type 0) → HasObject hd x → KeepsHeardBeside hd x test Z → KeepsPart hd x (λ W M. IsKnownWith test M × Z W M) (SeesCarried x)
+heard_beside hd x test Z has rest = heard_kept hd x (λ W M. IsKnownWith test M × Z W M) (λ W M q. let r = q.0 in ((let g = r.0.0.0 in g.0.0.0), (let s = r.1 in s.0))) (λ W M q. let r = q.0 in let g = r.0.0.0 in let s = r.1 in (names_own M g s.0, g.0.0.1, records_free_in M g s.0, r.0.0.1, s.1)) has rest.naming
+
+pub heard_part : (hd : Header) (x : ℕ) (test : Seen → Bool) → HasObject hd x → KeepsHeard hd x test → KeepsPart hd x (λ W M. IsKnownWith test M) (SeesCarried x)
+heard_part hd x test has rest = heard_kept hd x (λ W M. IsKnownWith test M) (λ W M r. ((let g = r.0.0.0 in g.0.0.0), (let s = r.1 in s.0))) (λ W M r. let g = r.0.0.0 in let s = r.1 in (names_own M g s.0, g.0.0.1, records_free_in M g s.0, r.0.0.1, s.1)) has rest.naming
 
 -- with a test that is kept nodes are good and bindings counted
+pub counted_by : (hd : Header) (test : Seen → Bool) → Keeps hd (λ M. test M ≡ true) → Keeps hd (IsCountedWith test)
+counted_by hd test kept = kept_both hd (λ M. AreGoodCounted M × IsKept M) (λ M. test M ≡ true) (kept_both hd AreGoodCounted IsKept (good_counted hd) (keeps_given hd AreGoodCounted IsKept (lines_keep hd))) (keeps_given hd (λ M. AreGoodCounted M × IsKept M) (λ M. test M ≡ true) kept)
+
 pub counted_with : (hd : Header) (x : ℕ) (test : Seen → Bool) → KeepsHeard hd x test → Keeps hd (IsCountedWith test)
-counted_with hd x test rest = kept_both hd (λ M. AreGoodCounted M × IsKept M) (λ M. test M ≡ true) (kept_both hd AreGoodCounted IsKept (good_counted hd) (keeps_given hd AreGoodCounted IsKept (lines_keep hd))) (keeps_given hd (λ M. AreGoodCounted M × IsKept M) (λ M. test M ≡ true) rest.kept)
+counted_with hd x test rest = counted_by hd test rest.kept
 
 pub heard_runs_agree : HeardRunsAgree
 heard_runs_agree hd x test has rest es short = agree_beside hd x (IsCountedWith test) (SeesCarried x) (counted_with hd x test rest) (heard_part hd x test has rest) es short

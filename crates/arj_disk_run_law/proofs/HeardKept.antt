@@ -102,7 +102,7 @@ module _ (x : ℕ) (tops : Kinds) where
         on B c = subst (λ (W : World). IsLater W B.world) same (later_by o C B (let s = seen.disks in s.whole) c)
 
 -- where this holds nodes are good and know their tops, and naming's bindings are its own
-pub heard_kept : (hd : Header) (x : ℕ) (R : Seen → Type 0) → ((M : Seen) → R M → IsGood M × KnowsFew M) → ((M : Seen) → R M → AllNameOwn M × AllKnowTops M × RecordsAreFree M × IsKept M × HasFewLabels M) → HasObject hd x → GivesNaming x R → KeepsPart hd x R (SeesCarried x)
+pub heard_kept : (hd : Header) (x : ℕ) (R : World → Seen → Type 0) → ((W : World) (M : Seen) → R W M → IsGood M × KnowsFew M) → ((W : World) (M : Seen) → R W M → AllNameOwn M × AllKnowTops M × RecordsAreFree M × IsKept M × HasFewLabels M) → HasObject hd x → GivesNaming x R → KeepsPart hd x R (SeesCarried x)
 heard_kept hd x R good knows_more has gives = record {
   quiet = λ tops e bs M A walk quiet r both p B only now. let w = p.1 in (
     heard_quiet x tops e bs M A B (fixed_in x tops A M both) (let s = now.disks in s.fixed) both.named now.named only p.0,
@@ -121,13 +121,13 @@ heard_kept hd x R good knows_more has gives = record {
   message = λ tops e k d t v from m outs M A walk knows r sent meant is of owned both p.
       let at : IsHeardAt x R tops A (k, d, t) M = record { unwalked = walk; knows = knows; run = r; both = both; heard = p.0; versions = (let w = p.1 in w.0); decided = (let w = p.1 in w.1) } in
       let h = heard_message x R good gives tops e k d t v from m outs M A of at
-      (λ n named. (knows_more _ r).0 k (record { number = k; disk = d; live = Some t }) t n (node_here M k (record { number = k; disk = d; live = Some t })) refl named)
-      (let w = knows_more _ r in w.2) (let tops = (knows_more _ r).1 k (record { number = k; disk = d; live = Some t }) t (node_here M k (record { number = k; disk = d; live = Some t })) refl in tops.uses) sent owned meant is in
+      (λ n named. (knows_more _ _ r).0 k (record { number = k; disk = d; live = Some t }) t n (node_here M k (record { number = k; disk = d; live = Some t })) refl named)
+      (let w = knows_more _ _ r in w.2) (let tops = (knows_more _ _ r).1 k (record { number = k; disk = d; live = Some t }) t (node_here M k (record { number = k; disk = d; live = Some t })) refl in tops.uses) sent owned meant is in
       let o = h.0 in
-      let w = handled_so x (IsKnownVersion A.world.disk) (known_short x tops A (up k d t M) both (let z = p.0 in z.kinds) (let w = p.1 in w.1) (let q = (knows_more _ r).3 in q.1) (knows_more _ r).4) k d t from (mine x tops k d M A t both p.1) (held_known x tops A k d t M both) m v outs meant (let z = (let w = p.1 in w.0) in z.posts (record { from = from; to = k; message = m }) sent) (gives.raised tops k d t v from m outs M A at sent meant is) is in
-      (heard_too x tops (change_by x d t m) A (record { event = e; node = k; disk = d; before = t; outs = outs; after = v }) M o (goes x tops k d M A t both p.1 (change_by x d t m) o.office (let z = o.only in z.world) o.both e outs v M (λ z keeps by u uz. called_there tops k d t M knows (knows_more _ r).3 z (who_decides x d t m z keeps by) u uz) refl refl refl w.0 w.1), h.1, h.2);
+      let w = handled_so x (IsKnownVersion A.world.disk) (known_short x tops A (up k d t M) both (let z = p.0 in z.kinds) (let w = p.1 in w.1) (let q = (knows_more _ _ r).3 in q.1) (knows_more _ _ r).4) k d t from (mine x tops k d M A t both p.1) (held_known x tops A k d t M both) m v outs meant (let z = (let w = p.1 in w.0) in z.posts (record { from = from; to = k; message = m }) sent) (gives.raised tops k d t v from m outs M A at sent meant is) is in
+      (heard_too x tops (change_by x d t m) A (record { event = e; node = k; disk = d; before = t; outs = outs; after = v }) M o (goes x tops k d M A t both p.1 (change_by x d t m) o.office (let z = o.only in z.world) o.both e outs v M (λ z keeps by u uz. called_there tops k d t M knows (knows_more _ _ r).3 z (who_decides x d t m z keeps by) u uz) refl refl refl w.0 w.1), h.1, h.2);
   act = λ tops e k d t i M A walk knows r is free both p.
-      let h = heard_starts x tops e k d t M A (good _ r).0 (good _ r).1 knows both p.0 hd i is free in
+      let h = heard_starts x tops e k d t M A (good _ _ r).0 (good _ _ r).1 knows both p.0 hd i is free in
       let o = h.0 in
       let did = acts i d.intents t.coord in
       let z = mine x tops k d M A t both p.1 in
@@ -151,11 +151,11 @@ heard_kept hd x R good knows_more has gives = record {
       let outs = restart_outs hd k (d.inc + 1) d in
       let v = parts_in k (d.inc + 1) d in
       let C = OnlyFound (are_recorded d.intents) A in
-      both_from x tops C (λ B Z. SeesHeard x tops B Z) (λ B Z. SeesMore x tops B Z) e k outs v d M (heard_restart x tops k d M A (good _ r).0 both p.0 hd e)
+      both_from x tops C (λ B Z. SeesHeard x tops B Z) (λ B Z. SeesMore x tops B Z) e k outs v d M (heard_restart x tops k d M A (good _ _ r).0 both p.0 hd e)
       (both_from x tops C (λ B Z. SeesVersions x tops B Z) (λ B Z. SeesDecided tops B Z) e k outs v d M
       (versions_from x tops C (IsKnownVersion A.world.disk) (λ B c. known_on A.world B.world (goes_along (are_recorded d.intents) A.world B.world (let s = both.disks in s.whole) c.along).1) e k outs v d M
       (versions_walk x (IsKnownVersion A.world.disk) k M (rest_of x (IsKnownVersion A.world.disk) k d None M w.0) e outs v d M refl (let q = w.0 in q.posts) (starts_so x (IsKnownVersion A.world.disk) k (d.inc + 1) d)
       (sends_so x (IsKnownVersion A.world.disk) outs (restart_so (fits_of x (IsKnownVersion A.world.disk)) (keep x (IsKnownVersion A.world.disk)) hd k d))))
-      (decided_from x tops C A (down k d M) w.1 (λ B c. ((goes_along (are_recorded d.intents) A.world B.world (let s = both.disks in s.whole) c.along).1, along_new (are_recorded d.intents) M.lines A.world B.world (λ z on u uz. found_there k d M (knows_more _ r).3 z on u uz) c.along)) e k outs v d M ([], sym (none_more M.lines))));
+      (decided_from x tops C A (down k d M) w.1 (λ B c. ((goes_along (are_recorded d.intents) A.world B.world (let s = both.disks in s.whole) c.along).1, along_new (are_recorded d.intents) M.lines A.world B.world (λ z on u uz. found_there k d M (knows_more _ _ r).3 z on u uz) c.along)) e k outs v d M ([], sym (none_more M.lines))));
   first = λ tops walk kinds. let f = heard_first hd x tops has walk kinds in (f.0, f.1, (f.2, (first_versions hd x (IsKnownVersion (let A = f.0 in A.world.disk)), first_decided hd tops f.0 f.3 f.4)), f.3, f.5);
 }

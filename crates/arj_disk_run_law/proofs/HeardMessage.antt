@@ -52,7 +52,7 @@ of_top tops S p kinds fixed o = record {
   path = ⊎_elim (λ alone. inl (alone.0, ap (λ f. f (uid_number (top_of p))) fixed.root ∙ alone.1)) (λ behind. inr (behind.0, behind.1, ap (λ f. f (uid_number (top_of p))) fixed.root ∙ behind.2, behind.3, behind.4)) o.path;
 }
 
-module _ (x : ℕ) (R : Seen → Type 0) (gives : GivesNaming x R) (tops : Kinds) (k : ℕ) (d : Disk) (t : Parts) (n : Naming) (from : ℕ) (m : Message) (M : Seen) (A : Office) (at : IsHeardAt x R tops A (k, d, t) M) (sent : In (record { from = from; to = k; message = m }) M.sent) (named : t.naming ≡ Some n) (of : AreOfTops tops m) (free : RecordsAreFree (up k d t M)) where
+module _ (x : ℕ) (R : World → Seen → Type 0) (gives : GivesNaming x R) (tops : Kinds) (k : ℕ) (d : Disk) (t : Parts) (n : Naming) (from : ℕ) (m : Message) (M : Seen) (A : Office) (at : IsHeardAt x R tops A (k, d, t) M) (sent : In (record { from = from; to = k; message = m }) M.sent) (named : t.naming ≡ Some n) (of : AreOfTops tops m) (free : RecordsAreFree (up k d t M)) where
   claims : ClaimsAsked x A (asks m)
   claims = at.heard.posts (record { from = from; to = k; message = m }) sent
 
@@ -108,15 +108,15 @@ module _ (x : ℕ) (R : Seen → Type 0) (gives : GivesNaming x R) (tops : Kinds
 
 -- ---- a message
 
-pub heard_message : (x : ℕ) (R : Seen → Type 0) → ((M : Seen) → R M → IsGood M × KnowsFew M) → GivesNaming x R → (tops : Kinds) (e k : ℕ) (d : Disk) (t v : Parts) (from : ℕ) (m : Message) (outs : List Effect) (M : Seen) (A : Office) → AreOfTops tops m → IsHeardAt x R tops A (k, d, t) M → ((n : Naming) → t.naming ≡ Some n → NamesOwn n) → RecordsAreFree (up k d t M) → KnowsUses t.coord → In (record { from = from; to = k; message = m }) M.sent → IsOwnVote m → is_meant t m ≡ true → handle k d t from m ≡ Took v outs
+pub heard_message : (x : ℕ) (R : World → Seen → Type 0) → ((W : World) (M : Seen) → R W M → IsGood M × KnowsFew M) → GivesNaming x R → (tops : Kinds) (e k : ℕ) (d : Disk) (t v : Parts) (from : ℕ) (m : Message) (outs : List Effect) (M : Seen) (A : Office) → AreOfTops tops m → IsHeardAt x R tops A (k, d, t) M → ((n : Naming) → t.naming ≡ Some n → NamesOwn n) → RecordsAreFree (up k d t M) → KnowsUses t.coord → In (record { from = from; to = k; message = m }) M.sent → IsOwnVote m → is_meant t m ≡ true → handle k d t from m ≡ Took v outs
     → (h : HasHeard (SeesHeard x) x tops (change_by x d t m) A (record { event = e; node = k; disk = d; before = t; outs = outs; after = v }, M)) × MayGoOn x h.office v.coord × ((n : Naming) → t.naming ≡ Some n → MayRecord x d n m h.office × IsForGrants x d n m h.office)
 heard_message x R runs gives tops e k d t v from m outs M A of at own free uses sent owned meant is = by (asks m) refl
   where
     by : (o : Option (Head × Ask)) → asks m ≡ o → (h : HasHeard (SeesHeard x) x tops (change_by x d t m) A (record { event = e; node = k; disk = d; before = t; outs = outs; after = v }, M)) × MayGoOn x h.office v.coord × ((n : Naming) → t.naming ≡ Some n → MayRecord x d n m h.office × IsForGrants x d n m h.office)
     by (Some b) asking =
         let mine : (n : Naming) → t.naming ≡ Some n → (k ≡ 1) × NamesOwn n = λ n named. ((let w = at.knows in w.naming_here n named).0, own n named) in
-        let s : Served_by x tops e k d t v from m outs M (runs _ at.run).0 (runs _ at.run).1 mine b.0 b.1 sent asking A at.both at.heard (change_by x d t m) = ask_heard x tops e k d t v from m outs M (runs _ at.run).0 (runs _ at.run).1 mine b.0 b.1 sent asking A at.both at.heard is in
-        let now : IsHeardAt x R tops s.office (k, d, t) M = record { unwalked = at.unwalked; knows = at.knows; run = at.run; both = s.sees; heard = s.heard; versions = subst (λ (W : World). HaveVersions x (IsKnownVersion W.disk) (up k d t M)) (sym (let z = s.only in z.world)) at.versions; decided = (let q = at.decided in let same = sym (let z = s.only in z.world) in record { first = subst (λ (W : World). W.disk.first.version ≡ 0) same q.first; once = subst (λ (W : World). AreOnce W.disk.tops) same q.once; called = subst (λ (W : World). AreCalled M.lines W.disk.tops) same q.called }) } in (
+        let s : Served_by x tops e k d t v from m outs M (runs _ _ at.run).0 (runs _ _ at.run).1 mine b.0 b.1 sent asking A at.both at.heard (change_by x d t m) = ask_heard x tops e k d t v from m outs M (runs _ _ at.run).0 (runs _ _ at.run).1 mine b.0 b.1 sent asking A at.both at.heard is in
+        let now : IsHeardAt x R tops s.office (k, d, t) M = record { unwalked = at.unwalked; knows = at.knows; run = subst (λ (W : World). R W (up k d t M)) (sym (let z = s.only in z.world)) at.run; both = s.sees; heard = s.heard; versions = subst (λ (W : World). HaveVersions x (IsKnownVersion W.disk) (up k d t M)) (sym (let z = s.only in z.world)) at.versions; decided = (let q = at.decided in let same = sym (let z = s.only in z.world) in record { first = subst (λ (W : World). W.disk.first.version ≡ 0) same q.first; once = subst (λ (W : World). AreOnce W.disk.tops) same q.once; called = subst (λ (W : World). AreCalled M.lines W.disk.tops) same q.called }) } in (
           record { office = s.office; only = s.only; both = s.sees; along = s.along },
           like_goes_on x tops k d t M s.office at.knows s.sees v.coord s.like,
           λ n named. (may_record x R gives tops k d t n from m M s.office now sent named of free, for_grants x R gives tops k d t n from m M s.office now sent named of free),
@@ -131,7 +131,7 @@ heard_message x R runs gives tops e k d t v from m outs M A of at own free uses 
           where
             by_doing : (b : Bool) → answers_commit a.0 t.coord ≡ b → (h : HasHeard (SeesHeard x) x tops (change_by x d t m) A (record { event = e; node = k; disk = d; before = t; outs = outs; after = v }, M)) × MayGoOn x h.office v.coord × ((n : Naming) → t.naming ≡ Some n → MayRecord x d n m h.office × IsForGrants x d n m h.office)
             by_doing true commits = let r = heard_answer x R runs tops e k d t v from m a.0 a.1 outs M A at uses sent owned none answering commits is in (r.0, r.1, λ n named. nothing n r.0.office)
-            by_doing false calls = let r = heard_called x tops e k d t M A (runs _ at.run).0 (runs _ at.run).1 at.knows at.both at.heard v from m a.0 a.1 outs sent none answering calls is in (r.0, r.1, λ n named. nothing n r.0.office)
+            by_doing false calls = let r = heard_called x tops e k d t M A (runs _ _ at.run).0 (runs _ _ at.run).1 at.knows at.both at.heard v from m a.0 a.1 outs sent none answering calls is in (r.0, r.1, λ n named. nothing n r.0.office)
         with_answers None also =
             let g = other_heard x tops e k d t v from m outs M A at.both at.heard none also is in (
               record { office = A; only = none_heard A; both = at.both; along = subst (λ o. HoldsAlong (HoldsFrom (SeesHeard x) x tops o A) (record { event = e; node = k; disk = d; before = t; outs = outs; after = v }) M) (sym (ap (asked_change x d t m) none ∙ ap (reply_change x t.coord) also)) g.1 },

@@ -58,6 +58,7 @@ use Rattle.arj_disk_run_law.proofs.VersionWalks.{voted_based}
 use Rattle.arj_disk_run_law.proofs.HeardVotes.{heard_refused, heard_store, heard_vote}
 use Rattle.arj_disk_law.specs.Guards.{only_decides}
 use Rattle.arj_names_view_law.proofs.BareEnds.{none_ended}
+use Rattle.arj_disk_law.specs.Effects.{World}
 
 -- ---- an abort has no work on the disk
 
@@ -172,7 +173,7 @@ module _ (x : ℕ) (tops : Kinds) (e k : ℕ) (d : Disk) (t : Parts) (M : Seen) 
 
   -- ---- an answer of the kind that is waited for
 
-  module _ (from : ℕ) (m : Message) (a : Asked) (posted : In (record { from = from; to = k; message = m }) M.sent) (own : IsOwnVote m) (act : a.act ≡ u) (R : Seen → Type 0) (at : IsHeardAt x R tops A (k, d, t) M) where
+  module _ (from : ℕ) (m : Message) (a : Asked) (posted : In (record { from = from; to = k; message = m }) M.sent) (own : IsOwnVote m) (act : a.act ≡ u) (R : World → Seen → Type 0) (at : IsHeardAt x R tops A (k, d, t) M) where
     heard_reply : (y : Machine) (r : Reply) → answers m ≡ Some (a, r) → q.now ≡ Committing y → reply_kind r ≡ ask_kind (ask_of y from) → waits_for_commit from a r y ≡ true → Goal (now_change x u t.coord (Committing y)) (moved_commit u (commit.answered from y r) d.intents t.coord)
     heard_reply (Voting p left) (Reply.Voted (voted.Yes states)) it now kd waits = heard_vote x tops e k d t M A good few knows both h u q at_work p left now from m a states posted it act (subst IsOwnAnswer it own)
         (λ st found. voted_based x tops k d t M A at.versions u q p left at_work now from m a states posted it st found)
@@ -207,7 +208,7 @@ module _ (x : ℕ) (tops : Kinds) (e k : ℕ) (d : Disk) (t : Parts) (M : Seen) 
 
 -- ---- the message
 
-pub heard_answer : (x : ℕ) (R : Seen → Type 0) → ((M : Seen) → R M → IsGood M × KnowsFew M) → (tops : Kinds) (e k : ℕ) (d : Disk) (t v : Parts) (from : ℕ) (m : Message) (a : Asked) (r : Reply) (outs : List Effect) (M : Seen) (A : Office) → IsHeardAt x R tops A (k, d, t) M → KnowsUses t.coord
+pub heard_answer : (x : ℕ) (R : World → Seen → Type 0) → ((W : World) (M : Seen) → R W M → IsGood M × KnowsFew M) → (tops : Kinds) (e k : ℕ) (d : Disk) (t v : Parts) (from : ℕ) (m : Message) (a : Asked) (r : Reply) (outs : List Effect) (M : Seen) (A : Office) → IsHeardAt x R tops A (k, d, t) M → KnowsUses t.coord
     → In (record { from = from; to = k; message = m }) M.sent → IsOwnVote m → asks m ≡ None → answers m ≡ Some (a, r) → answers_commit a t.coord ≡ true → handle k d t from m ≡ Took v outs
     → (h : HasHeard (SeesHeard x) x tops (change_by x d t m) A (record { event = e; node = k; disk = d; before = t; outs = outs; after = v }, M)) × MayGoOn x h.office v.coord
 heard_answer x R runs tops e k d t v from m a r outs M A at uses posted own none it commits is = by (doing_of a.act t.coord) refl commits (sym (ap (handle_answer k d t from m) it) ∙ (sym (ap (handle_ask k d t from m) none) ∙ is))
@@ -226,7 +227,7 @@ heard_answer x R runs tops e k d t v from m a r outs M A at uses posted own none
         let two = and_parts (reply_kind r == ask_kind (ask_of y from)) (order.has (left_of y) from) one.1 in
         took_to Goal (with_coord t did.part) did.outs v outs took
         (subst (λ o. (h : HasHeard (SeesHeard x) x tops o A (going_of e k d t did, M)) × MayGoOn x h.office did.part) (sym (change q y does now))
-        (heard_reply x tops e k d t M A (runs _ at.run).0 (runs _ at.run).1 uses at.knows at.both at.heard a.act q does from m a posted own refl R at y r it now (test_is (reply_kind r) (ask_kind (ask_of y from)) two.0) waits))
+        (heard_reply x tops e k d t M A (runs _ _ at.run).0 (runs _ _ at.run).1 uses at.knows at.both at.heard a.act q does from m a posted own refl R at y r it now (test_is (reply_kind r) (ask_kind (ask_of y from)) two.0) waits))
 
     by_now : (q : Doing) (n : Now) → doing_of a.act t.coord ≡ Some q → q.now ≡ n → is_committing_now n ≡ true → coord_heard t (heard_now from a r d.intents t.coord n) ≡ Took v outs → Goal v outs
     by_now q Idle does now on took = absurd (cc on)

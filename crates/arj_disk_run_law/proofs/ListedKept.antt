@@ -47,7 +47,7 @@ both_along P Q tops C join e k outs v d N a b = walks_to (λ Z. C P Z × C Q Z) 
     (walks_both (C P) (C Q) e k outs (Up (C P) k v) (Up (C Q) k v) d N a b)
 
 -- where this holds besides nodes are good, bindings are counted, and naming has the object, while few bindings were made
-module _ (hd : Header) (x : ℕ) (R S : Seen → Type 0) (weaker : (M : Seen) → S M → R M) (known : (M : Seen) → S M → (AreGoodCounted M × HaveEntries x M) × KnowsFew M) (P : Kinds → Office → Seen → Type 0) (parts : KeepsPart hd x R P) where
+module _ (hd : Header) (x : ℕ) (R S : Seen → Type 0) (weaker : (M : Seen) → S M → R M) (known : (M : Seen) → S M → (AreGoodCounted M × HaveEntries x M) × KnowsFew M) (P : Kinds → Office → Seen → Type 0) (parts : KeepsPart hd x (λ W M. R M) P) where
   abbrev Q : Kinds → Office → Seen → Type 0
   Q tops A M = AnswersList x tops A M
 
@@ -88,7 +88,7 @@ module _ (hd : Header) (x : ℕ) (R S : Seen → Type 0) (weaker : (M : Seen) �
         (subst (λ (W : World). (T : Tests) → TellsLists T → PassesLists x tops W.disk T (up g.node g.disk g.before M) → AreAnswered T M.sent) (sym (let z = h.only in z.world)) answers) g.event g.after g.outs left M refl refl);
   }
 
-  pub listed_part : KeepsPart hd x S (WithLists x P)
+  pub listed_part : KeepsPart hd x (λ W M. S M) (WithLists x P)
   listed_part = record {
     quiet = λ tops e bs M A walk quiet r both (part, answers) B changed then. (parts.quiet tops e bs M A walk quiet (weaker _ r) both part B changed then, λ T tells passes. answers T tells (λ n at_n. same_passes x tops A B T (still_current x tops A B M (said e bs M) both then (let l = changed in l.later)) n.disk n.live (passes n at_n)));
     stop = λ tops e k d live M A walk r both (part, answers) B changed then. (parts.stop tops e k d live M A walk (weaker _ r) both part B changed then, stopped tops e k d live M A r both answers B (let l = changed in l.later) then);

@@ -7,6 +7,7 @@ use Rattle.arj_protocol.specs.Follow.{tick_outs}
 use Rattle.arj_protocol.specs.Node.{Parts, with_coord}
 use Rattle.arj_protocol.specs.Step.{acts, parent_of, parts_in, restart_outs}
 use Rattle.arj_protocol.specs.World.{Asked, format, is_serial_kind, most_labels, run_all}
+use Rattle.arj_disk_law.specs.Effects.{World}
 use Rattle.arj_disk_law.specs.Names.{Office}
 use Rattle.arj_view_law.specs.Keeps.{Holds}
 use Rattle.arj_view_law.specs.Seen.{Seen, given, posted, said}
@@ -64,18 +65,18 @@ script_holds hd P kept es short =
 
 -- ---- where more is known
 
-pub part_more : (hd : Header) (x : ℕ) (R S : Seen → Type 0) (P : Kinds → Office → Seen → Type 0) → ((M : Seen) → S M → R M) → KeepsPart hd x R P → KeepsPart hd x S P
+pub part_more : (hd : Header) (x : ℕ) (R S : World → Seen → Type 0) (P : Kinds → Office → Seen → Type 0) → ((W : World) (M : Seen) → S W M → R W M) → KeepsPart hd x R P → KeepsPart hd x S P
 part_more hd x R S P less parts = record {
-  quiet = λ tops e bs M A walk quiet r. parts.quiet tops e bs M A walk quiet (less M r);
-  stop = λ tops e k d live M A walk r. parts.stop tops e k d live M A walk (less _ r);
-  message = λ tops e k d t v from m outs M A walk knows r. parts.message tops e k d t v from m outs M A walk knows (less _ r);
-  act = λ tops e k d t i M A walk knows r. parts.act tops e k d t i M A walk knows (less _ r);
-  begin = λ tops e k d t l how parent M A walk knows r. parts.begin tops e k d t l how parent M A walk knows (less _ r);
-  tick = λ tops e k d t M A walk knows r. parts.tick tops e k d t M A walk knows (less _ r);
-  restart = λ tops e k d M A walk r. parts.restart tops e k d M A walk (less _ r);
+  quiet = λ tops e bs M A walk quiet r. parts.quiet tops e bs M A walk quiet (less _ M r);
+  stop = λ tops e k d live M A walk r. parts.stop tops e k d live M A walk (less _ _ r);
+  message = λ tops e k d t v from m outs M A walk knows r. parts.message tops e k d t v from m outs M A walk knows (less _ _ r);
+  act = λ tops e k d t i M A walk knows r. parts.act tops e k d t i M A walk knows (less _ _ r);
+  begin = λ tops e k d t l how parent M A walk knows r. parts.begin tops e k d t l how parent M A walk knows (less _ _ r);
+  tick = λ tops e k d t M A walk knows r. parts.tick tops e k d t M A walk knows (less _ _ r);
+  restart = λ tops e k d M A walk r. parts.restart tops e k d M A walk (less _ _ r);
   first = parts.first;
 }
 
 -- what is kept where few bindings were made
-pub part_few : (hd : Header) (x : ℕ) (R : Seen → Type 0) (P : Kinds → Office → Seen → Type 0) → KeepsPart hd x (λ M. R M × KnowsFew M) P → KeepsPart hd x (λ M. R M × KnowsScript M) P
-part_few hd x R P parts = part_more hd x (λ M. R M × KnowsFew M) (λ M. R M × KnowsScript M) P (λ M r. (r.0, let s = r.1 in s.0)) parts
+pub part_few : (hd : Header) (x : ℕ) (R : Seen → Type 0) (P : Kinds → Office → Seen → Type 0) → KeepsPart hd x (λ W M. R M × KnowsFew M) P → KeepsPart hd x (λ W M. R M × KnowsScript M) P
+part_few hd x R P parts = part_more hd x (λ W M. R M × KnowsFew M) (λ W M. R M × KnowsScript M) P (λ W M r. (r.0, let s = r.1 in s.0)) parts

@@ -10,6 +10,7 @@ use Rattle.arj_protocol.specs.Naming.{Naming}
 use Rattle.arj_protocol.specs.Node.{Parts, Took, handle, is_meant}
 use Rattle.arj_protocol.specs.Order.{uid_number}
 use Rattle.arj_protocol.specs.Step.{is_committing}
+use Rattle.arj_disk_law.specs.Effects.{World}
 use Rattle.arj_disk_law.specs.Names.{Office}
 use Rattle.arj_line_law.specs.Knows.{IsKept}
 use Rattle.arj_view_law.specs.Keeps.{Keeps}
@@ -25,10 +26,10 @@ use Rattle.arj_disk_run_law.specs.Heard.{SeesHeard}
 use Rattle.arj_disk_run_law.specs.Versions.{EndsRaise, IsKnownVersion, SeesVersions}
 
 -- a node of which is known what the disk half counts on, where the relation holds of the machine's state
-pub record IsHeardAt (x : ℕ) (R : Seen → Type 0) (tops : Kinds) (A : Office) (s : ℕ × Disk × Parts) (M : Seen) : Type 0 where
+pub record IsHeardAt (x : ℕ) (R : World → Seen → Type 0) (tops : Kinds) (A : Office) (s : ℕ × Disk × Parts) (M : Seen) : Type 0 where
   pub unwalked : tops.walk ≡ None
   pub knows : KnowsNode tops s.0 s.1 s.2 M
-  pub run : R (up s.0 s.1 s.2 M)
+  pub run : R A.world (up s.0 s.1 s.2 M)
   pub both : SeesBoth x tops A (up s.0 s.1 s.2 M)
   pub heard : SeesHeard x tops A (up s.0 s.1 s.2 M)
   pub versions : SeesVersions x tops A (up s.0 s.1 s.2 M)
@@ -44,7 +45,7 @@ SeesCarried x tops A M = SeesHeard x tops A M × SeesMore x tops A M
 
 -- What naming counts on, and servers. Of a new Confirm the locks of servers give the next version; and the ends of a message that is taken raise
 -- no copy of the object but to a version that was known.
-pub record GivesNaming (x : ℕ) (R : Seen → Type 0) : Type 0 where
+pub record GivesNaming (x : ℕ) (R : World → Seen → Type 0) : Type 0 where
   pub next : (tops : Kinds) (k : ℕ) (d : Disk) (t : Parts) (n : Naming) (from : ℕ) (m : Message) (h : Head) (grants : Grants) (excluded included : Marks) (M : Seen) (A : Office) → IsHeardAt x R tops A (k, d, t) M → In (record { from = from; to = k; message = m }) M.sent → t.naming ≡ Some n → asks m ≡ Some (h, ask.Confirm grants excluded included)
       → IsNewConfirm h.path grants excluded included d.names n → IsNext A.world.disk (uid_number (top_of h.path))
   pub raised : (tops : Kinds) (k : ℕ) (d : Disk) (t v : Parts) (from : ℕ) (m : Message) (outs : List Effect) (M : Seen) (A : Office) → IsHeardAt x R tops A (k, d, t) M → In (record { from = from; to = k; message = m }) M.sent → is_meant t m ≡ true → handle k d t from m ≡ Took v outs
@@ -64,4 +65,9 @@ IsKnownWith test M = IsCountedWith test M × KnowsScript M
 -- A test that each handler keeps; and where it holds beside what is known in every run, what naming and servers count on is given.
 pub record KeepsHeard (hd : Header) (x : ℕ) (test : Seen → Bool) : Type 0 where
   pub kept : Keeps hd (λ M. test M ≡ true)
-  pub naming : GivesNaming x (IsKnownWith test)
+  pub naming : GivesNaming x (λ W M. IsKnownWith test M)
+
+-- The same, where more is known beside the machine's world.
+pub record KeepsHeardBeside (hd : Header) (x : ℕ) (test : Seen → Bool) (Z : World → Seen → Type 0) : Type 0 where
+  pub kept : Keeps hd (λ M. test M ≡ true)
+  pub naming : GivesNaming x (λ W M. IsKnownWith test M × Z W M)

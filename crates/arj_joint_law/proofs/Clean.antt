@@ -47,7 +47,7 @@ use Rattle.arj_joint_law.specs.Shown.{FilesAre, IncludesAreThere}
 use Rattle.arj_joint_law.specs.Writers.{WritersAreNewestFirst}
 use Rattle.arj_joint_law.proofs.Called.{decided_writers_stand, decision_of, number_is, one_number, those_of, wrote_something}
 use Rattle.arj_joint_law.proofs.FormRuns.{runs_have_form}
-use Rattle.arj_joint_law.specs.Joined.{AreBareSo, AreRestBeside, AreWritten, IsJoinedSo, JoinedRunsAreSerial}
+use Rattle.arj_joint_law.specs.Joined.{AreBareSo, AreRestBeside, AreWritten, IsJoinedSo, JoinedRunsAreSerial, KeepsHeardJoined}
 use Rattle.arj_joint_law.proofs.JoinedRuns.{runs_are_joined}
 use Rattle.arj_joint_law.proofs.OrderedRuns.{runs_are_ordered}
 use Rattle.arj_joint_law.proofs.Showing.{files_show_disks}
@@ -319,7 +319,7 @@ runs_are_clean hd es disks test form short heard tied decide files = let held = 
 -- ---- with the lock half
 
 -- with both machines at once
-pub joined_at : (hd : Header) (es : List Asked) (heard_so : ℕ → Seen → Bool) (test : ℕ → List Action → Seen → Bool) → HeaderInForm hd → length es ≤ most_events → ((x : ℕ) → is_some (object_line hd x) ≡ true → KeepsHeard hd x (heard_so x)) → AreRestBeside hd heard_so test
+pub joined_at : (hd : Header) (es : List Asked) (heard_so : ℕ → Seen → Bool) (test : ℕ → List Action → Seen → Bool) → HeaderInForm hd → length es ≤ most_events → ((x : ℕ) → is_some (object_line hd x) ≡ true → KeepsHeardJoined hd x (heard_so x)) → AreRestBeside hd heard_so test
     → (x : ℕ) → is_some (object_line hd x) ≡ true → Holds hd (IsJoinedSo hd x) (run_all es (format hd))
 joined_at hd es heard_so test form short heard rest x there = runs_are_joined hd x (heard_so x) (test x) form there (heard x there) (rest x there) es short
 

@@ -1,9 +1,9 @@
 -- Both machines of each object at once, in every run.
 use Rattle.std.proofs.Common.{◌≡◌, ◌==◌, ℕ, true, List, is_some, subst, refl, Option, Some, None, eqb-true}
-use Rattle.arj_joint_law.specs.Joined.{IsBeside, IsJoinedSo, RunsAreJoined, world_of}
+use Rattle.arj_joint_law.specs.Joined.{HasStates, IsBeside, IsJoinedSo, RunsAreJoined, world_of}
 use Rattle.arj_joint_law.proofs.Joining.{HasLocks, WithLocks, locks_part}
 use Rattle.arj_joint_law.proofs.OrderedRuns.{IsOrderedBeside, ordered_beside}
-use Rattle.arj_disk_run_law.proofs.BothEach.{counted_with, heard_part}
+use Rattle.arj_disk_run_law.proofs.BothEach.{counted_by, heard_beside}
 use Rattle.arj_disk_run_law.specs.Part.{KeepsPart}
 use Rattle.arj_disk_run_law.specs.Rest.{IsCountedWith, IsKnownWith, SeesCarried}
 use Rattle.arj_call_law.specs.Runs.{KnowsFew}
@@ -28,6 +28,7 @@ use Rattle.arj_line_law.proofs.Runs.{run_written}
 use Rattle.arj_serial_law.specs.Seen.{RequestsAreOne}
 use Rattle.arj_joint_law.proofs.Written.{bare, wrote}
 use Rattle.arj_lock_fact_law.specs.Entries.{HasObject}
+use Rattle.arj_disk_run_law.proofs.Scripts.{part_more}
 
 pub header_has : (hd : Header) (x : ℕ) → is_some (object_line hd x) ≡ true → HasObject hd x
 header_has hd x there = by (object_line hd x) refl there
@@ -40,7 +41,7 @@ header_has hd x there = by (object_line hd x) refl there
 
 pub runs_are_joined : RunsAreJoined
 runs_are_joined hd x heard test form there kept rest es short =
-    let h = ordered_beside hd x (IsCountedWith heard) Joined form there (counted_with hd x heard kept) part es short in
+    let h = ordered_beside hd x (IsCountedWith heard) Joined form there (counted_by hd heard kept.kept) part es short in
     record { sent = h.sent; stands = h.stands; holds = joined h.sent h.holds }
   where
     has : HasObject hd x
@@ -55,8 +56,8 @@ runs_are_joined hd x heard test form there kept rest es short =
     Joined : Kinds → Office → Seen → Type 0
     Joined tops A M = WithLocks x R (SeesCarried x) tops A M
 
-    part : KeepsPart hd x (IsKnownWith heard) Joined
-    part = locks_part hd x (IsKnownWith heard) KnowsFew R (SeesCarried x) (λ M r. let s = r.1 in s.0) (kept_beside hd x has E rest.kept) (λ f. gives_locks hd x has E f (λ begun S M. IsBeside x heard f begun S M) (rest.gives f)) (λ M few. votes_in M few.1.1) (λ M few. few.1.1) (heard_part hd x heard (line_there hd x form there).0 kept) (λ tops A M p. p.0)
+    part : KeepsPart hd x (λ W M. IsKnownWith heard M) Joined
+    part = locks_part hd x (IsKnownWith heard) KnowsFew R (SeesCarried x) (λ M r. let s = r.1 in s.0) (kept_beside hd x has E rest.kept) (λ f. gives_locks hd x has E f (λ begun S M. IsBeside x heard f begun S M) (rest.gives f)) (λ M few. votes_in M few.1.1) (λ M few. few.1.1) (part_more hd x (λ W M. IsKnownWith heard M × HasStates x W M) (λ W M. IsKnownWith heard M × HasLocks x R W M) (SeesCarried x) (λ W M q. let j = q.1 in (q.0, (j.0, j.1, j.3))) (heard_beside hd x heard (HasStates x) (line_there hd x form there).0 kept)) (λ tops A M p. p.0)
 
     joined : (sent : List Post) → IsOrderedBeside Joined hd x (see sent (run_all es (format hd))) → IsJoinedSo hd x (see sent (run_all es (format hd)))
     joined sent (o, tops, A, same, p, few) = record {

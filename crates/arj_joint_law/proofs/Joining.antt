@@ -169,7 +169,7 @@ module _ (f : Fixed) (x : ℕ) (C : Uid → Type 0) (g : ℕ → Bool) (W : Worl
 -- ---- each handler
 
 module _ (hd : Header) (x : ℕ) (K G : Seen → Type 0) (R : List Action → Seen → Type 0) (P : Kinds → Office → Seen → Type 0) (to : (M : Seen) → K M → G M) (keeps : KeepsOf hd (λ begun M. G M) R) (gives : (f : Fixed) → GivesLocks hd f x (λ begun S M. (G M × R begun M) × (K M × IsPaired x P f begun S M))) (used : (M : Seen) → G M → AllVotesAreUsed M) (runs : (M : Seen) → G M → KnowsRun M)
-    (parts : KeepsPart hd x K P) (heard : (tops : Kinds) (A : Office) (M : Seen) → P tops A M → SeesHeard x tops A M) where
+    (parts : KeepsPart hd x (λ W M. K M × HasLocks x R W M) P) (heard : (tops : Kinds) (A : Office) (M : Seen) → P tops A M → SeesHeard x tops A M) where
   abbrev Q : Kinds → Office → Seen → Type 0
   Q tops A M = WithLocks x R P tops A M
 
@@ -240,20 +240,20 @@ module _ (hd : Header) (x : ℕ) (K G : Seen → Type 0) (R : List Action → Se
   no_one : (C : Uid → Type 0) (M : Seen) (u : Uid) → false ≡ true → IsRecordedAt M u ⊎ C u
   no_one C M u is = absurd (never is refl)
 
-  pub locks_part : KeepsPart hd x K Q
+  pub locks_part : KeepsPart hd x (λ W M. K M) Q
   locks_part = record {
     quiet = λ tops e bs M A walk quiet r both (part, j) B changed seen. (
-      parts.quiet tops e bs M A walk quiet r both part B changed seen,
+      parts.quiet tops e bs M A walk quiet (r, j) both part B changed seen,
       locks_next tops (Changes Quietly A) none nobody A.world M j.0 M.sent (λ f a. let g = j.3 f a in g.0) (λ Z c. moves_by Quietly A Z (let z = both.disks in z.whole) c) (no_one none M) (known_before none A.world M j (λ f a u never. absurd never)) (said e bs M)
           (quiet_kept hd x G R Y keeps gives ⊤ votes_used e bs M quiet (to M r) (locks_of A.world M j)) (λ u c. inl (record { place = c.place; node = c.node; intent = c.intent; here = c.here; there = c.there })) (quiet_step e bs M) B changed seen,
     );
     stop = λ tops e k d live M A walk r both (part, j) B changed seen. (
-      parts.stop tops e k d live M A walk r both part B changed seen,
+      parts.stop tops e k d live M A walk (r, j) both part B changed seen,
       locks_next tops (Changes Quietly A) none nobody A.world (at k d live M) j.0 M.sent (λ f a. let g = j.3 f a in g.0) (λ Z c. moves_by Quietly A Z (let z = both.disks in z.whole) c) (no_one none (at k d live M)) (known_before none A.world (at k d live M) j (λ f a u never. absurd never)) (halted e k d M)
           (stop_kept hd x G R Y keeps gives ⊤ votes_used e k d live M (to (at k d live M) r) (locks_of A.world (at k d live M) j) (paired tops (at k d live M) A walk r both part j)) (recorded_at none (at k d live M) k d None M (halted e k d M) (λ i. refl) (others_then none k d live M) (here_then none k d live M)) (step_halted k d live M e d M (near_same M) (λ down. refl)) B changed seen,
     );
     message = λ tops e k d t v from m outs M A walk n r sent meant is of own both (part, j).
-        let p = parts.message tops e k d t v from m outs M A walk n r sent meant is of own both part in
+        let p = parts.message tops e k d t v from m outs M A walk n (r, j) sent meant is of own both part in
         let h = p.0 in
         let o = change_by x d t m in
         let C : Uid → Type 0 = λ u. IsConfirming t.coord u in (
@@ -270,7 +270,7 @@ module _ (hd : Header) (x : ℕ) (K G : Seen → Type 0) (R : List Action → Se
         );
     act = λ tops e k d t i M A walk n r is free both (part, j).
         let did = acts i d.intents t.coord in
-        let p = parts.act tops e k d t i M A walk n r is free both part in
+        let p = parts.act tops e k d t i M A walk n (r, j) is free both part in
         let h = p.0 in
         let C : Uid → Type 0 = λ u. IsConfirming t.coord u in (
           record {
@@ -289,7 +289,7 @@ module _ (hd : Header) (x : ℕ) (K G : Seen → Type 0) (R : List Action → Se
         let a = begins_in how parent t in
         let older : (f : Fixed) → Agrees f x (a ∷ j.0) M.sent → Agrees f x j.0 M.sent = λ f w. agree_older f x a j.0 M.sent w in
         along tops (Changes Quietly A) none nobody A.world (up k d t M) (a ∷ j.0) M.sent (λ f w. let g = j.3 f (older f w) in g.0) (λ B c. moves_by Quietly A B (let z = both.disks in z.whole) c) (no_one none (up k d t M)) (λ f w. known_before none A.world (up k d t M) j (λ f b u never. absurd never) f (older f w)) e k did.outs (with_coord t did.part) d N
-        (parts.begin tops e k d t l how parent M A walk n r new may free kind both part)
+        (parts.begin tops e k d t l how parent M A walk n (r, j) new may free kind both part)
         (kept_begin hd x G R Y keeps gives ⊤ votes_used e k d t l how parent M new may free (to (up k d t M) r) (locks_of A.world (up k d t M) j) (paired tops (up k d t M) A walk r both part j))
         (records_walk none (up k d t M) k e (with_coord t did.part) did.outs d N (others_then none k d (Some t) M) (tt, tt) (here_then none k d (Some t) M)) (step_walk k d (Some t) M e (with_coord t did.part) did.outs d N (given_near l how k M) (was_up t) (was_up t));
     tick = λ tops e k d t M A walk n r both (part, j).
@@ -297,7 +297,7 @@ module _ (hd : Header) (x : ℕ) (K G : Seen → Type 0) (R : List Action → Se
         let v = with_coord t (let z = again_all t.coord.doings t.coord in z.part) in
         let C : Uid → Type 0 = λ u. IsConfirming t.coord u in
         along tops (Changes Quietly A) C nobody A.world (up k d t M) j.0 M.sent (λ f a. let g = j.3 f a in g.0) (λ B c. moves_by Quietly A B (let z = both.disks in z.whole) c) (no_one C (up k d t M)) (known_before C A.world (up k d t M) j (waits_here tops k d t M A n both part (runs (up k d t M) (to (up k d t M) r)) j)) e k outs v d M
-        (parts.tick tops e k d t M A walk n r both part) (kept_tick hd x G R Y keeps gives ⊤ votes_used e k d t M (to (up k d t M) r) (locks_of A.world (up k d t M) j) (paired tops (up k d t M) A walk r both part j))
+        (parts.tick tops e k d t M A walk n (r, j) both part) (kept_tick hd x G R Y keeps gives ⊤ votes_used e k d t M (to (up k d t M) r) (locks_of A.world (up k d t M) j) (paired tops (up k d t M) A walk r both part j))
         (records_walk C (up k d t M) k e v outs d M (others_then C k d (Some t) M) (tick_puts k d t (theirs tops k d t M n)) (here_then C k d (Some t) M)) (step_walk k d (Some t) M e v outs d M (near_same M) (was_up t) (was_up t));
     restart = λ tops e k d M A walk r both (part, j).
         let outs = restart_outs hd k (d.inc + 1) d in
@@ -305,7 +305,7 @@ module _ (hd : Header) (x : ℕ) (K G : Seen → Type 0) (R : List Action → Se
         along tops (OnlyFound (are_recorded d.intents) A) none (are_recorded d.intents) A.world (down k d M) j.0 M.sent (λ f a. let g = j.3 f a in g.0)
         (λ B c. (goes_along (are_recorded d.intents) A.world B.world (let z = both.disks in z.whole) c.along, ends_along (are_recorded d.intents) A.world B.world (let z = both.disks in z.whole) c.along))
         (λ u is. let r = record_of u d.intents is in inl (record { place = k; node = record { number = k; disk = d; live = None }; intent = r.0; here = node_here M k (record { number = k; disk = d; live = None }); there = r.1 })) (known_before none A.world (down k d M) j (λ f a u never. absurd never)) e k outs v d M
-        (parts.restart tops e k d M A walk r both part) (kept_restart hd x G R Y keeps gives ⊤ votes_used e k d M (to (down k d M) r) (locks_of A.world (down k d M) j) (paired tops (down k d M) A walk r both part j))
+        (parts.restart tops e k d M A walk (r, j) both part) (kept_restart hd x G R Y keeps gives ⊤ votes_used e k d M (to (down k d M) r) (locks_of A.world (down k d M) j) (paired tops (down k d M) A walk r both part j))
         (records_walk none (down k d M) k e v outs d M (others_then none k d None M) (plainly none outs (restart_plain [] hd k d)) (here_then none k d None M)) (step_walk k d None M e v outs d M (near_same M) (λ down. restart_plain [] hd k d) (λ down. refl));
     first = λ tops walk kinds.
         let f = parts.first tops walk kinds in

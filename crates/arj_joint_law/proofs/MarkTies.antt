@@ -180,7 +180,7 @@ module _ (x k : ℕ) (d : Disk) (t : Parts) (M : Seen) (tops : Kinds) (A : Offic
 abbrev pub WithMarks : ℕ → (Kinds → Office → Seen → Type 0) → Kinds → Office → Seen → Type 0
 WithMarks x P tops A M = P tops A M × AreMarkedSo x A.world M
 
-module _ (hd : Header) (x : ℕ) (K L : Seen → Type 0) (P : Kinds → Office → Seen → Type 0) (to : (M : Seen) → L M → K M) (known : (M : Seen) → L M → IsKept M × MarksAreSaid M) (parts : KeepsPart hd x K P) where
+module _ (hd : Header) (x : ℕ) (K L : Seen → Type 0) (P : Kinds → Office → Seen → Type 0) (to : (M : Seen) → L M → K M) (known : (M : Seen) → L M → IsKept M × MarksAreSaid M) (parts : KeepsPart hd x (λ W M. K M) P) where
   abbrev Q : Kinds → Office → Seen → Type 0
   Q tops A M = WithMarks x P tops A M
 
@@ -219,7 +219,7 @@ module _ (hd : Header) (x : ℕ) (K L : Seen → Type 0) (P : Kinds → Office �
   moved_base : (c : Coord) (outs : List Effect) (M : Seen) → ((l : List ℕ) (y s : ℕ) → (said_in outs l y s ≡ false) ⊎ IsMarking c l) → (l : List ℕ) (y s : ℕ) → ((was_marked M.lines l y s ≡ was_marked M.lines l y s) × (said_in outs l y s ≡ false)) ⊎ IsMarking c l
   moved_base c outs M whose l y s = ⊎_elim (λ off. inl (refl, off)) (λ on. inr on) (whose l y s)
 
-  pub marks_part : KeepsPart hd x L Q
+  pub marks_part : KeepsPart hd x (λ W M. L M) Q
   marks_part = record {
     quiet = λ tops e bs M A walk quiet r both (part, marks) B changed seen. (
       parts.quiet tops e bs M A walk quiet (to M r) both part B changed seen,

@@ -102,9 +102,9 @@ module _ (hd : Header) (x : ℕ) (es : List Asked) (sent : List Post) (W : machi
 abbrev Marking : (Seen → Type 0) → Seen → Type 0
 Marking R M = R M × (IsKept M × MarksAreSaid M)
 
-pub ordered_beside : (hd : Header) (x : ℕ) (R : Seen → Type 0) (P : Kinds → Office → Seen → Type 0) → HeaderInForm hd → is_some (object_line hd x) ≡ true → Keeps hd R → KeepsPart hd x (λ M. R M × KnowsScript M) P → (es : List Asked) → length es ≤ most_events → Holds hd (IsOrderedBeside P hd x) (run_all es (format hd))
+pub ordered_beside : (hd : Header) (x : ℕ) (R : Seen → Type 0) (P : Kinds → Office → Seen → Type 0) → HeaderInForm hd → is_some (object_line hd x) ≡ true → Keeps hd R → KeepsPart hd x (λ W M. R M × KnowsScript M) P → (es : List Asked) → length es ≤ most_events → Holds hd (IsOrderedBeside P hd x) (run_all es (format hd))
 ordered_beside hd x R P form there kept parts es short =
-    let first : KeepsPart hd x (λ M. Marking R M × KnowsScript M) (WithFirst hd x (WithMarks x P)) = first_part hd x (λ M. Marking R M × KnowsScript M) (WithMarks x P) marks (first_begins hd x form there) in
+    let first : KeepsPart hd x (λ W M. Marking R M × KnowsScript M) (WithFirst hd x (WithMarks x P)) = first_part hd x (λ M. Marking R M × KnowsScript M) (WithMarks x P) marks (first_begins hd x form there) in
     let idles : KnowsIdle (Marking R) Idle = knows_idle (Marking R) in
     let tied = tied_part hd x (Marking R) KnowsScript (WithFirst hd x (WithMarks x P)) Idle marking first idles in
     let ordered = ordered_part hd x (λ M. Marking R M × IsKept M) KnowsScript (WithTie (WithFirst hd x (WithMarks x P)) Idle) Idle (both_too hd x (Marking R) KnowsScript (WithFirst hd x (WithMarks x P)) Idle marking first idles) (λ M r. r.1) (knows_idle (λ M. Marking R M × IsKept M)) tied (λ tops A M p. (p.1).1) in
@@ -135,7 +135,7 @@ ordered_beside hd x R P form there kept parts es short =
     marking : Keeps hd (Marking R)
     marking = kept_both hd R (λ M. IsKept M × MarksAreSaid M) kept (keeps_given hd R (λ M. IsKept M × MarksAreSaid M) (kept_both hd IsKept MarksAreSaid (lines_keep hd) (marks_given hd)))
 
-    marks : KeepsPart hd x (λ M. Marking R M × KnowsScript M) (WithMarks x P)
+    marks : KeepsPart hd x (λ W M. Marking R M × KnowsScript M) (WithMarks x P)
     marks = marks_part hd x (λ M. R M × KnowsScript M) (λ M. Marking R M × KnowsScript M) P (λ M r. (r.0.0, r.1)) (λ M r. r.0.1) parts
 
 ordered : (hd : Header) (x : ℕ) (P : Kinds → Office → Seen → Type 0) (es : List Asked) → Holds hd (IsOrderedBeside P hd x) (run_all es (format hd)) → Holds hd (IsOrderedSo hd x) (run_all es (format hd))

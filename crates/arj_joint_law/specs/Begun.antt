@@ -32,5 +32,5 @@ abbrev pub RunsBeginSo : Type 0
 RunsBeginSo = (hd : Header) (x : ℕ) (test : Seen → Bool) → HeaderInForm hd → is_some (object_line hd x) ≡ true → KeepsHeard hd x test → (es : List Asked) → length es ≤ most_events → Holds hd (IsBegunSo hd x) (run_all es (format hd))
 
 abbrev pub RunsBeginSoBeside : Type 0
-RunsBeginSoBeside = (hd : Header) (x : ℕ) (part : Kinds → Office → Seen → Bool) → HeaderInForm hd → is_some (object_line hd x) ≡ true → KeepsPart hd x (λ M. IsGood M × KnowsFew M) (λ tops A M. part tops A M ≡ true)
+RunsBeginSoBeside = (hd : Header) (x : ℕ) (part : Kinds → Office → Seen → Bool) → HeaderInForm hd → is_some (object_line hd x) ≡ true → KeepsPart hd x (λ W M. IsGood M × KnowsFew M) (λ tops A M. part tops A M ≡ true)
     → (es : List Asked) → length es ≤ most_events → Holds hd (IsBegunSo hd x) (run_all es (format hd))

@@ -9,7 +9,7 @@ use Rattle.arj_view_law.specs.Keeps.{Holds}
 use Rattle.arj_view_law.specs.Seen.{Seen, see}
 use Rattle.arj_binding_law.specs.Scripts.{most_events}
 use Rattle.arj_disk_run_law.specs.Rest.{KeepsHeard}
-use Rattle.arj_joint_law.specs.Joined.{AreRestBeside}
+use Rattle.arj_joint_law.specs.Joined.{AreRestBeside, KeepsHeardJoined}
 use Rattle.arj_part_law.specs.Actions.{Action}
 use Rattle.arj_serial_law.specs.Cleaned.{AreDecidedOrLate}
 use Rattle.arj_serial_law.specs.Decided.{Wrote}
@@ -35,7 +35,7 @@ RunsExcludeInTime = (hd : Header) (es : List Asked) (heard : ℕ → Seen → Bo
 -- So the journal is tied with what the lock half still takes, and decided tops wrote what they gave.
 abbrev pub WholeRunsExcludeInTime : Type 0
 WholeRunsExcludeInTime = (hd : Header) (es : List Asked) (heard : ℕ → Seen → Bool) (test : ℕ → List Action → Seen → Bool) → HeaderInForm hd → length es ≤ most_events
-    → ((x : ℕ) → is_some (object_line hd x) ≡ true → KeepsHeard hd x (heard x))
+    → ((x : ℕ) → is_some (object_line hd x) ≡ true → KeepsHeardJoined hd x (heard x))
     → AreRestBeside hd heard test
     → ((x : ℕ) → is_some (object_line hd x) ≡ true → DecideSo hd x es)
     → (let w = run_all es (format hd) in ((x : ℕ) → is_some (object_line hd x) ≡ true → AreInTime hd w.event x es) → AreExcludedInTime hd w.event (see [] w))

@@ -37,7 +37,7 @@ use Rattle.arj_lock_run_law.specs.Votes.{AreVotedAt}
 use Rattle.arj_joint_law.specs.Ordered.{IsOrderedSo}
 use Rattle.arj_serial_law.specs.Decided.{Wrote, WroteSo}
 use Rattle.arj_serial_law.specs.Seen.{IsSerialRun, RequestsAreOne}
-use Rattle.arj_disk_run_law.specs.Rest.{IsKnownWith, KeepsHeard, SeesCarried}
+use Rattle.arj_disk_run_law.specs.Rest.{IsKnownWith, KeepsHeardBeside, SeesCarried}
 use Rattle.arj_lock_whole_law.specs.Runs.{IsRestBeside}
 use Rattle.arj_binding_law.specs.Scripts.{most_events}
 
@@ -87,6 +87,14 @@ pub record ArePlannedSo (f : Fixed) (x : ℕ) (S : lock.State) (W : World) (M : 
 abbrev pub IsPaired : ℕ → (Kinds → Office → Seen → Type 0) → Fixed → List Action → lock.State → Seen → Type 0
 IsPaired x P f begun S M = (tops : Kinds) × (tops.walk ≡ None) × (A : Office) × SeesBoth x tops A M × P tops A M × AreVotedAt f x S M × ArePlannedSo f x S A.world M
 
+-- The object is seen by its lock machine, for all that may be fixed and agrees, beside this world of its disk machine.
+abbrev pub HasStates : ℕ → World → Seen → Type 0
+HasStates x W M = (begun : List Action) × IsAlikeOf begun M × ((f : Fixed) → Agrees f x begun M.sent → (S : lock.State) × SeesLocks f x begun S M × AreTied f x M.lines S × AreVotedAt f x S M × ArePlannedSo f x S W M)
+
+-- what is still taken of the disk half is asked of such worlds
+abbrev pub KeepsHeardJoined : Header → ℕ → (Seen → Bool) → Type 0
+KeepsHeardJoined hd x heard = KeepsHeardBeside hd x heard (HasStates x)
+
 -- so much may be counted on of a state of the lock machine
 abbrev pub IsBeside : ℕ → (Seen → Bool) → Fixed → List Action → lock.State → Seen → Type 0
 IsBeside x heard f begun S M = IsKnownWith heard M × IsPaired x (SeesCarried x) f begun S M
@@ -117,10 +125,10 @@ pub record IsJoinedSo (hd : Header) (x : ℕ) (M : Seen) : Type 0 where
   pub wrote : AreWritten (first_values hd) M.lines x (let W = world_of ordered in W.disk.tops)
   pub bare : AreBareSo M.lines x (let W = world_of ordered in W.disk)
 
--- So it is in the run of every script, of each object of the header, with what is still taken of both halves: of the lock half only of states that
--- stand beside one of the disk half.
+-- So it is in the run of every script, of each object of the header, with what is still taken of both halves, where they stand beside each
+-- other.
 abbrev pub RunsAreJoined : Type 0
-RunsAreJoined = (hd : Header) (x : ℕ) (heard : Seen → Bool) (test : List Action → Seen → Bool) → HeaderInForm hd → is_some (object_line hd x) ≡ true → KeepsHeard hd x heard → IsRestBeside hd x (λ begun M. test begun M ≡ true) (IsBeside x heard)
+RunsAreJoined = (hd : Header) (x : ℕ) (heard : Seen → Bool) (test : List Action → Seen → Bool) → HeaderInForm hd → is_some (object_line hd x) ≡ true → KeepsHeardJoined hd x heard → IsRestBeside hd x (λ begun M. test begun M ≡ true) (IsBeside x heard)
     → (es : List Asked) → length es ≤ most_events → Holds hd (IsJoinedSo hd x) (run_all es (format hd))
 
 -- where for each object of the header what is still taken of the lock half is given of such states
@@ -130,6 +138,6 @@ AreRestBeside hd heard test = (x : ℕ) → is_some (object_line hd x) ≡ true 
 -- So the run of every script is serial.
 abbrev pub JoinedRunsAreSerial : Type 0
 JoinedRunsAreSerial = (hd : Header) (es : List Asked) (heard : ℕ → Seen → Bool) (test : ℕ → List Action → Seen → Bool) → HeaderInForm hd → length es ≤ most_events
-    → ((x : ℕ) → is_some (object_line hd x) ≡ true → KeepsHeard hd x (heard x))
+    → ((x : ℕ) → is_some (object_line hd x) ≡ true → KeepsHeardJoined hd x (heard x))
     → AreRestBeside hd heard test
     → IsSerialRun hd es

@@ -72,5 +72,5 @@ abbrev pub RunsAreOrdered : Type 0
 RunsAreOrdered = (hd : Header) (x : ℕ) (test : Seen → Bool) → HeaderInForm hd → is_some (object_line hd x) ≡ true → KeepsHeard hd x test → (es : List Asked) → length es ≤ most_events → Holds hd (IsOrderedSo hd x) (run_all es (format hd))
 
 abbrev pub RunsAreOrderedBeside : Type 0
-RunsAreOrderedBeside = (hd : Header) (x : ℕ) (part : Kinds → Office → Seen → Bool) → HeaderInForm hd → is_some (object_line hd x) ≡ true → KeepsPart hd x (λ M. IsGood M × KnowsFew M) (λ tops A M. part tops A M ≡ true)
+RunsAreOrderedBeside = (hd : Header) (x : ℕ) (part : Kinds → Office → Seen → Bool) → HeaderInForm hd → is_some (object_line hd x) ≡ true → KeepsPart hd x (λ W M. IsGood M × KnowsFew M) (λ tops A M. part tops A M ≡ true)
     → (es : List Asked) → length es ≤ most_events → Holds hd (IsOrderedSo hd x) (run_all es (format hd))
