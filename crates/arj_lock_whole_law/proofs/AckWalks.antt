@@ -207,7 +207,7 @@ all_at P (y ∷ ys) x all (inr i) = all_at P ys x all.1 i
 
 module _ (begun : List Action) (all : AreBegun begun) (homes : AreHomed begun) (k : ℕ) where
   -- a part is of its action's node
-  part_home : (u w : Uid) → IsPartOf begun u w → w.node ≡ k → u.node ≡ k
+  pub part_home : (u w : Uid) → IsPartOf begun u w → w.node ≡ k → u.node ≡ k
   part_home u w (inl same) home = ap (λ (z : Uid). z.node) same ∙ home
   part_home u w (inr a) home = ap (λ (z : Uid). z.node) (sym a.2) ∙ sym (all_at (λ (z : Action). (first_uid (uids_of z.path)).node ≡ (act_of z).node) begun a.0 homes (in_from a.0 begun a.1)) ∙ ap (λ (z : Uid). z.node) a.4 ∙ home
 

@@ -70,7 +70,7 @@ use Rattle.arj_lock_fact_law.proofs.Uppers.{nested_nothing}
 use Rattle.arj_lock_fact_law.proofs.Works.{works_keep}
 use Rattle.arj_lock_run_law.specs.Answers.{KnowsAnswer}
 use Rattle.arj_lock_run_law.specs.Asking.{HasWholeRoots, IsAskedAbout, TellsRecords}
-use Rattle.arj_lock_run_law.specs.Beside.{Case, HoldsNamingIn, IsConfirmedNow, IsSeenIn, KnowsSpot, Spot, view_in, world_at}
+use Rattle.arj_lock_run_law.specs.Beside.{Case, HoldsNamingIn, IsConfirmedNow, IsSeenIn, KnowsSpot, Spot, server_at, view_in, world_at}
 use Rattle.arj_lock_run_law.specs.Coordinating.{KnowsAsks, coord_at}
 use Rattle.arj_lock_run_law.specs.Fixed.{Fixed}
 use Rattle.arj_lock_run_law.specs.Inputs.{KnowsAfter, KnowsInput}
@@ -377,7 +377,7 @@ module _ (hd : Header) (x : ℕ) (has : HasObject hd x) (E : List Action → See
         parted = whole.parted;
         server = record {
           listed = listed;
-          left = λ u told new over never. none_left f x begun S s seen whole.aborts whole.acks (λ t c three called writes survives same. rest.recorded begun S (world_at s) t c (knows, more) seen three called writes survives same) u told never;
+          left = λ u told new over never. none_left f x begun S s seen whole.aborts whole.acks (λ t c n its asked three called writes survives same. rest.recorded begun S (world_at s) t c n k (let v = server_at s in v.inc) (knows, more) seen its asked three called writes survives same) u told never;
           unvoted = λ u told new top open_unit. unvoted f x begun S s seen whole.parted whole.records whole.aborts u told top open_unit;
         };
         naming = λ n is. record {
@@ -433,4 +433,4 @@ module _ (hd : Header) (x : ℕ) (has : HasObject hd x) (E : List Action → See
   -- where no more is known of the machine's state
   pub gives_alone : GivesRest f x (λ b T N. Known_all b N) → GivesLocks hd f x (λ b T N. Known_all b N)
   gives_alone rest = gives_by hd f x (λ b T N. Known_all b N × ⊤) (λ b T N. Known_all b N) (λ b T N q. (q, tt))
-      (gives_locks (λ b T N. ⊤) (record { recorded = λ b T N t k q. rest.recorded b T N t k q.0; last = λ b T s from m a q. rest.last b T s from m a q.0 }))
+      (gives_locks (λ b T N. ⊤) (record { recorded = λ b T N t k n j i q. rest.recorded b T N t k n j i q.0; last = λ b T s from m a q. rest.last b T s from m a q.0 }))
