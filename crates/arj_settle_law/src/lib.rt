@@ -11,5 +11,6 @@
 mod settles;
 
 pub use settles::{
-    quiesces_leave_nodes_idle, rounds_leave_nodes_idle, whoever_is_prepared_settles,
+    files_of_idle_nodes_hold_the_last, quiesces_leave_nodes_idle, rounds_leave_nodes_idle,
+    whoever_is_prepared_settles,
 };
