@@ -134,7 +134,7 @@ tied_first Idle W M none empty = ((λ u n here d. absurd (never d (ap (λ ds. is
 pub was_up : {A : Type 0} (t : Parts) → Some t ≡ None → A
 was_up t is = absurd (cc is)
 
-module _ (hd : Header) (x : ℕ) (R G : Seen → Type 0) (P : Kinds → Office → Seen → Type 0) (Idle : List Line → Uid → Type 0) (kept : Keeps hd R) (parts : KeepsPart hd x (λ W M. R M × G M) P) (idles : KnowsIdle R Idle) where
+module _ (hd : Header) (x : ℕ) (R : Seen → Type 0) (G : machine.World → Seen → Type 0) (P : Kinds → Office → Seen → Type 0) (Idle : List Line → Uid → Type 0) (kept : Keeps hd R) (parts : KeepsPart hd x (λ W M. R M × G W M) P) (idles : KnowsIdle R Idle) where
   abbrev pub Both : Seen → Type 0
   Both M = R M × IsKept M
 
@@ -192,7 +192,7 @@ module _ (hd : Header) (x : ℕ) (R G : Seen → Type 0) (P : Kinds → Office �
   goes_from : (o : Change) (A C : Office) → C.world ≡ A.world → machine.Whole A.world → (B : Office) → Changes o C B → Goes A.world B.world
   goes_from o A C same whole B c = subst (λ W. Goes W B.world) same (goes_by o C B (subst machine.Whole (sym same) whole) c)
 
-  pub tied_part : KeepsPart hd x (λ W M. Both M × G M) (WithTie P Idle)
+  pub tied_part : KeepsPart hd x (λ W M. Both M × G W M) (WithTie P Idle)
   tied_part = record {
     quiet = λ tops e bs M A walk quiet r both (part, tie) B changed seen. let w = lines_too.quiet e bs M quiet r.0.1 in (
       parts.quiet tops e bs M A walk quiet (r.0.0, r.1) both part B changed seen,
@@ -270,10 +270,10 @@ journalled_beside hd x R P kept parts es short =
     let Idle : List Line → Uid → Type 0 = λ ls u. IsIdle (book ls) u in
     let idles = knows_idle R in
     let Q : Kinds → Seen → Type 0 = IsCarried (WithTie P Idle) x in
-    let B : Seen → Type 0 = Both hd x R KnowsScript P Idle kept parts idles in
+    let B : Seen → Type 0 = Both hd x R (λ W M. KnowsScript M) P Idle kept parts idles in
     let Known : Seen → Type 0 = λ M. B M × HaveEntries x M in
-    let tied = tied_part hd x R KnowsScript P Idle kept parts idles in
-    let known = with_entries hd x B (λ M. B M × KnowsScript M) (WithTie P Idle) tied (both_too hd x R KnowsScript P Idle kept parts idles) in
+    let tied = tied_part hd x R (λ W M. KnowsScript M) P Idle kept parts idles in
+    let known = with_entries hd x B (λ M. B M × KnowsScript M) (WithTie P Idle) tied (both_too hd x R (λ W M. KnowsScript M) P Idle kept parts idles) in
     let r = script_holds hd (IsKeptInRun Known Q) (all_keep hd x Known KnowsScript Q known (gives_votes Known) (both_each hd x B KnowsScript (WithTie P Idle) tied)) es short in
     let h = r.holds.1 in
     let g = h.1 in

@@ -1,6 +1,6 @@
 -- Both machines of each object at once, in every run.
 use Rattle.std.proofs.Common.{◌≡◌, ◌==◌, ℕ, true, List, is_some, subst, refl, Option, Some, None, eqb-true}
-use Rattle.arj_joint_law.specs.Joined.{HasStates, IsBeside, IsJoinedSo, RunsAreJoined, world_of}
+use Rattle.arj_joint_law.specs.Joined.{HasStates, IsBeside, IsJoinedSo, RunsAreJoined, SeesTied, world_of}
 use Rattle.arj_joint_law.proofs.Joining.{HasLocks, WithLocks, locks_part}
 use Rattle.arj_joint_law.proofs.OrderedRuns.{IsOrderedBeside, ordered_beside}
 use Rattle.arj_disk_run_law.proofs.BothEach.{counted_by, heard_beside}
@@ -22,13 +22,18 @@ use Rattle.arj_protocol.specs.World.{format, run_all}
 use Rattle.arj_call_law.specs.Servers.{AreOneCall}
 use Rattle.arj_part_law.proofs.Begun.{begun_tree, path_found}
 use Rattle.arj_lock.proofs.Members.{in_find, in_to}
-use Rattle.arj_line_law.specs.Book.{new_book}
+use Rattle.arj_line_law.specs.Book.{book, new_book}
 use Rattle.arj_line_law.specs.Right.{AreRight}
 use Rattle.arj_line_law.proofs.Runs.{run_written}
 use Rattle.arj_serial_law.specs.Seen.{RequestsAreOne}
 use Rattle.arj_joint_law.proofs.Written.{bare, wrote}
 use Rattle.arj_lock_fact_law.specs.Entries.{HasObject}
 use Rattle.arj_disk_run_law.proofs.Scripts.{part_more}
+use Rattle.arj_disk_line_law.proofs.IdleKnown.{knows_idle}
+use Rattle.arj_disk_line_law.proofs.Tying.{tied_part}
+use Rattle.arj_line_law.specs.Idle.{IsIdle}
+use Rattle.arj_line_law.specs.Knows.{IsKept}
+use Rattle.arj_disk_run_law.specs.Bindings.{KnowsScript}
 
 pub header_has : (hd : Header) (x : ℕ) → is_some (object_line hd x) ≡ true → HasObject hd x
 header_has hd x there = by (object_line hd x) refl there
@@ -54,10 +59,18 @@ runs_are_joined hd x heard test form there kept rest es short =
     R begun M = KnowsWhole x begun M × E begun M
 
     Joined : Kinds → Office → Seen → Type 0
-    Joined tops A M = WithLocks x R (SeesCarried x) tops A M
+    Joined tops A M = WithLocks x R (SeesTied x) tops A M
+
+    -- the disk half, beside states of the lock half
+    heard_there : KeepsPart hd x (λ W M. IsCountedWith heard M × (KnowsScript M × HasLocks x R W M)) (SeesCarried x)
+    heard_there = part_more hd x (λ W M. IsKnownWith heard M × HasStates x W M) (λ W M. IsCountedWith heard M × (KnowsScript M × HasLocks x R W M)) (SeesCarried x) (λ W M q. let j = q.1.1 in ((q.0, q.1.0), (j.0, j.1, j.3))) (heard_beside hd x heard (HasStates x) (line_there hd x form there).0 kept)
+
+    -- and tied to the journal
+    tied : KeepsPart hd x (λ W M. (IsCountedWith heard M × IsKept M) × (KnowsScript M × HasLocks x R W M)) (SeesTied x)
+    tied = tied_part hd x (IsCountedWith heard) (λ W M. KnowsScript M × HasLocks x R W M) (SeesCarried x) (λ ls u. IsIdle (book ls) u) (counted_by hd heard kept.kept) heard_there (knows_idle (IsCountedWith heard))
 
     part : KeepsPart hd x (λ W M. IsKnownWith heard M) Joined
-    part = locks_part hd x (IsKnownWith heard) KnowsFew R (SeesCarried x) (λ M r. let s = r.1 in s.0) (kept_beside hd x has E rest.kept) (λ f. gives_locks hd x has E f (λ begun S M. IsBeside x heard f begun S M) (rest.gives f)) (λ M few. votes_in M few.1.1) (λ M few. few.1.1) (part_more hd x (λ W M. IsKnownWith heard M × HasStates x W M) (λ W M. IsKnownWith heard M × HasLocks x R W M) (SeesCarried x) (λ W M q. let j = q.1 in (q.0, (j.0, j.1, j.3))) (heard_beside hd x heard (HasStates x) (line_there hd x form there).0 kept)) (λ tops A M p. p.0)
+    part = locks_part hd x (IsKnownWith heard) KnowsFew R (SeesTied x) (λ M r. let s = r.1 in s.0) (kept_beside hd x has E rest.kept) (λ f. gives_locks hd x has E f (λ begun S M. IsBeside x heard f begun S M) (rest.gives f)) (λ M few. votes_in M few.1.1) (λ M few. few.1.1) (part_more hd x (λ W M. (IsCountedWith heard M × IsKept M) × (KnowsScript M × HasLocks x R W M)) (λ W M. IsKnownWith heard M × HasLocks x R W M) (SeesTied x) (λ W M q. let r = q.0 in ((r.0, r.0.0.1), (r.1, q.1))) tied) (λ tops A M p. p.0.0)
 
     joined : (sent : List Post) → IsOrderedBeside Joined hd x (see sent (run_all es (format hd))) → IsJoinedSo hd x (see sent (run_all es (format hd)))
     joined sent (o, tops, A, same, p, few) = record {

@@ -106,9 +106,9 @@ pub ordered_beside : (hd : Header) (x : ℕ) (R : Seen → Type 0) (P : Kinds �
 ordered_beside hd x R P form there kept parts es short =
     let first : KeepsPart hd x (λ W M. Marking R M × KnowsScript M) (WithFirst hd x (WithMarks x P)) = first_part hd x (λ M. Marking R M × KnowsScript M) (WithMarks x P) marks (first_begins hd x form there) in
     let idles : KnowsIdle (Marking R) Idle = knows_idle (Marking R) in
-    let tied = tied_part hd x (Marking R) KnowsScript (WithFirst hd x (WithMarks x P)) Idle marking first idles in
-    let ordered = ordered_part hd x (λ M. Marking R M × IsKept M) KnowsScript (WithTie (WithFirst hd x (WithMarks x P)) Idle) Idle (both_too hd x (Marking R) KnowsScript (WithFirst hd x (WithMarks x P)) Idle marking first idles) (λ M r. r.1) (knows_idle (λ M. Marking R M × IsKept M)) tied (λ tops A M p. (p.1).1) in
-    let h = journalled_beside hd x (λ M. Marking R M × IsKept M) _ (both_too hd x (Marking R) KnowsScript (WithFirst hd x (WithMarks x P)) Idle marking first idles) ordered es short in
+    let tied = tied_part hd x (Marking R) (λ W M. KnowsScript M) (WithFirst hd x (WithMarks x P)) Idle marking first idles in
+    let ordered = ordered_part hd x (λ M. Marking R M × IsKept M) KnowsScript (WithTie (WithFirst hd x (WithMarks x P)) Idle) Idle (both_too hd x (Marking R) (λ W M. KnowsScript M) (WithFirst hd x (WithMarks x P)) Idle marking first idles) (λ M r. r.1) (knows_idle (λ M. Marking R M × IsKept M)) tied (λ tops A M p. (p.1).1) in
+    let h = journalled_beside hd x (λ M. Marking R M × IsKept M) _ (both_too hd x (Marking R) (λ W M. KnowsScript M) (WithFirst hd x (WithMarks x P)) Idle marking first idles) ordered es short in
     let b = h.holds in
     let order = (let z = b.3 in z.1) in
     let more = (let z = b.3 in let t = z.0 in let p = t.0 in p.0) in

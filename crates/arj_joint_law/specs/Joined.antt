@@ -26,7 +26,10 @@ use Rattle.arj_lock_law.specs.Machine.{Run, start}
 use Rattle.arj_lock_law.specs.State as lock
 use Rattle.arj_view_law.specs.Keeps.{Holds}
 use Rattle.arj_view_law.specs.Seen.{Seen}
+use Rattle.arj_line_law.specs.Book.{book}
+use Rattle.arj_line_law.specs.Idle.{IsIdle}
 use Rattle.arj_line_law.specs.Paths.{IsAlikeOf}
+use Rattle.arj_disk_line_law.specs.Said.{WithTie}
 use Rattle.arj_lock_fact_law.specs.Votes.{side_at}
 use Rattle.arj_lock_view_law.specs.Plans.{SeesMachine}
 use Rattle.arj_lock_view_law.specs.Voted.{HasVotes}
@@ -95,9 +98,13 @@ HasStates x W M = (begun : List Action) × IsAlikeOf begun M × ((f : Fixed) →
 abbrev pub KeepsHeardJoined : Header → ℕ → (Seen → Bool) → Type 0
 KeepsHeardJoined hd x heard = KeepsHeardBeside hd x heard (HasStates x)
 
+-- what is carried beside the disk machine's state, with its tie to the journal: who is decided is said so, and the other way round
+abbrev pub SeesTied : ℕ → Kinds → Office → Seen → Type 0
+SeesTied x tops A M = WithTie (SeesCarried x) (λ ls u. IsIdle (book ls) u) tops A M
+
 -- so much may be counted on of a state of the lock machine
 abbrev pub IsBeside : ℕ → (Seen → Bool) → Fixed → List Action → lock.State → Seen → Type 0
-IsBeside x heard f begun S M = IsKnownWith heard M × IsPaired x (SeesCarried x) f begun S M
+IsBeside x heard f begun S M = IsKnownWith heard M × IsPaired x (SeesTied x) f begun S M
 
 -- ---- the run
 
