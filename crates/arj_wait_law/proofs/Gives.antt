@@ -1,38 +1,38 @@
 -- What is known of whoever waits gives that requests are answered, with what is still to be given.
-use Rattle.std.proofs.Common.{Bool, List, None, Option, Some, [], ap, arith, cond, eqb-true, false, map, refl, subst, sym, true, ℕ, ⊎_elim, ◌<◌, ◌==◌, ◌∙◌, ◌∷◌, ◌≡◌, ◌≤◌}
+use Rattle.std.proofs.Common.{Bool, List, None, Option, Some, [], ap, arith, cond, eqb-true, false, map, refl, subst, sym, true, ℕ, ⊎_elim, ◌<◌, ◌==◌, ◌∙◌, ◌∷◌, ◌≡◌, ◌≢◌, ◌≤◌}
 use Rattle.std.specs.Prelude.{IfSome, is_some, nat_lt, not, option_map, ◌&&◌, ◌||◌}
-use Rattle.std.specs.List.{AllByRecursion}
+use Rattle.std.specs.List.{AllByRecursion, list_any}
 use Rattle.std.proofs.lemmas.Bool.{and_parts, false_from_ne_true, or_cases}
 use Rattle.arj_protocol.specs.Words as words
-use Rattle.arj_protocol.specs.Words.{Ask, Binding, End, Head, Header, ObjectState, Op, Path, Uid, asks, class_of, has_op, object, uid_eq}
+use Rattle.arj_protocol.specs.Words.{Ask, Binding, End, Head, Header, ObjectState, Op, Path, RecordedReply, Uid, asks, class_of, has_op, is_on, object, uid_eq}
 use Rattle.arj_protocol.specs.Words.ask
-use Rattle.arj_protocol.specs.Ask.{Reply, actor, answers}
+use Rattle.arj_protocol.specs.Ask.{Reply, actor, answers, top_of, top_path}
 use Rattle.arj_protocol.specs.Call.{At, AtActivate, AtBind, AtInvoke, AtLoad, AtNote, Goal, Include, Known, Run, Steps, ask_at, invoked_op, is_include, next_ask, node_at}
-use Rattle.arj_protocol.specs.Commit.{Confirming, Machine, Preparing, Used, Voting, ask_of, confirm_ask, included_of, left_of, plan_of, states_for, vote_ask}
+use Rattle.arj_protocol.specs.Commit.{Confirming, Machine, Plan, Preparing, Used, Voting, ask_of, confirm_ask, included_of, left_of, plan_of, states_for, vote_ask}
 use Rattle.arj_protocol.specs.Coord.{Calling, Committing, Coord, Doing, doing_of, kept_of, root_at}
-use Rattle.arj_protocol.specs.Effect.{Disk, prepare_answer}
+use Rattle.arj_protocol.specs.Effect.{Already, Disk, Served, prepare_answer, reply, void}
 use Rattle.arj_protocol.specs.Naming.{Naming, is_over}
 use Rattle.arj_protocol.specs.Node.{Parts, are_of_objects, ask_is_meant, copy_has_op, is_loaded_for, is_loaded_in, reply_is_meant, serve, stand_once, taken}
 use Rattle.arj_protocol.specs.Server.{Kept, active_binding, binding_of, has_ended, is_below}
 use Rattle.arj_protocol.specs.Step.{Node, class_at}
 use Rattle.arj_protocol.specs.Tree.{at_place, is_own, root_of}
-use Rattle.arj_part_law.specs.Actions.{Action}
+use Rattle.arj_part_law.specs.Actions.{Action, action_of}
 use Rattle.arj_part_law.specs.Coords.{IsAsking, IsBusy}
 use Rattle.arj_part_law.specs.Requests.{AreOnce, IsNumbered}
 use Rattle.arj_call_law.specs.Coords.{IsOfStep, bare, head_of}
 use Rattle.arj_run_law.specs.Worlds.{IsGoodOf, IsUp}
 use Rattle.arj_view_law.specs.Seen.{In, Post, Seen, up}
 use Rattle.arj_disk_view_law.proofs.Frames.{node_here}
-use Rattle.arj_address_law.proofs.Lists.{some_is}
+use Rattle.arj_address_law.proofs.Lists.{all_at_uid, never, some_is}
 use Rattle.arj_part_law.proofs.LivesNamed.{keyed_found}
 use Rattle.arj_lock_fact_law.specs.Requests.{IsAskedBy}
 use Rattle.arj_round_law.specs.Rounds.{AnswersWaits, HasCome, IsVoid}
 use Rattle.arj_round_law.specs.Waits.{IsOvertaken, IsSaid, IsToSettle, coord_in, coord_of, want_of_call, want_of_commit}
 use Rattle.arj_disk_run_law.specs.Entries.{IsEntryNode, KnowsEntries}
 use Rattle.arj_lock_fact_law.specs.Entries.{HasObject}
-use Rattle.arj_protocol.specs.Order.{at_number, at_uid, binding_less, binding_number, has, unbound}
+use Rattle.arj_protocol.specs.Order.{at_number, at_uid, binding_eq, binding_less, binding_number, has, unbound}
 use Rattle.arj_past_law.specs.Told.{ArePastIn}
-use Rattle.arj_wait_law.specs.Waits.{AnswersRest, KnownGive, LeftOfCommit, LeftOfStep, WaitsAreKnown}
+use Rattle.arj_wait_law.specs.Waits.{AnswersRest, HasStored, KnownGive, WaitsAreKnown}
 use Rattle.arj_wait_law.proofs.Known.{all_send, are_objects, class_is, copy_fits, has_each, keyed_at, loads_own, not_below, object_is, op_fits, used_is, waits_req}
 use Rattle.arj_wait_law.proofs.Replies.{activate_answers, bind_answers, confirm_answers, invoke_answers, load_answers, prepare_answers, record_answers, taken_void, vote_answers}
 use Rattle.arj_wait_law.proofs.Untold.{its_coord, its_up, naming_untold, server_untold}
@@ -42,15 +42,19 @@ use Rattle.arj_disk_run_law.specs.States.{AtIsSo, NowIsSo, OwnOf}
 use Rattle.arj_journal.specs.ScriptForm.{HeaderInForm}
 use Rattle.arj_part_law.specs.AskedObjects.{IsNowOf, IsUsedIn, KnowsObjects}
 use Rattle.arj_address_law.specs.Binds.{KnowsBinds, StandsOn}
-use Rattle.arj_wait_law.specs.Asked.{ActivateNamed, ReplyWasAsked, ServerWasAsked, WasAsked, WasBrought}
+use Rattle.arj_wait_law.specs.Asked.{ActivateNamed, HasMade, MadeWasSaid, NamedAt, NamedWasSaid, ReplyWasAsked, ServerWasAsked, StandsIn, WasAsked, WasBrought, WasMade, WasNamed}
 use Rattle.arj_disk_run_law.proofs.Lists.{all_each}
 use Rattle.arj_model.specs.Last.{first_values}
-use Rattle.arj_base.proofs.Uids.{uid_same}
+use Rattle.arj_base.proofs.Uids.{uid_is, uid_same}
 use Rattle.arj_protocol.specs.Asking.{waits_for_call}
 use Rattle.arj_protocol.specs.Words.loaded
 use Rattle.arj_protocol.specs.Copy.{Copy}
 use Rattle.std.proofs.lemmas.Bool.Decides.{nat_tests}
 use Rattle.arj_protocol.specs.Words.body
+use Rattle.arj_protocol.specs.Named.{Made, Named, in_use, is_binding, lower_lines, lowered, note_made, note_named, note_other}
+use Rattle.arj_protocol.specs.Words.recorded
+use Rattle.arj_part_law.specs.Messages.{IsAsker}
+use Rattle.arj_record_law.proofs.Tops.{top_among}
 
 -- ---- requests without their ends
 
@@ -91,6 +95,35 @@ nothing_less b less = by (binding_number b) less
   where
     by : (n : ℕ) → nat_lt n 0 ≡ true → ⊥
     by n is = grind (arith, nat_tests, is)
+
+-- whoever is told on a path
+over_one : (f : Uid → Bool) (us : List Uid) (w : Uid) → is_on us w ≡ true → f w ≡ true → list_any f us ≡ true
+over_one f [] w on is = absurd (cc on)
+over_one f (u ∷ us) w on is = ⊎_elim (λ same. first (f u) (list_any f us) (ap f (uid_is u w same) ∙ is)) (λ late. second (f u) (list_any f us) (over_one f us w late is)) (or_cases (uid_eq u w) (is_on us w) on)
+  where
+    first : (a b : Bool) → a ≡ true → (a || b) ≡ true
+    first true b e = refl
+    first false b e = absurd (cc e)
+
+    second : (a b : Bool) → b ≡ true → (a || b) ≡ true
+    second true b e = refl
+    second false b e = e
+
+-- a binding is recorded where it was made last for the top
+not_noted : (x : ℕ) (top : Uid) (b : Binding) (i : ℕ) (o : Named) (m : Made) → at_uid top o.made ≡ Some m → is_some (note_named x top b i o).reply ≡ false → binding_eq b m.binding ≡ false
+not_noted x top b i o m there none = by (is_binding b o.recorded) none
+  where
+    made : (r : Bool) → is_some (cond {A = Served Named RecordedReply} r (reply o recorded.Yes) (record { part = lowered x top (in_use top m i o); outs = lower_lines x top o; reply = Some recorded.Yes })).reply ≡ false → ⊥
+    made true e = cc e
+    made false e = cc e
+
+    one : (e : Bool) → is_some (cond {A = Served Named RecordedReply} e (note_made x top i o m) (void o)).reply ≡ false → e ≡ false
+    one true unsaid = absurd (made m.recorded unsaid)
+    one false unsaid = refl
+
+    by : (e : Bool) → is_some (cond {A = Served Named RecordedReply} e (reply o recorded.Yes) (note_other x top b i o (at_uid top o.made))).reply ≡ false → binding_eq b m.binding ≡ false
+    by true unsaid = absurd (cc unsaid)
+    by false unsaid = one (binding_eq b m.binding) (subst (λ (q : Option Made). is_some (note_other x top b i o q).reply ≡ false) there unsaid)
 
 -- ---- a Confirm
 
@@ -203,7 +236,7 @@ module _ (hd : Header) (form : HeaderInForm hd) (j : ℕ) (d : Disk) (t : Parts)
   -- what is known of its states
   state_now : (k : ℕ) (at_k : IsAt W k c) (x : ℕ) → NowIsSo (so_of (kind_of hd x)) q.now
   state_now k at_k x =
-      let f = (known.1.0.0.1 x).0 k at_k.node at_k.found in
+      let f = (known.1.0.0.0.1 x).0 k at_k.node at_k.found in
       let p = subst (UpIsSo (kind_of hd x)) at_k.live f.1 in
       let e = p.coord in
       e.works u q (ap (doing_of u) at_k.same ∙ does)
@@ -249,7 +282,7 @@ module _ (hd : Header) (form : HeaderInForm hd) (j : ℕ) (d : Disk) (t : Parts)
 
     -- the copy's class has its operation
     op_meant : (k : Known) (i : ℕ) → s.at ≡ AtInvoke k i → copy_has_op (invoked_op s.goal) (at_number s.x (let v = t.server in v.objects)) ≡ true
-    op_meant k i is = copy_fits (invoked_op s.goal) s.x (class_of (first_values hd s.x)) t.server (let p = (known.1.0.0.1 s.x).0 j here (node_here M j here) in let z = p.1 in z.server) (fits s.goal refl its_goal.2)
+    op_meant k i is = copy_fits (invoked_op s.goal) s.x (class_of (first_values hd s.x)) t.server (let p = (known.1.0.0.0.1 s.x).0 j here (node_here M j here) in let z = p.1 in z.server) (fits s.goal refl its_goal.2)
       where
         binds : KnowsBinds W.sent from (let x = at_it in let y = x.parts in y.coord)
         binds = let b = known.0.1.0.0.1 in b.nodes from at_it.node at_it.parts at_it.found at_it.live
@@ -302,34 +335,65 @@ module _ (hd : Header) (form : HeaderInForm hd) (j : ℕ) (d : Disk) (t : Parts)
 
         by : (o : Option Copy) → at_number st.uid.num (let v = t.server in v.objects) ≡ o → binding_less k.binding (binding_of o) ≡ true → IsOvertaken (IsSaid M.lines) s
         by None none less = absurd (nothing_less k.binding less)
-        by (Some y) there less = record { known = k; step = subst (λ z. IsToSettle z k) (sym is) refl; binding = y.binding; server = named.1.server; line = subst (λ x. IsSaid M.lines (body.Bound x y.binding named.1.server)) x_is named.1.line; greater = less }
+        by (Some y) there less = record { known = k; step = subst (λ z. IsToSettle z k) (sym is) refl; binding = y.binding; server = named.1.server; line = subst (λ x. IsSaid M.lines (body.Bound x y.binding named.1.server)) x_is named.1.claim.0; greater = less }
           where
             brought : WasBrought W.sent st.uid.num y.binding
             brought = keyed_found (λ x (z : Copy). WasBrought W.sent x z.binding) st.uid.num (let v = t.server in v.objects) y of_server.copies there
 
-            named : ActivateNamed W.sent (IsSaid M.lines) brought.head y.binding brought.state
+            named : ActivateNamed W.sent (WasMade W) brought.head y.binding brought.state
             named = let w = known.1.0.1 in w.activates brought.post brought.head y.binding brought.state brought.posted brought.asking
 
             x_is : (let z = brought.state in z.uid.num) ≡ s.x
             x_is = brought.object_is ∙ ap (λ (z : Uid). z.num) (its_state k st is)
 
-    call_given : LeftOfStep d t M s s.at → IsVoid (taken j d t from (let p = h.post in p.message)) → IsOvertaken (IsSaid M.lines) s
-    call_given left void_it = by s.at refl left
+    -- naming records a binding of its incarnation, where it made no later one for the top
+    unrecorded : (k : Known) (i : ℕ) → s.at ≡ AtNote k i → j ≡ 1 → (o : Naming) (v : Named) → t.naming ≡ Some o → at_number s.x o.objects ≡ Some v → (k.grant == o.inc) ≡ true → is_some (note_named s.x (top_of s.path) k.binding i v).reply ≡ false → IsOvertaken (IsSaid M.lines) s
+    unrecorded k i is one o v naming_is at_v ours none = ⊎_elim (λ told. absurd (never (over told) (untold_naming_here from at_it s.path asking_call o naming_is))) made stands
+      where
+        of_step_named : WasNamed W.sent (WasMade W) s.path s.x k.binding k.grant
+        of_step_named = subst (NamedAt W.sent (WasMade W) s.goal s.path s.x) is (let w = known.1.0.1 in w.steps from at_it.node at_it.parts at_it.found at_it.live u q s (ap (doing_of u) at_it.same ∙ does) now)
+
+        stands : StandsIn o (top_of s.path) s.x k.binding
+        stands = let z = of_step_named.claim.1 here (ap W.nodes (sym one) ∙ node_here M j here) in z.stands t o refl naming_is (eqb-true k.grant o.inc ours)
+
+        asker : IsAsker (begun hd W known j u c q does) s.path
+        asker = let a = asking_call in let g = its_coord (begun hd W known j u c q does) W (good hd W known j u c q does) from at_it.node at_it.parts at_it.found at_it.live in (action_of a.branch, g.known u a.branch a.found, a.path, a.unserial)
+
+        over : is_on o.told (top_of s.path) ≡ true → is_over s.path o ≡ true
+        over told = over_one (λ w. is_on o.told w) (top_path s.path) (top_of s.path) (top_among (begun hd W known j u c q does) (let g = good hd W known j u c q does in g.begun) s.path asker) told
+
+        made : HasMade o.objects (top_of s.path) s.x k.binding → IsOvertaken (IsSaid M.lines) s
+        made w = record { known = k; step = subst (λ z. IsToSettle z k) (sym is) refl; binding = w.made.binding; server = w.made.server; line = line; greater = unequal (binding_number k.binding) (binding_number w.made.binding) w.above other }
+          where
+            same : v ≡ w.named
+            same = some_is (sym at_v ∙ w.there)
+
+            line : IsSaid M.lines (body.Bound s.x w.made.binding w.made.server)
+            line = all_at_uid (λ (z : Made). IsSaid M.lines (body.Bound s.x z.binding z.server)) (top_of s.path) w.made w.named.made (keyed_found (NamedWasSaid (IsSaid M.lines)) s.x o.objects w.named (subst (MadeWasSaid (IsSaid M.lines)) naming_is (let z = known.1.0.1 in z.namings j here t (node_here M j here) refl)) w.there) w.of
+
+            other : (binding_number k.binding == binding_number w.made.binding) ≡ false
+            other = not_noted s.x (top_of s.path) k.binding i v w.made (ap (λ (z : Named). at_uid (top_of s.path) z.made) same ∙ w.of) none
+
+            unequal : (a b : ℕ) → a ≤ b → (a == b) ≡ false → nat_lt a b ≡ true
+            unequal a b le apart = grind (arith, nat_tests, le, apart)
+
+    call_given : ((k : Known) (n : ℕ) (later : List ℕ) → s.at ≡ AtLoad k n later → HasStored d s.x) → IsVoid (taken j d t from (let p = h.post in p.message)) → IsOvertaken (IsSaid M.lines) s
+    call_given left void_it = by s.at refl
       where
         same_ask : (a : Ask) → is_invoke_ask a ≡ false → next_ask [] s ≡ a → (let x = h.asks in x.ask) ≡ a
         same_ask a plain is = same_bare (let x = h.asks in x.ask) a plain (of_step.same ∙ is)
 
-        by : (at : At) → s.at ≡ at → LeftOfStep d t M s at → IsOvertaken (IsSaid M.lines) s
-        by (AtBind avoid) is l = let one = sym h.node ∙ ap node_at is in let o = naming_here one in
+        by : (at : At) → s.at ≡ at → IsOvertaken (IsSaid M.lines) s
+        by (AtBind avoid) is = let one = sym h.node ∙ ap node_at is in let o = naming_here one in
             absurd (bind_answers j d t from (head_of s) s.x (is_include s.goal) avoid o.0 o.1 (untold_naming_here from at_it s.path asking_call o.0 o.1) (object_here one o.0 o.1 s.x object_there)
             (unserved void_it (ask.Bind s.x (is_include s.goal) avoid) (same_ask (ask.Bind s.x (is_include s.goal) avoid) refl (ap (ask_at s.x s.goal []) is)) refl))
-        by (AtLoad k n rest) is l = absurd (load_answers j d t from (head_of s) s.x l (unserved void_it (ask.Load s.x) (same_ask (ask.Load s.x) refl (ap (ask_at s.x s.goal []) is)) refl))
-        by (AtActivate k st) is l = activate_answers j d t from (head_of s) k.binding st (untold_server_here from at_it s.path asking_call) (overtaken k st is)
+        by (AtLoad k n rest) is = absurd (load_answers j d t from (head_of s) s.x (left k n rest is) (unserved void_it (ask.Load s.x) (same_ask (ask.Load s.x) refl (ap (ask_at s.x s.goal []) is)) refl))
+        by (AtActivate k st) is = activate_answers j d t from (head_of s) k.binding st (untold_server_here from at_it s.path asking_call) (overtaken k st is)
             (unserved void_it (ask.Activate k.binding st) (same_ask (ask.Activate k.binding st) refl (ap (ask_at s.x s.goal []) is)) (object_is hd form s.x object_there st.uid (its_state k st is)))
-        by (AtNote k i) is l = let one = sym h.node ∙ ap node_at is in let o = naming_here one in
-            record_answers j d t from (head_of s) s.x k.binding i k.grant o.0 o.1 (untold_naming_here from at_it s.path asking_call o.0 o.1) (object_here one o.0 o.1 s.x object_there) (λ v at_v ours none. l o.0 v o.1 at_v ours none)
+        by (AtNote k i) is = let one = sym h.node ∙ ap node_at is in let o = naming_here one in
+            record_answers j d t from (head_of s) s.x k.binding i k.grant o.0 o.1 (untold_naming_here from at_it s.path asking_call o.0 o.1) (object_here one o.0 o.1 s.x object_there) (λ v at_v ours none. unrecorded k i is one o.0 v o.1 at_v ours none)
             (unserved void_it (ask.Record s.x k.binding i k.grant) (same_ask (ask.Record s.x k.binding i k.grant) refl (ap (ask_at s.x s.goal []) is)) refl)
-        by (AtInvoke k i) is l = let e = same_invoke (let x = h.asks in x.ask) s.x k.binding i (invoked_op s.goal) (of_step.same ∙ ap (ask_at s.x s.goal []) is) in
+        by (AtInvoke k i) is = let e = same_invoke (let x = h.asks in x.ask) s.x k.binding i (invoked_op s.goal) (of_step.same ∙ ap (ask_at s.x s.goal []) is) in
             absurd (invoke_answers j d t from (head_of s) s.x k.binding i e.0 (invoked_op s.goal) (untold_server_here from at_it s.path asking_call) kept_low (unserved void_it (ask.Invoke s.x k.binding i e.0 (invoked_op s.goal)) e.1 (op_meant k i is)))
 
   -- a commit
@@ -382,14 +446,14 @@ module _ (hd : Header) (form : HeaderInForm hd) (j : ℕ) (d : Disk) (t : Parts)
         plain w None its = tt
         plain w (Some st) its = (its.0).0 ∙ ap object its.1
 
-    commit_given : LeftOfCommit d t n m → IsVoid (taken j d t from_it (let p = h.post in p.message)) → ⊥
-    commit_given left void_it = by m refl left of_commit.0
+    commit_given : ((p : Plan) (nodes : List ℕ) → m ≡ Preparing p nodes → (w : Uid) → prepare_answer (actor p.path) (states_for n p) d.store ≢ Already w) → IsVoid (taken j d t from_it (let p = h.post in p.message)) → ⊥
+    commit_given left void_it = by m refl of_commit.0
       where
-        by : (x : Machine) → m ≡ x → LeftOfCommit d t n x → (let a = h.asks in a.head.path) ≡ (let p = plan_of m in p.path) → ⊥
-        by (Voting p nodes) is l path = vote_answers j d t from_it (let x = h.asks in x.head) _ _ p.ends (untold_server_here from_it at_its (let a = h.asks in a.head.path) asking_commit) (unserved_commit void_it (vote_ask p n) (ap (λ x. ask_of x n) is) refl)
-        by (Preparing p nodes) is l path = prepare_answers j d t from_it (let x = h.asks in x.head) (states_for n p) (λ w already. l w (ap (λ z. prepare_answer (actor z) (states_for n p) d.store) (sym (path ∙ ap (λ x. let y = plan_of x in y.path) is)) ∙ already))
+        by : (x : Machine) → m ≡ x → (let a = h.asks in a.head.path) ≡ (let p = plan_of m in p.path) → ⊥
+        by (Voting p nodes) is path = vote_answers j d t from_it (let x = h.asks in x.head) _ _ p.ends (untold_server_here from_it at_its (let a = h.asks in a.head.path) asking_commit) (unserved_commit void_it (vote_ask p n) (ap (λ x. ask_of x n) is) refl)
+        by (Preparing p nodes) is path = prepare_answers j d t from_it (let x = h.asks in x.head) (states_for n p) (λ w already. left p nodes is w (ap (λ z. prepare_answer (actor z) (states_for n p) d.store) (sym (path ∙ ap (λ x. let y = plan_of x in y.path) is)) ∙ already))
             (unserved_commit void_it (ask.Prepare (states_for n p)) (ap (λ x. ask_of x n) is) (subst (λ x. are_of_objects (states_for n (plan_of x)) ≡ true) is states_meant))
-        by (Confirming p) is l path = let one = sym h.node ∙ only n (ap (λ x. has (left_of x) n) (sym is) ∙ waits) in let o = naming_here one in
+        by (Confirming p) is path = let one = sym h.node ∙ only n (ap (λ x. has (left_of x) n) (sym is) ∙ waits) in let o = naming_here one in
             confirm_answers j d t from_it (let x = h.asks in x.head) (map {A = Used} {B = ℕ × ℕ} (λ z. (z.x, z.grant)) p.used) p.excluded (included_of p) o.0 o.1 (untold_naming_here from_it at_its (let a = h.asks in a.head.path) asking_commit o.0 o.1) (has_each o.0 p.used (subst (λ (x : Machine). AllByRecursion (λ (w : Used). is_some (at_number w.x (let y = o.0 in y.objects)) ≡ true) (let y = plan_of x in y.used)) is (all_each (λ (w : Used). HasObject hd w.x) (λ (w : Used). is_some (at_number w.x (let y = o.0 in y.objects)) ≡ true) (plan_of m).used (λ w has. object_here one o.0 o.1 w.x has) of_header)))
             (unserved_commit void_it (confirm_ask p) (ap (λ x. ask_of x n) is) (stand_in_order p.used (subst (λ (x : Machine). AreOnce (let y = plan_of x in y.used)) is (subst (IsNumbered q.req) now (number hd W known j u c q does from_it at_its)).1.0)))
           where
@@ -406,7 +470,7 @@ module _ (hd : Header) (j : ℕ) (d : Disk) (t : Parts) (M : Seen) (known : Wait
       there : IsAt (up j d t M) j t.coord
       there = record { node = record { number = j; disk = d; live = Some t }; parts = t; found = node_here M j (record { number = j; disk = d; live = Some t }); live = refl; same = refl }
 
-      asked : ReplyWasAsked M.sent (IsSaid M.lines) p a (Reply.Loaded (loaded.State st))
+      asked : ReplyWasAsked M.sent (WasMade (up j d t M)) p a (Reply.Loaded (loaded.State st))
       asked = let w = known.1.0.1 in w.replies p a (Reply.Loaded (loaded.State st)) sent is
 
       h : Head
@@ -439,9 +503,9 @@ module _ (hd : Header) (j : ℕ) (d : Disk) (t : Parts) (M : Seen) (known : Wait
 pub known_give_by : (hd : Header) → HeaderInForm hd → (P : Seen → Type 0) → ((M : Seen) → P M → WaitsAreKnown hd M) → AnswersRest P → AnswersWaits hd P
 known_give_by hd form P to rest = record {
   within = λ M p r sent. let k = (to M r).0.0.1 in let so = k.1 in let z = so.1 p sent in z.1;
-  calls = λ j d t M c u q s r does now h void_it. call_given hd form j d t M (to (up j d t M) r) c u q does s now h (rest.calls j d t M c u q s r does now h) void_it;
+  calls = λ j d t M c u q s r does now h void_it. call_given hd form j d t M (to (up j d t M) r) c u q does s now h (λ k n later is. rest.loads j d t M c u q s k n later r does now is h) void_it;
   meant = λ j d t M p a x q s r sent at is does now waits. answer_meant hd j d t M (to (up j d t M) r) p a q s sent at does now x is waits;
-  commits = λ j d t M c u q m n r does now left h void_it. commit_given hd form j d t M (to (up j d t M) r) c u q does m n now left h (rest.commits j d t M c u q m n r does now left h) void_it;
+  commits = λ j d t M c u q m n r does now left h void_it. commit_given hd form j d t M (to (up j d t M) r) c u q does m n now left h (λ p nodes is. rest.prepares j d t M c u q p nodes n r does (now ∙ ap Committing is) (ap (λ z. has (left_of z) n) (sym is) ∙ left) (subst (λ z. HasCome j (up j d t M) c (want_of_commit u z n)) is h)) void_it;
 }
 
 pub known_give : KnownGive

@@ -30,6 +30,8 @@ use Rattle.arj_lock_whole_law.specs.Called.{CallsAreOfHeader}
 use Rattle.arj_lock_whole_law.proofs.CalledWalks.{calls_keep}
 use Rattle.arj_address_law.specs.Addresses.{AreAddressed, AreOf, IsNode, LineOf}
 use Rattle.arj_address_law.proofs.Runs.{so_kept}
+use Rattle.arj_lock_fact_law.proofs.GoodNaming.{objects_keep as objects_held}
+use Rattle.arj_lock_fact_law.specs.Uppers.{ObjectsAreHeld}
 use Rattle.arj_lock_fact_law.specs.Requests.{RequestsAreKnown}
 use Rattle.arj_lock_fact_law.proofs.Requests.{requests_keep}
 use Rattle.arj_round_law.proofs.Quiesces.{asked_both}
@@ -94,8 +96,8 @@ objects_keep hd = asked_both hd (λ M. (IsGood M × BindsAreKnown M) × CallsAre
 
 -- states, answers, and what servers have
 askers_keep : (hd : Header) → HeaderInForm hd → KeepsAsked hd (AskersAreKnown hd)
-askers_keep hd form = asked_both hd (λ M. (RequestsAreKnown M × HaveForms hd M) × WereAsked M) RequestsAreHome
-    (keeps_asked hd (λ M. (RequestsAreKnown M × HaveForms hd M) × WereAsked M) (kept_both hd (λ M. RequestsAreKnown M × HaveForms hd M) WereAsked (kept_both hd RequestsAreKnown (HaveForms hd) (requests_keep hd) (keeps_given hd RequestsAreKnown (HaveForms hd) (keeps_each hd (λ x. AreSo (kind_of hd x)) (λ x. kept_forms hd x form)))) (asked_given hd)))
+askers_keep hd form = asked_both hd (λ M. ((RequestsAreKnown M × HaveForms hd M) × ObjectsAreHeld M) × WereAsked M) RequestsAreHome
+    (keeps_asked hd (λ M. ((RequestsAreKnown M × HaveForms hd M) × ObjectsAreHeld M) × WereAsked M) (kept_both hd (λ M. (RequestsAreKnown M × HaveForms hd M) × ObjectsAreHeld M) WereAsked (kept_both hd (λ M. RequestsAreKnown M × HaveForms hd M) ObjectsAreHeld (kept_both hd RequestsAreKnown (HaveForms hd) (requests_keep hd) (keeps_given hd RequestsAreKnown (HaveForms hd) (keeps_each hd (λ x. AreSo (kind_of hd x)) (λ x. kept_forms hd x form)))) (keeps_given hd (λ M. RequestsAreKnown M × HaveForms hd M) ObjectsAreHeld (objects_held hd))) (asked_given hd)))
     (keeps_asked hd RequestsAreHome (home_keep hd))
 
 pub waits_keep : HandlersKeepWaits

@@ -3,6 +3,7 @@ pub mod Replies
 pub mod Serving
 pub mod AskedServers
 pub mod Made
+pub mod Standing
 pub mod Named
 pub mod Known
 pub mod AskedRuns

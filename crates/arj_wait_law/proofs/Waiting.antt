@@ -29,8 +29,8 @@ none_left M good k c u q m found does now none =
 -- what is still to be given where more is known
 rest_less : (P Q : Seen → Type 0) → ((M : Seen) → Q M → P M) → AnswersRest P → AnswersRest Q
 rest_less P Q less rest = record {
-  calls = λ j d t M c u q s r does now h. rest.calls j d t M c u q s (less (up j d t M) r) does now h;
-  commits = λ j d t M c u q m n r does now left h. rest.commits j d t M c u q m n (less (up j d t M) r) does now left h;
+  loads = λ j d t M c u q s k n later r does now is h. rest.loads j d t M c u q s k n later (less (up j d t M) r) does now is h;
+  prepares = λ j d t M c u q p left n r does now waits h. rest.prepares j d t M c u q p left n (less (up j d t M) r) does now waits h;
 }
 
 pub runs_leave_overtaken : RunsLeaveOvertaken
