@@ -326,7 +326,7 @@ joined_at hd es heard_so test form short heard rest x there = runs_are_joined hd
 -- the journal is tied to the lock machines
 module _ (hd : Header) (es : List Asked) (joined : (x : ℕ) → is_some (object_line hd x) ≡ true → Holds hd (IsJoinedSo hd x) (run_all es (format hd))) where
   tied_at : (x : ℕ) → is_some (object_line hd x) ≡ true → (S : State) × IsTied (first_values hd) (journal hd es) x S
-  tied_at x there = let h = joined x there in let j = h.holds in locked_tied x (see h.sent (run_all es (format hd))) j.begun j.alike (λ f a. let z = j.seen f a in (z.0, z.1, z.2)) j.requests (first_values hd)
+  tied_at x there = let h = joined x there in let j = h.holds in locked_tied (first_values hd) x (see h.sent (run_all es (format hd))) j.begun j.alike (λ f a. let z = j.seen f a in (z.0, z.1, z.2)) j.requests
 
   pub lock_tied : AreLockTied hd (journal hd es)
   lock_tied = record { called = λ x called. tied_at x (object_some hd x (runs_call_objects hd es x called)); listed = tied_at }

@@ -59,18 +59,18 @@ runs_are_joined hd x heard test form there kept rest es short =
     R begun M = KnowsWhole x begun M × E begun M
 
     Joined : Kinds → Office → Seen → Type 0
-    Joined tops A M = WithLocks x R (SeesTied x) tops A M
+    Joined tops A M = WithLocks (first_values hd) x R (SeesTied x) tops A M
 
     -- the disk half, beside states of the lock half
-    heard_there : KeepsPart hd x (λ W M. IsCountedWith heard M × (KnowsScript M × HasLocks x R W M)) (SeesCarried x)
-    heard_there = part_more hd x (λ W M. IsKnownWith heard M × HasStates x W M) (λ W M. IsCountedWith heard M × (KnowsScript M × HasLocks x R W M)) (SeesCarried x) (λ W M q. let j = q.1.1 in ((q.0, q.1.0), (j.0, j.1, j.3))) (heard_beside hd x heard (HasStates x) (line_there hd x form there).0 kept)
+    heard_there : KeepsPart hd x (λ W M. IsCountedWith heard M × (KnowsScript M × HasLocks (first_values hd) x R W M)) (SeesCarried x)
+    heard_there = part_more hd x (λ W M. IsKnownWith heard M × HasStates (first_values hd) x W M) (λ W M. IsCountedWith heard M × (KnowsScript M × HasLocks (first_values hd) x R W M)) (SeesCarried x) (λ W M q. let j = q.1.1 in ((q.0, q.1.0), (j.0, j.1, j.3))) (heard_beside hd x heard (HasStates (first_values hd) x) (line_there hd x form there).0 kept)
 
     -- and tied to the journal
-    tied : KeepsPart hd x (λ W M. (IsCountedWith heard M × IsKept M) × (KnowsScript M × HasLocks x R W M)) (SeesTied x)
-    tied = tied_part hd x (IsCountedWith heard) (λ W M. KnowsScript M × HasLocks x R W M) (SeesCarried x) (λ ls u. IsIdle (book ls) u) (counted_by hd heard kept.kept) heard_there (knows_idle (IsCountedWith heard))
+    tied : KeepsPart hd x (λ W M. (IsCountedWith heard M × IsKept M) × (KnowsScript M × HasLocks (first_values hd) x R W M)) (SeesTied x)
+    tied = tied_part hd x (IsCountedWith heard) (λ W M. KnowsScript M × HasLocks (first_values hd) x R W M) (SeesCarried x) (λ ls u. IsIdle (book ls) u) (counted_by hd heard kept.kept) heard_there (knows_idle (IsCountedWith heard))
 
     part : KeepsPart hd x (λ W M. IsKnownWith heard M) Joined
-    part = locks_part hd x (IsKnownWith heard) KnowsFew R (SeesTied x) (λ M r. let s = r.1 in s.0) (kept_beside hd x has E rest.kept) (λ f. gives_locks hd x has E f (λ begun S M. IsBeside x heard f begun S M) (rest.gives f)) (λ M few. votes_in M few.1.1) (λ M few. few.1.1) (part_more hd x (λ W M. (IsCountedWith heard M × IsKept M) × (KnowsScript M × HasLocks x R W M)) (λ W M. IsKnownWith heard M × HasLocks x R W M) (SeesTied x) (λ W M q. let r = q.0 in ((r.0, r.0.0.1), (r.1, q.1))) tied) (λ tops A M p. p.0.0)
+    part = locks_part hd (first_values hd) x (IsKnownWith heard) KnowsFew R (SeesTied x) (λ M r. let s = r.1 in s.0) (kept_beside hd x has E rest.kept) (λ f begins. gives_locks hd x has E f (λ begun S M. IsBeside x heard f begun S M) (first_values hd, begins) (rest.gives f begins)) (λ M few. votes_in M few.1.1) (λ M few. few.1.1) (part_more hd x (λ W M. (IsCountedWith heard M × IsKept M) × (KnowsScript M × HasLocks (first_values hd) x R W M)) (λ W M. IsKnownWith heard M × HasLocks (first_values hd) x R W M) (SeesTied x) (λ W M q. let r = q.0 in ((r.0, r.0.0.1), (r.1, q.1))) tied) (λ tops A M p. p.0.0)
 
     joined : (sent : List Post) → IsOrderedBeside Joined hd x (see sent (run_all es (format hd))) → IsJoinedSo hd x (see sent (run_all es (format hd)))
     joined sent (o, tops, A, same, p, few) = record {
@@ -79,15 +79,15 @@ runs_are_joined hd x heard test form there kept rest es short =
       alike = locks.1;
       seen = locks.3;
       requests = requests;
-      wrote = (let b = o.begun in let j = b.journalled in wrote hd es x (first_values hd) right sent j.tops j.machine j.sees locks.0 locks.1 (λ f a. let z = locks.3 f a in (z.0, z.1, z.2, z.4)) requests);
-      bare = (let b = o.begun in let j = b.journalled in bare hd es x (first_values hd) right sent j.tops j.machine j.sees locks.0 locks.1 (λ f a. let z = locks.3 f a in (z.0, z.1, z.2, z.4)) requests);
+      wrote = (let b = o.begun in let j = b.journalled in wrote hd es x right sent j.tops j.machine j.sees locks.0 locks.1 (λ f a. let z = locks.3 f a in (z.0, z.1, z.2, z.4)) requests);
+      bare = (let b = o.begun in let j = b.journalled in bare hd es x right sent j.tops j.machine j.sees locks.0 locks.1 (λ f a. let z = locks.3 f a in (z.0, z.1, z.2, z.4)) requests);
     }
       where
         M : Seen
         M = see sent (run_all es (format hd))
 
-        locks : HasLocks x R (world_of o) M
-        locks = subst (λ W. HasLocks x R W M) same p.1
+        locks : HasLocks (first_values hd) x R (world_of o) M
+        locks = subst (λ W. HasLocks (first_values hd) x R W M) same p.1
 
         right : AreRight new_book (let w = run_all es (format hd) in w.lines)
         right = let r = run_written hd es in let z = r.1 in z.right

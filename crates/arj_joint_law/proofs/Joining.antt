@@ -5,6 +5,7 @@ use Rattle.std.specs.Prelude.{⊤}
 use Rattle.arj_base.proofs.Uids.{uid_is}
 use Rattle.arj_lock.proofs.Members as list
 use Rattle.arj_lock.proofs.Members.{in_find}
+use Rattle.arj_model.specs.Serial.{Values}
 use Rattle.arj_protocol.specs.Words.{Body, Header, Kind, Label, ObjectState, Uid, object, uid_eq}
 use Rattle.arj_protocol.specs.Asking.{again_all, begin_action}
 use Rattle.arj_protocol.specs.Commit.{Confirming}
@@ -48,12 +49,12 @@ use Rattle.arj_disk_line_law.proofs.Tying.{goes_by}
 use Rattle.arj_line_law.specs.Paths.{IsAlikeOf}
 use Rattle.arj_lock_fact_law.specs.Acts.{KeepsOf, begins_in}
 use Rattle.arj_lock_run_law.specs.Beside.{IsSeenIn, Spot}
-use Rattle.arj_lock_run_law.specs.Fixed.{Agrees, Fixed, view_of}
+use Rattle.arj_lock_run_law.specs.Fixed.{AgreesAs, BeginsAs, Fixed, view_of}
 use Rattle.arj_lock_run_law.specs.Kept.{AreCoordsNamed, GivesLocks, case_of}
 use Rattle.arj_lock_run_law.specs.Sees.{SeesLocks, SeesUp}
 use Rattle.arj_lock_run_law.specs.Tied.{AreTied}
 use Rattle.arj_lock_run_law.specs.Votes.{AreVotedAt}
-use Rattle.arj_lock_run_law.proofs.KeptSteps.{LocksFrom, LocksSo, agree_older, first_kept, kept_act, kept_begin, kept_message, kept_restart, kept_tick, quiet_kept, stop_kept}
+use Rattle.arj_lock_run_law.proofs.KeptSteps.{LocksFrom, LocksSo, as_older, first_kept, kept_act, kept_begin, kept_message, kept_restart, kept_tick, quiet_kept, stop_kept}
 use Rattle.arj_joint_law.specs.Joined.{ArePlannedSo, ChangesCalled, IsPaired, IsPlannedSo, IsRecordedAt}
 use Rattle.arj_joint_law.proofs.Counting.{at_commit, changed_counted}
 use Rattle.arj_joint_law.proofs.Ending.{Ends, ends_along, ends_by, ends_of, message_ends, record_of}
@@ -62,12 +63,12 @@ use Rattle.arj_joint_law.proofs.Recording.{AreOfTheirs, AreRecordedBy, IsConfirm
 -- ---- what is kept
 
 -- The object is seen by its lock machine, for all that may be fixed and agrees, beside this world of its disk machine.
-abbrev pub HasLocks : ℕ → (List Action → Seen → Type 0) → World → Seen → Type 0
-HasLocks x R W M = (begun : List Action) × IsAlikeOf begun M × R begun M × ((f : Fixed) → Agrees f x begun M.sent → (S : State) × SeesLocks f x begun S M × AreTied f x M.lines S × AreVotedAt f x S M × ArePlannedSo f x S W M) × AreCoordsNamed M
+abbrev pub HasLocks : Values → ℕ → (List Action → Seen → Type 0) → World → Seen → Type 0
+HasLocks values x R W M = (begun : List Action) × IsAlikeOf begun M × R begun M × ((f : Fixed) → AgreesAs values f x begun M.sent → (S : State) × SeesLocks f x begun S M × AreTied f x M.lines S × AreVotedAt f x S M × ArePlannedSo f x S W M) × AreCoordsNamed M
 
 -- with what is carried beside the disk machine's state
-abbrev pub WithLocks : ℕ → (List Action → Seen → Type 0) → (Kinds → Office → Seen → Type 0) → Kinds → Office → Seen → Type 0
-WithLocks x R P tops A M = P tops A M × HasLocks x R A.world M
+abbrev pub WithLocks : Values → ℕ → (List Action → Seen → Type 0) → (Kinds → Office → Seen → Type 0) → Kinds → Office → Seen → Type 0
+WithLocks values x R P tops A M = P tops A M × HasLocks values x R A.world M
 
 -- ---- one top
 
@@ -168,20 +169,20 @@ module _ (f : Fixed) (x : ℕ) (C : Uid → Type 0) (g : ℕ → Bool) (W : Worl
 
 -- ---- each handler
 
-module _ (hd : Header) (x : ℕ) (K G : Seen → Type 0) (R : List Action → Seen → Type 0) (P : Kinds → Office → Seen → Type 0) (to : (M : Seen) → K M → G M) (keeps : KeepsOf hd (λ begun M. G M) R) (gives : (f : Fixed) → GivesLocks hd f x (λ begun S M. (G M × R begun M) × (K M × IsPaired x P f begun S M))) (used : (M : Seen) → G M → AllVotesAreUsed M) (runs : (M : Seen) → G M → KnowsRun M)
-    (parts : KeepsPart hd x (λ W M. K M × HasLocks x R W M) P) (heard : (tops : Kinds) (A : Office) (M : Seen) → P tops A M → SeesHeard x tops A M) where
+module _ (hd : Header) (values : Values) (x : ℕ) (K G : Seen → Type 0) (R : List Action → Seen → Type 0) (P : Kinds → Office → Seen → Type 0) (to : (M : Seen) → K M → G M) (keeps : KeepsOf hd (λ begun M. G M) R) (gives : (f : Fixed) → BeginsAs values x f → GivesLocks hd f x (λ begun S M. (G M × R begun M) × (K M × IsPaired x P f begun S M))) (used : (M : Seen) → G M → AllVotesAreUsed M) (runs : (M : Seen) → G M → KnowsRun M)
+    (parts : KeepsPart hd x (λ W M. K M × HasLocks values x R W M) P) (heard : (tops : Kinds) (A : Office) (M : Seen) → P tops A M → SeesHeard x tops A M) where
   abbrev Q : Kinds → Office → Seen → Type 0
-  Q tops A M = WithLocks x R P tops A M
+  Q tops A M = WithLocks values x R P tops A M
 
   -- as the lock half has it
-  abbrev locks_of : (W : World) (M : Seen) → HasLocks x R W M → LocksSo ⊤ x R M
+  abbrev locks_of : (W : World) (M : Seen) → HasLocks values x R W M → LocksSo values ⊤ x R M
   locks_of W M j = (j.0, j.1, j.2, (λ f a. let g = j.3 f a in (g.0, g.1, g.2, (λ u. g.3))), j.4)
 
   abbrev Y : Fixed → List Action → State → Seen → Type 0
   Y f begun S M = K M × IsPaired x P f begun S M
 
   -- what is known of each state of the lock machine here
-  paired : (tops : Kinds) (M : Seen) (A : Office) → tops.walk ≡ None → K M → SeesBoth x tops A M → P tops A M → (j : HasLocks x R A.world M) → (f : Fixed) (a : Agrees f x j.0 M.sent) → Y f j.0 (let g = j.3 f a in g.0) M
+  paired : (tops : Kinds) (M : Seen) (A : Office) → tops.walk ≡ None → K M → SeesBoth x tops A M → P tops A M → (j : HasLocks values x R A.world M) → (f : Fixed) (a : AgreesAs values f x j.0 M.sent) → Y f j.0 (let g = j.3 f a in g.0) M
   paired tops M A walk r both part j f a = let g = j.3 f a in (r, (tops, walk, A, both, part, g.3, g.4))
 
   abbrev votes_used : (M : Seen) → G M → ⊤ → AllVotesAreUsed M
@@ -190,9 +191,9 @@ module _ (hd : Header) (x : ℕ) (K G : Seen → Type 0) (R : List Action → Se
   abbrev OfEach : Kinds → (Office → Type 0) → (Kinds → Office → Seen → Type 0) → Seen → Type 0
   OfEach tops D O Z = (B : Office) → D B → SeesBoth x tops B Z → O tops B Z
 
-  module _ (tops : Kinds) (D : Office → Type 0) (C : Uid → Type 0) (g : ℕ → Bool) (W : World) (M : Seen) (begun : List Action) (sent : List Post) (from : (f : Fixed) → Agrees f x begun sent → State)
-      (goes : (B : Office) → D B → Moves g W B.world) (whose : (u : Uid) → g (uid_number u) ≡ true → IsRecordedAt M u ⊎ C u) (before : (f : Fixed) (a : Agrees f x begun sent) → ArePlannedSo f x (from f a) W M × ((u : Uid) → C u → IsPlannedSo f x (from f a) W u)) where
-    locks_next : (Z : Seen) → LocksFrom ⊤ x R begun sent from Z → AreRecordedBy C M Z → IsStep M Z → (B : Office) → D B → SeesBoth x tops B Z → HasLocks x R B.world Z
+  module _ (tops : Kinds) (D : Office → Type 0) (C : Uid → Type 0) (g : ℕ → Bool) (W : World) (M : Seen) (begun : List Action) (sent : List Post) (from : (f : Fixed) → AgreesAs values f x begun sent → State)
+      (goes : (B : Office) → D B → Moves g W B.world) (whose : (u : Uid) → g (uid_number u) ≡ true → IsRecordedAt M u ⊎ C u) (before : (f : Fixed) (a : AgreesAs values f x begun sent) → ArePlannedSo f x (from f a) W M × ((u : Uid) → C u → IsPlannedSo f x (from f a) W u)) where
+    locks_next : (Z : Seen) → LocksFrom values ⊤ x R begun sent from Z → AreRecordedBy C M Z → IsStep M Z → (B : Office) → D B → SeesBoth x tops B Z → HasLocks values x R B.world Z
     locks_next Z l recs step B c seen = (
       begun,
       l.0,
@@ -205,10 +206,10 @@ module _ (hd : Header) (x : ℕ) (K G : Seen → Type 0) (R : List Action → Se
       l.3,
     )
 
-    along : (e k : ℕ) (outs : List Effect) (v : Parts) (d : Disk) (N : Seen) → Walks (OfEach tops D P) e k outs (Up (OfEach tops D P) k v) d N → Walks (LocksFrom ⊤ x R begun sent from) e k outs (Up (LocksFrom ⊤ x R begun sent from) k v) d N
+    along : (e k : ℕ) (outs : List Effect) (v : Parts) (d : Disk) (N : Seen) → Walks (OfEach tops D P) e k outs (Up (OfEach tops D P) k v) d N → Walks (LocksFrom values ⊤ x R begun sent from) e k outs (Up (LocksFrom values ⊤ x R begun sent from) k v) d N
         → Walks (AreRecordedBy C M) e k outs (Up (AreRecordedBy C M) k v) d N → Walks (IsStep M) e k outs (Up (IsStep M) k v) d N → Walks (OfEach tops D Q) e k outs (Up (OfEach tops D Q) k v) d N
     along e k outs v d N w locks recs steps =
-        let L : Seen → Type 0 = LocksFrom ⊤ x R begun sent from in
+        let L : Seen → Type 0 = LocksFrom values ⊤ x R begun sent from in
         let two = walks_both (AreRecordedBy C M) (IsStep M) e k outs (Up (AreRecordedBy C M) k v) (Up (IsStep M) k v) d N recs steps in
         let three = walks_both L (λ Z. AreRecordedBy C M Z × IsStep M Z) e k outs (Up L k v) (λ c Z. Up (AreRecordedBy C M) k v c Z × Up (IsStep M) k v c Z) d N locks two in
         let four = walks_both (OfEach tops D P) (λ Z. L Z × (AreRecordedBy C M Z × IsStep M Z)) e k outs (Up (OfEach tops D P) k v) (λ c Z. Up L k v c Z × (Up (AreRecordedBy C M) k v c Z × Up (IsStep M) k v c Z)) d N w three in
@@ -216,11 +217,11 @@ module _ (hd : Header) (x : ℕ) (K G : Seen → Type 0) (R : List Action → Se
         (λ Z h B c seen. (h.0 B c seen, locks_next Z h.1.0 h.1.1.0 h.1.1.1 B c seen)) (λ c Z h B changed seen. (h.0 B changed seen, locks_next (up k c v Z) h.1.0 h.1.1.0 h.1.1.1 B changed seen)) four
 
   -- what is known before, in each state of the lock machine
-  abbrev known_before : (C : Uid → Type 0) (W : World) (M : Seen) (j : HasLocks x R W M) → ((f : Fixed) (a : Agrees f x j.0 M.sent) → (u : Uid) → C u → IsPlannedSo f x (let g = j.3 f a in g.0) W u) → (f : Fixed) (a : Agrees f x j.0 M.sent) → ArePlannedSo f x (let g = j.3 f a in g.0) W M × ((u : Uid) → C u → IsPlannedSo f x (let g = j.3 f a in g.0) W u)
+  abbrev known_before : (C : Uid → Type 0) (W : World) (M : Seen) (j : HasLocks values x R W M) → ((f : Fixed) (a : AgreesAs values f x j.0 M.sent) → (u : Uid) → C u → IsPlannedSo f x (let g = j.3 f a in g.0) W u) → (f : Fixed) (a : AgreesAs values f x j.0 M.sent) → ArePlannedSo f x (let g = j.3 f a in g.0) W M × ((u : Uid) → C u → IsPlannedSo f x (let g = j.3 f a in g.0) W u)
   known_before C W M j waiting f a = let g = j.3 f a in (g.4, waiting f a)
 
-  waits_here : (tops : Kinds) (k : ℕ) (d : Disk) (t : Parts) (M : Seen) (A : Office) → KnowsNode tops k d t M → SeesBoth x tops A (up k d t M) → P tops A (up k d t M) → KnowsRun (up k d t M) → (j : HasLocks x R A.world (up k d t M)) → (f : Fixed) (a : Agrees f x j.0 M.sent) → (u : Uid) → IsConfirming t.coord u → IsPlannedSo f x (let g = j.3 f a in g.0) A.world u
-  waits_here tops k d t M A n both part known j f a u c = let g = j.3 f a in planned_here f x k d t M j.0 g.0 tops A n both (heard tops A (up k d t M) part) (record { good = j.1.0; alike = j.1.1; written = j.1.2; agrees = a; sees = g.1; tied = g.2 }) g.3 known u c
+  waits_here : (tops : Kinds) (k : ℕ) (d : Disk) (t : Parts) (M : Seen) (A : Office) → KnowsNode tops k d t M → SeesBoth x tops A (up k d t M) → P tops A (up k d t M) → KnowsRun (up k d t M) → (j : HasLocks values x R A.world (up k d t M)) → (f : Fixed) (a : AgreesAs values f x j.0 M.sent) → (u : Uid) → IsConfirming t.coord u → IsPlannedSo f x (let g = j.3 f a in g.0) A.world u
+  waits_here tops k d t M A n both part known j f a u c = let g = j.3 f a in planned_here f x k d t M j.0 g.0 tops A n both (heard tops A (up k d t M) part) (record { good = j.1.0; alike = j.1.1; written = j.1.2; agrees = a.0; sees = g.1; tied = g.2 }) g.3 known u c
 
   theirs : (tops : Kinds) (k : ℕ) (d : Disk) (t : Parts) (M : Seen) → KnowsNode tops k d t M → AreOfTheirs t.coord
   theirs tops k d t M n u q m works now = (let z = n.coord in let y = z.machines u q m works now in ((let p = y.plan in p.actor_is), (y.used, y.more, y.uses)))
@@ -245,12 +246,12 @@ module _ (hd : Header) (x : ℕ) (K G : Seen → Type 0) (R : List Action → Se
     quiet = λ tops e bs M A walk quiet r both (part, j) B changed seen. (
       parts.quiet tops e bs M A walk quiet (r, j) both part B changed seen,
       locks_next tops (Changes Quietly A) none nobody A.world M j.0 M.sent (λ f a. let g = j.3 f a in g.0) (λ Z c. moves_by Quietly A Z (let z = both.disks in z.whole) c) (no_one none M) (known_before none A.world M j (λ f a u never. absurd never)) (said e bs M)
-          (quiet_kept hd x G R Y keeps gives ⊤ votes_used e bs M quiet (to M r) (locks_of A.world M j)) (λ u c. inl (record { place = c.place; node = c.node; intent = c.intent; here = c.here; there = c.there })) (quiet_step e bs M) B changed seen,
+          (quiet_kept hd values x G R Y keeps gives ⊤ votes_used e bs M quiet (to M r) (locks_of A.world M j)) (λ u c. inl (record { place = c.place; node = c.node; intent = c.intent; here = c.here; there = c.there })) (quiet_step e bs M) B changed seen,
     );
     stop = λ tops e k d live M A walk r both (part, j) B changed seen. (
       parts.stop tops e k d live M A walk (r, j) both part B changed seen,
       locks_next tops (Changes Quietly A) none nobody A.world (at k d live M) j.0 M.sent (λ f a. let g = j.3 f a in g.0) (λ Z c. moves_by Quietly A Z (let z = both.disks in z.whole) c) (no_one none (at k d live M)) (known_before none A.world (at k d live M) j (λ f a u never. absurd never)) (halted e k d M)
-          (stop_kept hd x G R Y keeps gives ⊤ votes_used e k d live M (to (at k d live M) r) (locks_of A.world (at k d live M) j) (paired tops (at k d live M) A walk r both part j)) (recorded_at none (at k d live M) k d None M (halted e k d M) (λ i. refl) (others_then none k d live M) (here_then none k d live M)) (step_halted k d live M e d M (near_same M) (λ down. refl)) B changed seen,
+          (stop_kept hd values x G R Y keeps gives ⊤ votes_used e k d live M (to (at k d live M) r) (locks_of A.world (at k d live M) j) (paired tops (at k d live M) A walk r both part j)) (recorded_at none (at k d live M) k d None M (halted e k d M) (λ i. refl) (others_then none k d live M) (here_then none k d live M)) (step_halted k d live M e d M (near_same M) (λ down. refl)) B changed seen,
     );
     message = λ tops e k d t v from m outs M A walk n r sent meant is of own both (part, j).
         let p = parts.message tops e k d t v from m outs M A walk n (r, j) sent meant is of own both part in
@@ -262,7 +263,7 @@ module _ (hd : Header) (x : ℕ) (K G : Seen → Type 0) (R : List Action → Se
             only = h.only;
             both = h.both;
             along = along tops (Changes o h.office) C (ends_of o) A.world (up k d t M) j.0 M.sent (λ f a. let g = j.3 f a in g.0) (moves_from o A h.office h.only (let z = both.disks in z.whole)) (λ u is. inr (message_ends x d t u m is)) (known_before C A.world (up k d t M) j (waits_here tops k d t M A n both part (runs (up k d t M) (to (up k d t M) r)) j)) e k outs v d M h.along
-                (kept_message hd x G R Y keeps gives ⊤ votes_used e k d t v from m outs M (to (up k d t M) r) (locks_of A.world (up k d t M) j) (paired tops (up k d t M) A walk r both part j) sent meant is)
+                (kept_message hd values x G R Y keeps gives ⊤ votes_used e k d t v from m outs M (to (up k d t M) r) (locks_of A.world (up k d t M) j) (paired tops (up k d t M) A walk r both part j) sent meant is)
                 (records_walk C (up k d t M) k e v outs d M (others_then C k d (Some t) M) (message_puts k d t (theirs tops k d t M n) from m v outs is) (here_then C k d (Some t) M)) (step_walk k d (Some t) M e v outs d M (near_same M) (was_up t) (was_up t));
           },
           p.1,
@@ -278,7 +279,7 @@ module _ (hd : Header) (x : ℕ) (K G : Seen → Type 0) (R : List Action → Se
             only = h.only;
             both = h.both;
             along = along tops (Changes Quietly h.office) C nobody A.world (up k d t M) j.0 M.sent (λ f a. let g = j.3 f a in g.0) (moves_from Quietly A h.office h.only (let z = both.disks in z.whole)) (no_one C (up k d t M)) (known_before C A.world (up k d t M) j (waits_here tops k d t M A n both part (runs (up k d t M) (to (up k d t M) r)) j)) e k did.outs (with_coord t did.part) d M h.along
-                (kept_act hd x G R Y keeps gives ⊤ votes_used e k d t i M is free (to (up k d t M) r) (locks_of A.world (up k d t M) j) (paired tops (up k d t M) A walk r both part j))
+                (kept_act hd values x G R Y keeps gives ⊤ votes_used e k d t i M is free (to (up k d t M) r) (locks_of A.world (up k d t M) j) (paired tops (up k d t M) A walk r both part j))
                 (records_walk C (up k d t M) k e (with_coord t did.part) did.outs d M (others_then C k d (Some t) M) (acts_put t.coord (theirs tops k d t M n) d.intents i) (here_then C k d (Some t) M)) (step_walk k d (Some t) M e (with_coord t did.part) did.outs d M (near_same M) (was_up t) (was_up t));
           },
           p.1,
@@ -287,17 +288,17 @@ module _ (hd : Header) (x : ℕ) (K G : Seen → Type 0) (R : List Action → Se
         let did = begin_action l how parent (parent_of parent t.coord) t.coord in
         let N : Seen = given l (record { node = k; serial = is_serial_kind how }) M in
         let a = begins_in how parent t in
-        let older : (f : Fixed) → Agrees f x (a ∷ j.0) M.sent → Agrees f x j.0 M.sent = λ f w. agree_older f x a j.0 M.sent w in
+        let older : (f : Fixed) → AgreesAs values f x (a ∷ j.0) M.sent → AgreesAs values f x j.0 M.sent = λ f w. as_older values f x a j.0 M.sent w in
         along tops (Changes Quietly A) none nobody A.world (up k d t M) (a ∷ j.0) M.sent (λ f w. let g = j.3 f (older f w) in g.0) (λ B c. moves_by Quietly A B (let z = both.disks in z.whole) c) (no_one none (up k d t M)) (λ f w. known_before none A.world (up k d t M) j (λ f b u never. absurd never) f (older f w)) e k did.outs (with_coord t did.part) d N
         (parts.begin tops e k d t l how parent M A walk n (r, j) new may free kind both part)
-        (kept_begin hd x G R Y keeps gives ⊤ votes_used e k d t l how parent M new may free (to (up k d t M) r) (locks_of A.world (up k d t M) j) (paired tops (up k d t M) A walk r both part j))
+        (kept_begin hd values x G R Y keeps gives ⊤ votes_used e k d t l how parent M new may free (to (up k d t M) r) (locks_of A.world (up k d t M) j) (paired tops (up k d t M) A walk r both part j))
         (records_walk none (up k d t M) k e (with_coord t did.part) did.outs d N (others_then none k d (Some t) M) (tt, tt) (here_then none k d (Some t) M)) (step_walk k d (Some t) M e (with_coord t did.part) did.outs d N (given_near l how k M) (was_up t) (was_up t));
     tick = λ tops e k d t M A walk n r both (part, j).
         let outs = tick_outs (record { number = k; disk = d; live = Some t }) t in
         let v = with_coord t (let z = again_all t.coord.doings t.coord in z.part) in
         let C : Uid → Type 0 = λ u. IsConfirming t.coord u in
         along tops (Changes Quietly A) C nobody A.world (up k d t M) j.0 M.sent (λ f a. let g = j.3 f a in g.0) (λ B c. moves_by Quietly A B (let z = both.disks in z.whole) c) (no_one C (up k d t M)) (known_before C A.world (up k d t M) j (waits_here tops k d t M A n both part (runs (up k d t M) (to (up k d t M) r)) j)) e k outs v d M
-        (parts.tick tops e k d t M A walk n (r, j) both part) (kept_tick hd x G R Y keeps gives ⊤ votes_used e k d t M (to (up k d t M) r) (locks_of A.world (up k d t M) j) (paired tops (up k d t M) A walk r both part j))
+        (parts.tick tops e k d t M A walk n (r, j) both part) (kept_tick hd values x G R Y keeps gives ⊤ votes_used e k d t M (to (up k d t M) r) (locks_of A.world (up k d t M) j) (paired tops (up k d t M) A walk r both part j))
         (records_walk C (up k d t M) k e v outs d M (others_then C k d (Some t) M) (tick_puts k d t (theirs tops k d t M n)) (here_then C k d (Some t) M)) (step_walk k d (Some t) M e v outs d M (near_same M) (was_up t) (was_up t));
     restart = λ tops e k d M A walk r both (part, j).
         let outs = restart_outs hd k (d.inc + 1) d in
@@ -305,11 +306,11 @@ module _ (hd : Header) (x : ℕ) (K G : Seen → Type 0) (R : List Action → Se
         along tops (OnlyFound (are_recorded d.intents) A) none (are_recorded d.intents) A.world (down k d M) j.0 M.sent (λ f a. let g = j.3 f a in g.0)
         (λ B c. (goes_along (are_recorded d.intents) A.world B.world (let z = both.disks in z.whole) c.along, ends_along (are_recorded d.intents) A.world B.world (let z = both.disks in z.whole) c.along))
         (λ u is. let r = record_of u d.intents is in inl (record { place = k; node = record { number = k; disk = d; live = None }; intent = r.0; here = node_here M k (record { number = k; disk = d; live = None }); there = r.1 })) (known_before none A.world (down k d M) j (λ f a u never. absurd never)) e k outs v d M
-        (parts.restart tops e k d M A walk (r, j) both part) (kept_restart hd x G R Y keeps gives ⊤ votes_used e k d M (to (down k d M) r) (locks_of A.world (down k d M) j) (paired tops (down k d M) A walk r both part j))
+        (parts.restart tops e k d M A walk (r, j) both part) (kept_restart hd values x G R Y keeps gives ⊤ votes_used e k d M (to (down k d M) r) (locks_of A.world (down k d M) j) (paired tops (down k d M) A walk r both part j))
         (records_walk none (down k d M) k e v outs d M (others_then none k d None M) (plainly none outs (restart_plain [] hd k d)) (here_then none k d None M)) (step_walk k d None M e v outs d M (near_same M) (λ down. restart_plain [] hd k d) (λ down. refl));
     first = λ tops walk kinds.
         let f = parts.first tops walk kinds in
-        let z = first_kept hd x G R Y keeps gives ⊤ votes_used in
+        let z = first_kept hd values x G R Y keeps gives ⊤ votes_used in
         (f.0, f.1, (f.2, (z.0, z.1, z.2, (λ w agrees. let g = z.3 w agrees in (g.0, g.1, g.2, g.3 tt, nothing_yet w g.0 f.0 f.3 f.4)), z.4)), f.3, f.4);
   }
     where

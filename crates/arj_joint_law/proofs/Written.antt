@@ -3,7 +3,7 @@ use Rattle.std.proofs.Common.{Contains, ◌≡◌, ◌==◌, ◌||◌, ℕ, Bool
 use Rattle.arj_lock.proofs.Members.{In, in_from, in_to}
 use Rattle.arj_model.specs.Actions.{acts}
 use Rattle.arj_model.specs.Calls.{Top, tops}
-use Rattle.arj_model.specs.Last.{uid_of_id}
+use Rattle.arj_model.specs.Last.{first_values, uid_of_id}
 use Rattle.arj_model.specs.Serial.{Values}
 use Rattle.arj_protocol.specs.Words.{Header, Uid}
 use Rattle.arj_protocol.specs.Order.{uid_number}
@@ -19,7 +19,7 @@ use Rattle.arj_line_law.specs.Right.{AreRight}
 use Rattle.arj_line_law.specs.Whose.{IsOfNode}
 use Rattle.arj_line_law.proofs.Owners.{have_nodes}
 use Rattle.arj_lock_law.specs.State.{State}
-use Rattle.arj_lock_run_law.specs.Fixed.{Agrees, Fixed}
+use Rattle.arj_lock_run_law.specs.Fixed.{AgreesAs, Fixed}
 use Rattle.arj_lock_run_law.specs.Sees.{SeesLocks}
 use Rattle.arj_lock_run_law.specs.Tied.{AreTied}
 use Rattle.arj_view_law.specs.Seen.{Post, Seen, see}
@@ -49,19 +49,22 @@ decided_there (e ∷ ds) d (inr i) = by (e.top == d.top) (decided_there ds d i)
     by true on = refl
     by false on = on
 
-module _ (hd : Header) (es : List Asked) (x : ℕ) (values : Values) (right : AreRight new_book (let w = run_all es (format hd) in w.lines)) (sent : List Post) (kinds : Kinds) (W : machine.World) (disks : SeesDisks x kinds W (see sent (run_all es (format hd)))) (begun : List Action) (alike : IsAlikeOf begun (see sent (run_all es (format hd))))
-    (seen : (f : Fixed) → Agrees f x begun sent → (S : State) × SeesLocks f x begun S (see sent (run_all es (format hd))) × AreTied f x (let w = run_all es (format hd) in w.lines) S × ArePlannedSo f x S W (see sent (run_all es (format hd)))) (knows : RequestsAreOne (see sent (run_all es (format hd)))) where
+module _ (hd : Header) (es : List Asked) (x : ℕ) (right : AreRight new_book (let w = run_all es (format hd) in w.lines)) (sent : List Post) (kinds : Kinds) (W : machine.World) (disks : SeesDisks x kinds W (see sent (run_all es (format hd)))) (begun : List Action) (alike : IsAlikeOf begun (see sent (run_all es (format hd))))
+    (seen : (f : Fixed) → AgreesAs (first_values hd) f x begun sent → (S : State) × SeesLocks f x begun S (see sent (run_all es (format hd))) × AreTied f x (let w = run_all es (format hd) in w.lines) S × ArePlannedSo f x S W (see sent (run_all es (format hd)))) (knows : RequestsAreOne (see sent (run_all es (format hd)))) where
   abbrev M : Seen
   M = see sent (run_all es (format hd))
 
-  locks : (f : Fixed) → Agrees f x begun M.sent → (S : State) × SeesLocks f x begun S M × AreTied f x M.lines S
+  abbrev values : Values
+  values = first_values hd
+
+  locks : (f : Fixed) → AgreesAs (first_values hd) f x begun M.sent → (S : State) × SeesLocks f x begun S M × AreTied f x M.lines S
   locks f a = let z = seen f a in (z.0, z.1, z.2)
 
   abbrev f : Fixed
-  f = fixed_at x M begun alike locks knows code_of (values x)
+  f = fixed_at values x M begun alike locks knows code_of
 
-  agrees : Agrees f x begun M.sent
-  agrees = agrees_at x M begun alike locks knows code_of (values x)
+  agrees : AgreesAs values f x begun M.sent
+  agrees = agrees_at values x M begun alike locks knows code_of
 
   abbrev S : State
   S = (seen f agrees).0
@@ -74,7 +77,7 @@ module _ (hd : Header) (es : List Asked) (x : ℕ) (values : Values) (right : Ar
     act = acts_of begun;
     code = code_of;
     apart = codes_are_apart;
-    places = begun_have_places begun (paths_of begun) (acts_of begun) M.lines right (subst (AreAlike begun) (its_acts M.lines right) alike.1) agrees.whole;
+    places = begun_have_places begun (paths_of begun) (acts_of begun) M.lines right (subst (AreAlike begun) (its_acts M.lines right) alike.1) agrees.0.whole;
     first = code_of (values x) (acts_of begun nobody);
     run = (let s = (seen f agrees).1 in s.run);
     tied = (seen f agrees).2 values refl;
@@ -106,7 +109,7 @@ module _ (hd : Header) (es : List Asked) (x : ℕ) (values : Values) (right : Ar
       stage = stage_of_top values M.lines right x S (tie values M.lines right x S tied) u k
 
       its : VotedIn f S own (let p = W.disk.plan (uid_number own) in p.writes)
-      its = planned_voted f x S W own (let t = agrees.whole in let a = t.alike in a.one) planned_its (omega (arith, stage)) (omega (arith, stage))
+      its = planned_voted f x S W own (let t = agrees.0.whole in let a = t.alike in a.one) planned_its (omega (arith, stage)) (omega (arith, stage))
 
   pub bare : AreBareSo M.lines x W.disk
   bare u listed on wrote = absurd (never wrote.2 (none wrote.0 wrote.1 wrote.3))

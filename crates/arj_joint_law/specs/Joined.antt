@@ -33,7 +33,7 @@ use Rattle.arj_disk_line_law.specs.Said.{WithTie}
 use Rattle.arj_lock_fact_law.specs.Votes.{side_at}
 use Rattle.arj_lock_view_law.specs.Plans.{SeesMachine}
 use Rattle.arj_lock_view_law.specs.Voted.{HasVotes}
-use Rattle.arj_lock_run_law.specs.Fixed.{Agrees, Fixed}
+use Rattle.arj_lock_run_law.specs.Fixed.{AgreesAs, Fixed}
 use Rattle.arj_lock_run_law.specs.Sees.{SeesLocks}
 use Rattle.arj_lock_run_law.specs.Tied.{AreTied}
 use Rattle.arj_lock_run_law.specs.Votes.{AreVotedAt}
@@ -90,13 +90,13 @@ pub record ArePlannedSo (f : Fixed) (x : ℕ) (S : lock.State) (W : World) (M : 
 abbrev pub IsPaired : ℕ → (Kinds → Office → Seen → Type 0) → Fixed → List Action → lock.State → Seen → Type 0
 IsPaired x P f begun S M = (tops : Kinds) × (tops.walk ≡ None) × (A : Office) × SeesBoth x tops A M × P tops A M × AreVotedAt f x S M × ArePlannedSo f x S A.world M
 
--- The object is seen by its lock machine, for all that may be fixed and agrees, beside this world of its disk machine.
-abbrev pub HasStates : ℕ → World → Seen → Type 0
-HasStates x W M = (begun : List Action) × IsAlikeOf begun M × ((f : Fixed) → Agrees f x begun M.sent → (S : lock.State) × SeesLocks f x begun S M × AreTied f x M.lines S × AreVotedAt f x S M × ArePlannedSo f x S W M)
+-- The object is seen by its lock machine, for all that may be fixed, agrees and begins with this value, beside this world of its disk machine.
+abbrev pub HasStates : Values → ℕ → World → Seen → Type 0
+HasStates values x W M = (begun : List Action) × IsAlikeOf begun M × ((f : Fixed) → AgreesAs values f x begun M.sent → (S : lock.State) × SeesLocks f x begun S M × AreTied f x M.lines S × AreVotedAt f x S M × ArePlannedSo f x S W M)
 
 -- what is still taken of the disk half is asked of such worlds
 abbrev pub KeepsHeardJoined : Header → ℕ → (Seen → Bool) → Type 0
-KeepsHeardJoined hd x heard = KeepsHeardBeside hd x heard (HasStates x)
+KeepsHeardJoined hd x heard = KeepsHeardBeside hd x heard (HasStates (first_values hd) x)
 
 -- what is carried beside the disk machine's state, with its tie to the journal: who is decided is said so, and the other way round
 abbrev pub SeesTied : ℕ → Kinds → Office → Seen → Type 0
@@ -127,7 +127,7 @@ pub record IsJoinedSo (hd : Header) (x : ℕ) (M : Seen) : Type 0 where
   pub ordered : IsOrderedSo hd x M
   pub begun : List Action
   pub alike : IsAlikeOf begun M
-  pub seen : (f : Fixed) → Agrees f x begun M.sent → (S : lock.State) × SeesLocks f x begun S M × AreTied f x M.lines S × AreVotedAt f x S M × ArePlannedSo f x S (world_of ordered) M
+  pub seen : (f : Fixed) → AgreesAs (first_values hd) f x begun M.sent → (S : lock.State) × SeesLocks f x begun S M × AreTied f x M.lines S × AreVotedAt f x S M × ArePlannedSo f x S (world_of ordered) M
   pub requests : RequestsAreOne M
   pub wrote : AreWritten (first_values hd) M.lines x (let W = world_of ordered in W.disk.tops)
   pub bare : AreBareSo M.lines x (let W = world_of ordered in W.disk)
@@ -135,12 +135,12 @@ pub record IsJoinedSo (hd : Header) (x : ℕ) (M : Seen) : Type 0 where
 -- So it is in the run of every script, of each object of the header, with what is still taken of both halves, where they stand beside each
 -- other.
 abbrev pub RunsAreJoined : Type 0
-RunsAreJoined = (hd : Header) (x : ℕ) (heard : Seen → Bool) (test : List Action → Seen → Bool) → HeaderInForm hd → is_some (object_line hd x) ≡ true → KeepsHeardJoined hd x heard → IsRestBeside hd x (λ begun M. test begun M ≡ true) (IsBeside x heard)
+RunsAreJoined = (hd : Header) (x : ℕ) (heard : Seen → Bool) (test : List Action → Seen → Bool) → HeaderInForm hd → is_some (object_line hd x) ≡ true → KeepsHeardJoined hd x heard → IsRestBeside hd (first_values hd) x (λ begun M. test begun M ≡ true) (IsBeside x heard)
     → (es : List Asked) → length es ≤ most_events → Holds hd (IsJoinedSo hd x) (run_all es (format hd))
 
 -- where for each object of the header what is still taken of the lock half is given of such states
 abbrev pub AreRestBeside : Header → (ℕ → Seen → Bool) → (ℕ → List Action → Seen → Bool) → Type 0
-AreRestBeside hd heard test = (x : ℕ) → is_some (object_line hd x) ≡ true → IsRestBeside hd x (λ begun M. test x begun M ≡ true) (IsBeside x (heard x))
+AreRestBeside hd heard test = (x : ℕ) → is_some (object_line hd x) ≡ true → IsRestBeside hd (first_values hd) x (λ begun M. test x begun M ≡ true) (IsBeside x (heard x))
 
 -- So the run of every script is serial.
 abbrev pub JoinedRunsAreSerial : Type 0

@@ -29,9 +29,16 @@ family_of f begun = record { begun = begun; paths = f.paths; act = f.act }
 abbrev pub view_of : Fixed → ℕ → List Action → ℕ → View
 view_of f x begun k = record { family = family_of f begun; code = f.code; wants = f.wants; x = x; node = k }
 
--- It agrees with what was done so far: the actions that were begun are one tree in these places, each request that was sent wants what is
--- said here, and the number of the first value is that of a value which nobody wrote.
+-- It agrees with what was done so far: the actions that were begun are one tree in these places, and each request that was sent wants
+-- what is said here.
 pub record Agrees (f : Fixed) (x : ℕ) (begun : List Action) (sent : List Post) : Type 0 where
   pub whole : AreOneTree (family_of f begun)
   pub wanted : (p : Post) (h : Head) (a : Ask) → In p sent → asks (let q = p in q.message) ≡ Some (h, a) → IsWanted (view_of f x begun p.to) h a
-  pub first : (values : Values) × (f.first ≡ f.code (values x) (f.act nobody))
+
+-- the number of the object's first value stands for this one, which nobody wrote
+abbrev pub BeginsAs : Values → ℕ → Fixed → Type 0
+BeginsAs values x f = f.first ≡ f.code (values x) (f.act nobody)
+
+-- it agrees with what was done so far, and begins so
+abbrev pub AgreesAs : Values → Fixed → ℕ → List Action → List Post → Type 0
+AgreesAs values f x begun sent = Agrees f x begun sent × BeginsAs values x f

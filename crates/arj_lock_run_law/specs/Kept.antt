@@ -10,6 +10,7 @@ use Rattle.arj_protocol.specs.Step.{Input, Node, acts, first_disk, refusal_up}
 use Rattle.arj_protocol.specs.Tree.{next_uid}
 use Rattle.arj_protocol.specs.World.{format, run_all}
 use Rattle.arj_protocol.specs.World as world
+use Rattle.arj_model.specs.Serial.{Values}
 use Rattle.arj_lock_law.specs.State.{State}
 use Rattle.arj_part_law.specs.Actions.{Action}
 use Rattle.arj_event_law.specs.Named.{HasNames}
@@ -22,7 +23,7 @@ use Rattle.arj_lock_run_law.specs.Answers.{KnowsAnswer}
 use Rattle.arj_lock_run_law.specs.Asking.{HasWholeRoots, IsAskedAbout, TellsRecords}
 use Rattle.arj_lock_run_law.specs.Beside.{Case, HoldsNamingIn, IsSeenIn, KnowsEntry, KnowsSpot, Spot, world_at}
 use Rattle.arj_lock_run_law.specs.Coordinating.{KnowsAsks, coord_at}
-use Rattle.arj_lock_run_law.specs.Fixed.{Agrees, Fixed}
+use Rattle.arj_lock_run_law.specs.Fixed.{AgreesAs, BeginsAs, Fixed}
 use Rattle.arj_lock_run_law.specs.Inputs.{KnowsAfter, KnowsInput}
 use Rattle.arj_lock_run_law.specs.Sees.{SeesLocks}
 use Rattle.arj_lock_run_law.specs.Tied.{AreTied}
@@ -36,9 +37,9 @@ abbrev pub AreCoordsNamed : Seen → Type 0
 AreCoordsNamed M = (k : ℕ) (n : Node) (t : Parts) → M.nodes k ≡ Some n → n.live ≡ Some t → HasNames t.coord
 
 -- Nodes are good, the actions that were begun are those of the journal, the relation holds for them, and the object is seen, in a state to
--- which the journal is tied, for all that may be fixed and agrees with them.
-abbrev pub AreLocksSeen : ℕ → (List Action → Seen → Type 0) → Seen → Type 0
-AreLocksSeen x R M = (begun : List Action) × IsAlikeOf begun M × R begun M × ((f : Fixed) → Agrees f x begun M.sent → (S : State) × SeesLocks f x begun S M × AreTied f x M.lines S) × AreCoordsNamed M
+-- which the journal is tied, for all that may be fixed, agrees with them and begins with this value.
+abbrev pub AreLocksSeen : Values → ℕ → (List Action → Seen → Type 0) → Seen → Type 0
+AreLocksSeen values x R M = (begun : List Action) × IsAlikeOf begun M × R begun M × ((f : Fixed) → AgreesAs values f x begun M.sent → (S : State) × SeesLocks f x begun S M × AreTied f x M.lines S) × AreCoordsNamed M
 
 -- a message came
 pub record HasCome (s : Spot) (from : ℕ) (m : Message) (v : Parts) (outs : List Effect) : Type 0 where
@@ -66,11 +67,11 @@ pub record GivesLocks (hd : Header) (f : Fixed) (x : ℕ) (R : List Action → S
 -- Where such a relation is kept, of the actions that were begun, before whatever holds everywhere, it is kept with the object seen, for all
 -- that may be fixed; and both hold in the run of every script.
 abbrev pub LocksAreKept : Type 0
-LocksAreKept = (hd : Header) (x : ℕ) (before : Seen → Bool) (test : List Action → Seen → Bool)
-    → KeepsOf hd (λ begun M. before M ≡ true) (λ begun M. test begun M ≡ true) → ((f : Fixed) → GivesLocks hd f x (λ begun S M. (before M ≡ true) × (test begun M ≡ true)))
-    → Keeps hd (λ M. before M ≡ true) → Keeps hd (λ M. (before M ≡ true) × AreLocksSeen x (λ begun N. test begun N ≡ true) M)
+LocksAreKept = (hd : Header) (values : Values) (x : ℕ) (before : Seen → Bool) (test : List Action → Seen → Bool)
+    → KeepsOf hd (λ begun M. before M ≡ true) (λ begun M. test begun M ≡ true) → ((f : Fixed) → BeginsAs values x f → GivesLocks hd f x (λ begun S M. (before M ≡ true) × (test begun M ≡ true)))
+    → Keeps hd (λ M. before M ≡ true) → Keeps hd (λ M. (before M ≡ true) × AreLocksSeen values x (λ begun N. test begun N ≡ true) M)
 
 abbrev pub RunsKeepLocks : Type 0
-RunsKeepLocks = (hd : Header) (x : ℕ) (before : Seen → Bool) (test : List Action → Seen → Bool)
-    → KeepsOf hd (λ begun M. before M ≡ true) (λ begun M. test begun M ≡ true) → ((f : Fixed) → GivesLocks hd f x (λ begun S M. (before M ≡ true) × (test begun M ≡ true)))
-    → Keeps hd (λ M. before M ≡ true) → (es : List world.Asked) → Holds hd (λ M. (before M ≡ true) × AreLocksSeen x (λ begun N. test begun N ≡ true) M) (run_all es (format hd))
+RunsKeepLocks = (hd : Header) (values : Values) (x : ℕ) (before : Seen → Bool) (test : List Action → Seen → Bool)
+    → KeepsOf hd (λ begun M. before M ≡ true) (λ begun M. test begun M ≡ true) → ((f : Fixed) → BeginsAs values x f → GivesLocks hd f x (λ begun S M. (before M ≡ true) × (test begun M ≡ true)))
+    → Keeps hd (λ M. before M ≡ true) → (es : List world.Asked) → Holds hd (λ M. (before M ≡ true) × AreLocksSeen values x (λ begun N. test begun N ≡ true) M) (run_all es (format hd))

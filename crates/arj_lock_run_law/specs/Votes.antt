@@ -5,6 +5,7 @@ use Rattle.arj_protocol.specs.Node.{Parts}
 use Rattle.arj_protocol.specs.Step.{Node}
 use Rattle.arj_protocol.specs.World.{format, run_all}
 use Rattle.arj_protocol.specs.World as world
+use Rattle.arj_model.specs.Serial.{Values}
 use Rattle.arj_lock_law.specs.State.{State}
 use Rattle.arj_part_law.specs.Actions.{Action}
 use Rattle.arj_call_law.specs.Runs.{AllVotesAreUsed}
@@ -13,7 +14,7 @@ use Rattle.arj_view_law.specs.Keeps.{Holds, Keeps}
 use Rattle.arj_view_law.specs.Seen.{Seen}
 use Rattle.arj_lock_fact_law.specs.Acts.{KeepsOf}
 use Rattle.arj_lock_fact_law.specs.Votes.{AreVoted}
-use Rattle.arj_lock_run_law.specs.Fixed.{Agrees, Fixed}
+use Rattle.arj_lock_run_law.specs.Fixed.{AgreesAs, BeginsAs, Fixed}
 use Rattle.arj_lock_run_law.specs.Kept.{AreCoordsNamed, GivesLocks}
 use Rattle.arj_lock_run_law.specs.Sees.{SeesLocks}
 use Rattle.arj_lock_run_law.specs.Tied.{AreTied}
@@ -24,17 +25,17 @@ AreVotedAt f x S M = (k : ℕ) (n : Node) (t : Parts) → M.nodes k ≡ Some n �
 
 -- The object is seen, in a state to which the journal is tied, and in which each commit under way has the votes that came, for all that may
 -- be fixed and agrees.
-abbrev pub AreLocksVoted : ℕ → (List Action → Seen → Type 0) → Seen → Type 0
-AreLocksVoted x R M = (begun : List Action) × IsAlikeOf begun M × R begun M × ((f : Fixed) → Agrees f x begun M.sent → (S : State) × SeesLocks f x begun S M × AreTied f x M.lines S × AreVotedAt f x S M) × AreCoordsNamed M
+abbrev pub AreLocksVoted : Values → ℕ → (List Action → Seen → Type 0) → Seen → Type 0
+AreLocksVoted values x R M = (begun : List Action) × IsAlikeOf begun M × R begun M × ((f : Fixed) → AgreesAs values f x begun M.sent → (S : State) × SeesLocks f x begun S M × AreTied f x M.lines S × AreVotedAt f x S M) × AreCoordsNamed M
 
 -- So it is kept where a relation gives what handlers count on, and what holds everywhere says that votes are used; and in the run of every
 -- script.
 abbrev pub VotesAreKept : Type 0
-VotesAreKept = (hd : Header) (x : ℕ) (before : Seen → Bool) (test : List Action → Seen → Bool)
-    → KeepsOf hd (λ begun M. before M ≡ true) (λ begun M. test begun M ≡ true) → ((f : Fixed) → GivesLocks hd f x (λ begun S M. (before M ≡ true) × (test begun M ≡ true))) → ((M : Seen) → before M ≡ true → AllVotesAreUsed M)
-    → Keeps hd (λ M. before M ≡ true) → Keeps hd (λ M. (before M ≡ true) × AreLocksVoted x (λ begun N. test begun N ≡ true) M)
+VotesAreKept = (hd : Header) (values : Values) (x : ℕ) (before : Seen → Bool) (test : List Action → Seen → Bool)
+    → KeepsOf hd (λ begun M. before M ≡ true) (λ begun M. test begun M ≡ true) → ((f : Fixed) → BeginsAs values x f → GivesLocks hd f x (λ begun S M. (before M ≡ true) × (test begun M ≡ true))) → ((M : Seen) → before M ≡ true → AllVotesAreUsed M)
+    → Keeps hd (λ M. before M ≡ true) → Keeps hd (λ M. (before M ≡ true) × AreLocksVoted values x (λ begun N. test begun N ≡ true) M)
 
 abbrev pub RunsKeepVotes : Type 0
-RunsKeepVotes = (hd : Header) (x : ℕ) (before : Seen → Bool) (test : List Action → Seen → Bool)
-    → KeepsOf hd (λ begun M. before M ≡ true) (λ begun M. test begun M ≡ true) → ((f : Fixed) → GivesLocks hd f x (λ begun S M. (before M ≡ true) × (test begun M ≡ true))) → ((M : Seen) → before M ≡ true → AllVotesAreUsed M)
-    → Keeps hd (λ M. before M ≡ true) → (es : List world.Asked) → Holds hd (λ M. (before M ≡ true) × AreLocksVoted x (λ begun N. test begun N ≡ true) M) (run_all es (format hd))
+RunsKeepVotes = (hd : Header) (values : Values) (x : ℕ) (before : Seen → Bool) (test : List Action → Seen → Bool)
+    → KeepsOf hd (λ begun M. before M ≡ true) (λ begun M. test begun M ≡ true) → ((f : Fixed) → BeginsAs values x f → GivesLocks hd f x (λ begun S M. (before M ≡ true) × (test begun M ≡ true))) → ((M : Seen) → before M ≡ true → AllVotesAreUsed M)
+    → Keeps hd (λ M. before M ≡ true) → (es : List world.Asked) → Holds hd (λ M. (before M ≡ true) × AreLocksVoted values x (λ begun N. test begun N ≡ true) M) (run_all es (format hd))

@@ -5,6 +5,7 @@ use Rattle.std.proofs.lemmas.Bool.{eqb-true, false_from_ne_true}
 use Rattle.arj_lock.proofs.Members as list
 use Rattle.arj_lock.proofs.Members.{in_from, in_to}
 use Rattle.arj_model.specs.Actions as model
+use Rattle.arj_model.specs.Serial.{Values}
 use Rattle.arj_protocol.specs.Words.{Kind, Uid, first_uid, is_on, uids_of}
 use Rattle.arj_protocol.specs.Words.ask
 use Rattle.arj_protocol.specs.Words.ending
@@ -42,7 +43,7 @@ use Rattle.arj_lock_view_law.specs.Hearing.{SeesNamingIn}
 use Rattle.arj_lock_view_law.specs.Namings.{SeesNaming}
 use Rattle.arj_lock_view_law.specs.Telling.{AreOneTree}
 use Rattle.arj_lock_run_law.specs.Beside.{IsCommittedTop, IsConfirmedNow, IsSeenIn, IsToldAbort, IsUnitOver, Spot, server_at, world_at}
-use Rattle.arj_lock_run_law.specs.Fixed.{Fixed, view_of}
+use Rattle.arj_lock_run_law.specs.Fixed.{BeginsAs, Fixed, view_of}
 use Rattle.arj_lock_run_law.specs.Kept.{case_of}
 use Rattle.arj_lock_run_law.specs.Sees.{HasConfirm, IsPast, SeesDown, SeesMemory, SeesUp}
 use Rattle.arj_serial_law.proofs.Ties.{as_said}
@@ -63,7 +64,7 @@ owned (b ∷ begun) [] alike a i = absurd i
 owned (b ∷ begun) (x ∷ xs) alike a (inl is) = (b, inl refl, sym alike.0 ∙ ap (λ (y : model.Act). y.uid) is, sym alike.1 ∙ ap (λ (y : model.Act). y.kind) is)
 owned (b ∷ begun) (x ∷ xs) alike a (inr i) = let r = owned begun xs alike.3 a i in (r.0, inr r.1, r.2, r.3)
 
-module _ (f : Fixed) (x : ℕ) (begun : List Action) (S : State) (s : Spot) (seen : IsSeenIn (case_of f x begun S) (world_at s)) (parted : KnowsParted begun (world_at s)) (records : AreRecorded begun (world_at s)) (knows : AbortsAreKnown begun (world_at s)) where
+module _ (f : Fixed) (x : ℕ) (begun : List Action) (S : State) (s : Spot) (seen : IsSeenIn (case_of f x begun S) (world_at s)) (parted : KnowsParted begun (world_at s)) (records : AreRecorded begun (world_at s)) (knows : AbortsAreKnown begun (world_at s)) (begins : (values : Values) × BeginsAs values x f) where
   abbrev M : Seen
   M = s.seen
 
@@ -146,8 +147,8 @@ module _ (f : Fixed) (x : ℕ) (begun : List Action) (S : State) (s : Spot) (see
                 open_unit (ap (λ k. (let z = S.action (Root k) in z.stage)) unit ∙ (let w = m.coord in w.units (root_of a.path) o.0 o.1 own o.2))
 
     -- while it is down
-    tied : IsTiedToLines f.act f.code (let g = seen.agrees in let v = g.first in v.0) x M.lines S
-    tied = let g = seen.agrees in let v = g.first in seen.tied v.0 v.1
+    tied : IsTiedToLines f.act f.code begins.0 x M.lines S
+    tied = seen.tied begins.0 begins.1
 
     right : AreRight new_book M.lines
     right = (let w = seen.written in w.right)

@@ -6,6 +6,7 @@ use Rattle.std.proofs.lemmas.Bool.{or_left}
 use Rattle.arj_base.specs.Order.{uid_order}
 use Rattle.arj_base.proofs.Uids.{uid_is, uid_same}
 use Rattle.arj_lock.proofs.Members.{In as In_list, in_from, in_to}
+use Rattle.arj_model.specs.Serial.{Values}
 use Rattle.arj_protocol.specs.Words.{Asked, Binding, Header, Kind, Label, Message, ObjectState, Row, Uid, before_last, entry, first_uid, is_held_by, is_on, last_uid, uid_eq, uids_of}
 use Rattle.arj_protocol.specs.Words.ask
 use Rattle.arj_protocol.specs.Words.kind
@@ -72,7 +73,7 @@ use Rattle.arj_lock_run_law.specs.Answers.{KnowsAnswer}
 use Rattle.arj_lock_run_law.specs.Asking.{HasWholeRoots, IsAskedAbout, TellsRecords}
 use Rattle.arj_lock_run_law.specs.Beside.{Case, HoldsNamingIn, IsConfirmedNow, IsSeenIn, KnowsSpot, Spot, server_at, view_in, world_at}
 use Rattle.arj_lock_run_law.specs.Coordinating.{KnowsAsks, coord_at}
-use Rattle.arj_lock_run_law.specs.Fixed.{Fixed}
+use Rattle.arj_lock_run_law.specs.Fixed.{BeginsAs, Fixed}
 use Rattle.arj_lock_run_law.specs.Inputs.{KnowsAfter, KnowsInput}
 use Rattle.arj_lock_run_law.specs.Kept.{GivesLocks, HasCome, case_of}
 use Rattle.arj_lock_run_law.specs.Posts.{IsAskedSeen, IsRequestSeen}
@@ -371,18 +372,18 @@ module _ (hd : Header) (x : ℕ) (has : HasObject hd x) (E : List Action → See
 
     -- ---- naming and servers
 
-    module _ (Y : List Action → State → Seen → Type 0) (rest : GivesRest f x (λ b T N. Known_all b N × Y b T N)) (more : Y begun S (world_at s)) where
+    module _ (Y : List Action → State → Seen → Type 0) (begins : (values : Values) × BeginsAs values x f) (rest : GivesRest f x (λ b T N. Known_all b N × Y b T N)) (more : Y begun S (world_at s)) where
       spot : KnowsSpot c s
       spot = record {
         parted = whole.parted;
         server = record {
           listed = listed;
           left = λ u told new over never. none_left f x begun S s seen whole.aborts whole.acks (λ t c n its asked three called writes survives same. rest.recorded begun S (world_at s) t c n k (let v = server_at s in v.inc) (knows, more) seen its asked three called writes survives same) u told never;
-          unvoted = λ u told new top open_unit. unvoted f x begun S s seen whole.parted whole.records whole.aborts u told top open_unit;
+          unvoted = λ u told new top open_unit. unvoted f x begun S s seen whole.parted whole.records whole.aborts begins u told top open_unit;
         };
         naming = λ n is. record {
           holds = holds n is;
-          unconfirmed = λ u told new top open_unit now. unconfirmed f x begun S s seen whole.parted whole.records whole.aborts n u is told new top open_unit now;
+          unconfirmed = λ u told new top open_unit now. unconfirmed f x begun S s seen whole.parted whole.records whole.aborts begins n u is told new top open_unit now;
           heirs = λ o a at there how told new now r i held. heir n is o at a there how now r i held;
           nothing = λ o a at there nested told new. nested_nothing begun k its_node t n (world_at s) good uppers here refl is x o a at there nested;
         };
@@ -413,13 +414,13 @@ module _ (hd : Header) (x : ℕ) (has : HasObject hd x) (E : List Action → See
         grown a b less (inl same) = omega (arith, less, same)
         grown a b less (inr one) = omega (arith, less, one)
 
-  pub gives_locks : (Y : List Action → State → Seen → Type 0) → GivesRest f x (λ b T N. Known_all b N × Y b T N) → GivesLocks hd f x (λ b T N. Known_all b N × Y b T N)
-  gives_locks Y rest = record {
+  pub gives_locks : (Y : List Action → State → Seen → Type 0) → ((values : Values) × BeginsAs values x f) → GivesRest f x (λ b T N. Known_all b N × Y b T N) → GivesLocks hd f x (λ b T N. Known_all b N × Y b T N)
+  gives_locks Y begins rest = record {
     holds = λ begun S s knows seen. holds begun S s knows.0 seen;
-    parts = λ begun S s from m v outs knows seen come mine. (spot begun S s knows.0 seen Y rest knows.1, holds_after begun S s knows.0 seen from m v outs come);
+    parts = λ begun S s from m v outs knows seen come mine. (spot begun S s knows.0 seen Y begins rest knows.1, holds_after begun S s knows.0 seen from m v outs come);
     asked = λ begun S s from u v outs knows seen come. about begun S s knows.0 seen from u come.sent;
     acked = λ begun S s from u v outs knows seen come. whole_roots begun S s knows.0 seen u;
-    heard = λ begun S s from m a v outs knows seen come of. answer begun S s knows.0 seen Y rest knows.1 from m a come.sent of;
+    heard = λ begun S s from m a v outs knows seen come of. answer begun S s knows.0 seen Y begins rest knows.1 from m a come.sent of;
     act = λ begun S s i knows seen is free. (knows_input begun S s knows.0 seen, knows_acts begun S s knows.0 seen i is free);
     begin = λ begun S s knows seen. new_root (coord_at s) (let w = works begun S s knows.0 seen in w.roots);
     tick = λ begun S s knows seen. let w = works begun S s knows.0 seen in (knows_asks begun S s knows.0 seen, w.ends, tells begun S s knows.0 seen);
@@ -431,6 +432,6 @@ module _ (hd : Header) (x : ℕ) (has : HasObject hd x) (E : List Action → See
       entry_at k d M holds_it is = holds_it (record { number = k; disk = d; live = None }) (subst (λ (j : ℕ). (let W = down k d M in W.nodes j) ≡ Some (record { number = k; disk = d; live = None })) is (λ i. cond (same_number k i) (Some (record { number = k; disk = d; live = None })) (M.nodes k)))
 
   -- where no more is known of the machine's state
-  pub gives_alone : GivesRest f x (λ b T N. Known_all b N) → GivesLocks hd f x (λ b T N. Known_all b N)
-  gives_alone rest = gives_by hd f x (λ b T N. Known_all b N × ⊤) (λ b T N. Known_all b N) (λ b T N q. (q, tt))
-      (gives_locks (λ b T N. ⊤) (record { recorded = λ b T N t k n j i q. rest.recorded b T N t k n j i q.0; last = λ b T s from m a q. rest.last b T s from m a q.0 }))
+  pub gives_alone : ((values : Values) × BeginsAs values x f) → GivesRest f x (λ b T N. Known_all b N) → GivesLocks hd f x (λ b T N. Known_all b N)
+  gives_alone begins rest = gives_by hd f x (λ b T N. Known_all b N × ⊤) (λ b T N. Known_all b N) (λ b T N q. (q, tt))
+      (gives_locks (λ b T N. ⊤) begins (record { recorded = λ b T N t k n j i q. rest.recorded b T N t k n j i q.0; last = λ b T s from m a q. rest.last b T s from m a q.0 }))

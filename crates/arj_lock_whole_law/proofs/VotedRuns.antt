@@ -1,5 +1,6 @@
 -- Whole runs: each commit under way has the votes that came, in the state of the machine in which the object is seen.
 use Rattle.std.proofs.Common.{◌≡◌, ◌≤◌, ℕ, true, List, length}
+use Rattle.arj_model.specs.Serial.{Values}
 use Rattle.arj_protocol.specs.Words.{Header}
 use Rattle.arj_protocol.specs.World.{Asked, format, run_all}
 use Rattle.arj_part_law.specs.Actions.{Action}
@@ -20,18 +21,18 @@ use Rattle.arj_lock_whole_law.specs.Whole.{KnowsWhole}
 use Rattle.arj_lock_whole_law.proofs.Gives.{gives_alone}
 use Rattle.arj_lock_whole_law.proofs.WholeRuns.{kept_of_all}
 
-module _ (hd : Header) (x : ℕ) (has : HasObject hd x) (E : List Action → Seen → Type 0) (rest : IsRest hd x E) where
+module _ (hd : Header) (values : Values) (x : ℕ) (has : HasObject hd x) (E : List Action → Seen → Type 0) (rest : IsRest hd values x E) where
   abbrev Kept : List Action → Seen → Type 0
   Kept begun M = KnowsWhole x begun M × E begun M
 
-  voted : KeepsGiven hd KnowsFew (AreLocksVoted x Kept)
-  voted = votes_given hd x KnowsFew Kept (kept_of_all hd x has E rest) (λ f. gives_alone hd x has E f (rest.gives f)) (λ M few. votes_in M few.1.1)
+  voted : KeepsGiven hd KnowsFew (AreLocksVoted values x Kept)
+  voted = votes_given hd values x KnowsFew Kept (kept_of_all hd values x has E rest) (λ f begins. gives_alone hd x has E f ((values, begins)) (rest.gives f begins)) (λ M few. votes_in M few.1.1)
 
-  run_voted : (es : List Asked) → length es ≤ most_events → Holds hd (AreVotesSeen x) (run_all es (format hd))
+  run_voted : (es : List Asked) → length es ≤ most_events → Holds hd (AreVotesSeen values x) (run_all es (format hd))
   run_voted es most =
-      let h = runs_hold hd (WhileFew (AreLocksVoted x Kept)) (few_go hd (AreLocksVoted x Kept) voted) es in
+      let h = runs_hold hd (WhileFew (AreLocksVoted values x Kept)) (few_go hd (AreLocksVoted values x Kept) voted) es in
       let z = h.holds.1 (scripts_few hd es most) in
       record { sent = h.sent; stands = h.stands; holds = (let q = z.1 in (q.0, q.1, q.3)) }
 
 pub runs_have_votes : RunsHaveVotes
-runs_have_votes hd x has test rest es most = run_voted hd x has (λ begun M. test begun M ≡ true) rest es most
+runs_have_votes hd values x has test rest es most = run_voted hd values x has (λ begun M. test begun M ≡ true) rest es most

@@ -11,7 +11,7 @@ pub fn handlers_keep_the_whole()
 /// After the run of each script of at most 1,000,000 events, with all stops, crashes and restarts, each object of the header is seen by its
 /// lock machine, for any codes of values and any first value: there are places of the actions that were begun and wants of all requests that
 /// were sent, and a state of the machine, to which all nodes, all messages and the journal are tied. What `specs/Rest.antt` names is still
-/// taken of a relation that is kept beside. It does nothing when it runs.
+/// taken of a relation that is kept beside, for machines that begin with this value. It does nothing when it runs.
 pub fn runs_see_the_locks()
     ensures seen { RunsSeeLocks }
     ensures locked { RunsAreLocked }

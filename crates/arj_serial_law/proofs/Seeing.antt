@@ -5,7 +5,6 @@ use Rattle.arj_journal.specs.declared.body.Line.{Line}
 use Rattle.arj_law.proofs.Nested.{nested_law}
 use Rattle.arj_law.proofs.Order.{order_law}
 use Rattle.arj_model.specs.Last.{first_values}
-use Rattle.arj_class.specs.declared.value.Value.{Value}
 use Rattle.arj_model.specs.Serial.{Serial, Values}
 use Rattle.arj_part_law.specs.Actions.{Action, paths_of}
 use Rattle.arj_protocol.specs.World.{journal}
@@ -17,7 +16,7 @@ use Rattle.arj_line_law.proofs.Runs.{run_written}
 use Rattle.arj_lock_fact_law.specs.Given.{SentWants}
 use Rattle.arj_lock_fact_law.proofs.Wants.{requests_want}
 use Rattle.arj_lock_law.specs.State.{State}
-use Rattle.arj_lock_run_law.specs.Fixed.{Agrees, Fixed, view_of}
+use Rattle.arj_lock_run_law.specs.Fixed.{AgreesAs, Fixed, view_of}
 use Rattle.arj_lock_run_law.specs.Sees.{SeesLocks}
 use Rattle.arj_lock_run_law.specs.Tied.{AreTied as AreTiedNow}
 use Rattle.arj_lock_run_law.proofs.KeptSteps.{runs_keep_locks}
@@ -37,7 +36,7 @@ use Rattle.arj_serial_law.proofs.Ties.{Ties, ties_of}
 use Rattle.arj_serial_law.proofs.Values.{are_answered}
 
 -- in places of its own, and in any codes
-module _ (x : ℕ) (M : Seen) (begun : List Action) (alike : IsAlikeOf begun M) (seen : (f : Fixed) → Agrees f x begun M.sent → (S : State) × SeesLocks f x begun S M × AreTiedNow f x M.lines S) (knows : RequestsAreOne M) where
+module _ (values : Values) (x : ℕ) (M : Seen) (begun : List Action) (alike : IsAlikeOf begun M) (seen : (f : Fixed) → AgreesAs values f x begun M.sent → (S : State) × SeesLocks f x begun S M × AreTiedNow f x M.lines S) (knows : RequestsAreOne M) where
   right : AreRight new_book M.lines
   right = let w = alike.2 in w.right
 
@@ -47,14 +46,14 @@ module _ (x : ℕ) (M : Seen) (begun : List Action) (alike : IsAlikeOf begun M) 
   pub wants : (w : Wants) × SentWants x M.sent w
   wants = requests_want x M.sent knows.one (λ p there h a is. knows.numbered p there h a is)
 
-  abbrev pub fixed_at : Codes → Value → Fixed
-  fixed_at code value = record { act = acts_of begun; paths = paths_of begun; code = code; wants = wants.0; first = code value (acts_of begun nobody) }
+  abbrev pub fixed_at : Codes → Fixed
+  fixed_at code = record { act = acts_of begun; paths = paths_of begun; code = code; wants = wants.0; first = code (values x) (acts_of begun nobody) }
 
-  pub agrees_at : (code : Codes) (value : Value) → Agrees (fixed_at code value) x begun M.sent
-  agrees_at code value = record { whole = tree; wanted = λ p h a there is. wants.1 (view_of (fixed_at code value) x begun p.to) p h a refl refl there is; first = ((λ y. value), refl) }
+  pub agrees_at : (code : Codes) → AgreesAs values (fixed_at code) x begun M.sent
+  agrees_at code = (record { whole = tree; wanted = λ p h a there is. wants.1 (view_of (fixed_at code) x begun p.to) p h a refl refl there is }, refl)
 
-  pub locked_tied : (values : Values) → (S : State) × IsTied values M.lines x S
-  locked_tied values = let s = seen (fixed_at code_of (values x)) (agrees_at code_of (values x)) in (
+  pub locked_tied : (S : State) × IsTied values M.lines x S
+  locked_tied = let s = seen (fixed_at code_of) (agrees_at code_of) in (
     s.0,
     record {
       act = acts_of begun;
@@ -83,7 +82,7 @@ locked_runs_are_serial hd es locked = (
     right = let w = run_written hd es in let z = w.1 in z.right
 
     tied : Ties values lines
-    tied = ties_of values lines (λ x called. (let h = locked x called in (let z = h.holds in locked_tied x _ z.0 z.1 z.2 z.3 values)))
+    tied = ties_of values lines (λ x called. (let h = locked x called in (let z = h.holds in locked_tied values x _ z.0 z.1 z.2 z.3)))
 
     serial : Serial values lines
     serial = order_law values lines (all_in_order values lines right tied) (are_answered values lines right tied)
@@ -91,5 +90,5 @@ locked_runs_are_serial hd es locked = (
 pub given_runs_are_serial : GivenRunsAreSerial
 given_runs_are_serial hd es before test everywhere requests gives = locked_runs_are_serial hd es (λ x called.
     let g = gives x called in
-    let h = runs_keep_locks hd x before (test x) g.0 g.1 everywhere es in
+    let h = runs_keep_locks hd (first_values hd) x before (test x) g.0 g.1 everywhere es in
     record { sent = h.sent; stands = h.stands; holds = (let z = h.holds in (z.1.0, z.1.1, z.1.3, requests _ z.0)) })

@@ -7,7 +7,7 @@ use Rattle.arj_law.specs.Nested.{nested_calls}
 use Rattle.arj_model.specs.Actions.{Placed}
 use Rattle.arj_model.specs.Calls.{Said, said}
 use Rattle.arj_model.specs.Last.{first_values}
-use Rattle.arj_model.specs.Serial.{Answers, Serial}
+use Rattle.arj_model.specs.Serial.{Answers, Serial, Values}
 use Rattle.arj_protocol.specs.Words.{Ask, Head, asks}
 use Rattle.arj_protocol.specs.World.{Asked, format, journal, run_all}
 use Rattle.arj_lock_law.specs.State.{State}
@@ -18,7 +18,7 @@ use Rattle.arj_view_law.specs.Keeps.{Holds, Keeps}
 use Rattle.arj_view_law.specs.Seen.{In, Post, Seen}
 use Rattle.arj_lock_fact_law.specs.Acts.{KeepsOf}
 use Rattle.arj_lock_fact_law.specs.Worlds.{IsFromOne}
-use Rattle.arj_lock_run_law.specs.Fixed.{Agrees, Fixed}
+use Rattle.arj_lock_run_law.specs.Fixed.{AgreesAs, BeginsAs, Fixed}
 use Rattle.arj_lock_run_law.specs.Kept.{GivesLocks}
 use Rattle.arj_lock_run_law.specs.Sees.{SeesLocks}
 use Rattle.arj_lock_run_law.specs.Tied.{AreTied}
@@ -32,14 +32,14 @@ pub record RequestsAreOne (M : Seen) : Type 0 where
   pub one : AreOneCall M.sent
   pub numbered : (p : Post) → In p M.sent → (h : Head) (a : Ask) → asks (let q = p in q.message) ≡ Some (h, a) → IsFromOne h a
 
--- The actions that were begun are those of the journal, and for all that may be fixed and agrees with them the object is seen in a state of
--- its lock machine, to which the journal is tied.
-abbrev pub IsLocked : ℕ → Seen → Type 0
-IsLocked x M = (begun : List Action) × IsAlikeOf begun M × ((f : Fixed) → Agrees f x begun M.sent → (S : State) × SeesLocks f x begun S M × AreTied f x M.lines S) × RequestsAreOne M
+-- The actions that were begun are those of the journal, and for all that may be fixed and agrees with them, and begins with this value, the
+-- object is seen in a state of its lock machine, to which the journal is tied.
+abbrev pub IsLocked : Values → ℕ → Seen → Type 0
+IsLocked values x M = (begun : List Action) × IsAlikeOf begun M × ((f : Fixed) → AgreesAs values f x begun M.sent → (S : State) × SeesLocks f x begun S M × AreTied f x M.lines S) × RequestsAreOne M
 
 -- so it is at the end of this run, of each object of which a call was answered
 abbrev pub AreLocked : Header → List Asked → Type 0
-AreLocked hd es = (x : ℕ) → IsCalled x (journal hd es) → Holds hd (IsLocked x) (run_all es (format hd))
+AreLocked hd es = (x : ℕ) → IsCalled x (journal hd es) → Holds hd (IsLocked (first_values hd) x) (run_all es (format hd))
 
 -- its journal is serial, and its calls give the same answers where each committed nested action runs whole at its commit
 abbrev pub IsSerialRun : Header → List Asked → Type 0
@@ -51,7 +51,7 @@ LockedRunsAreSerial = (hd : Header) (es : List Asked) → AreLocked hd es → Is
 
 -- a relation of the actions that were begun is kept, beside what holds everywhere, and gives what handlers count on
 abbrev pub IsGiven : Header → ℕ → (Seen → Bool) → (List Action → Seen → Bool) → Type 0
-IsGiven hd x before test = KeepsOf hd (λ begun M. before M ≡ true) (λ begun M. test begun M ≡ true) × ((f : Fixed) → GivesLocks hd f x (λ begun S M. (before M ≡ true) × (test begun M ≡ true)))
+IsGiven hd x before test = KeepsOf hd (λ begun M. before M ≡ true) (λ begun M. test begun M ≡ true) × ((f : Fixed) → BeginsAs (first_values hd) x f → GivesLocks hd f x (λ begun S M. (before M ≡ true) × (test begun M ≡ true)))
 
 -- Where there is one for each object of which a call was answered, and what holds everywhere knows requests, the run is serial.
 abbrev pub GivenRunsAreSerial : Type 0
