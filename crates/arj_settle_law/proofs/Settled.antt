@@ -54,7 +54,7 @@ above_as : {X : Type 0} (u : Uid) (m : List (Uid × X)) → pairs.AreAbove u m �
 above_as u [] all = tt
 above_as u (e ∷ es) all = (all.0, above_as u es all.1)
 
-sorted_as : {X : Type 0} (m : List (Uid × X)) → pairs.AreSorted m → objects.AreSorted m
+pub sorted_as : {X : Type 0} (m : List (Uid × X)) → pairs.AreSorted m → objects.AreSorted m
 sorted_as [] all = tt
 sorted_as (e ∷ es) all = (above_as e.0 es all.0, sorted_as es all.1)
 
@@ -62,7 +62,7 @@ sorted_as (e ∷ es) all = (above_as e.0 es all.0, sorted_as es all.1)
 
 module _ (acts : List Action) (begun : AreBegun acts) where
   -- a root that isn't a serializing action has no constituent
-  root_alone : (a : Action) → Contains acts a → a.kind ≢ kind.Nested → (u : Uid) → IsTopOf acts u → root_of a.path ≡ u → act_of a ≡ u
+  pub root_alone : (a : Action) → Contains acts a → a.kind ≢ kind.Nested → (u : Uid) → IsTopOf acts u → root_of a.path ≡ u → act_of a ≡ u
   root_alone a there unnested u top root = by a.kind refl (where_stands acts begun a (in_from a acts there))
     where
       single : uids_of a.path ≡ act_of a ∷ [] → act_of a ≡ u
@@ -210,7 +210,7 @@ module _ (hd : Header) where
 
 -- ---- kept
 
-disks_keep : (hd : Header) → KeepsOf hd (λ begun M. ⊤) (λ begun M. AreRecorded begun M × PreparedWereAsked begun M)
+pub disks_keep : (hd : Header) → KeepsOf hd (λ begun M. ⊤) (λ begun M. AreRecorded begun M × PreparedWereAsked begun M)
 disks_keep hd = of_both hd (λ begun M. ⊤) AreRecorded PreparedWereAsked (of_more hd (λ begun M. ⊤) (λ begun M. ⊤ × PreparedWereAsked begun M) AreRecorded (λ begun M h. tt) (records_of hd)) (of_more hd (λ begun M. ⊤) (λ begun M. ⊤ × AreRecorded begun M) PreparedWereAsked (λ begun M h. tt) (asked_of hd))
 
 pub handlers_settle : HandlersSettle

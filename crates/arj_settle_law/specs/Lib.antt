@@ -1,3 +1,4 @@
 pub mod Prepared
 pub mod Settled
 pub mod Last
+pub mod Outcomes

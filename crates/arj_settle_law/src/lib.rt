@@ -6,10 +6,16 @@
 //! (`arj_address_law`) and of whoever waits (`arj_wait_law`), and on what a round leaves where all this is taken as known
 //! (`arj_round_law`). It gives upward `whoever_is_prepared_settles`, `quiesces_leave_nodes_idle` and `rounds_leave_nodes_idle`
 //! (`specs/Settled.antt`), and `files_of_idle_nodes_hold_the_last` (`specs/Last.antt`).
+//!
+//! And what stores abort of decided tops has its cause in the journal, in every run: `runs_show_one_outcome` (`specs/Outcomes.antt`). Of each
+//! top that asked a store (`proofs/Cores.antt`): once it is decided the store has something prepared and the record lists it, or its abort has a
+//! cause; which each handler keeps (`proofs/Rights.antt`).
 #![tactic(auto)]
 
+mod outcomes;
 mod settles;
 
+pub use outcomes::runs_show_one_outcome;
 pub use settles::{
     files_of_idle_nodes_hold_the_last, quiesces_leave_nodes_idle, rounds_leave_nodes_idle,
     whoever_is_prepared_settles,

@@ -1,0 +1,11 @@
+// One outcome of each top, in every run.
+ghost use Rattle.arj_settle_law.specs.Outcomes.{RunsShowOneOutcome, StoresAbortByCauses};
+
+/// In the journal of each script, with all frames in any order, again or never, all stops, crashes and restarts, each line that a store's
+/// abort of a decided top is done stands behind its cause: the store had committed it before, the top's commit excluded the node, or the node
+/// has halted since that commit was called. It takes nothing. So a run shows one outcome of each top where naming has such causes. It does
+/// nothing when it runs.
+pub fn runs_show_one_outcome()
+    ensures stores { StoresAbortByCauses }
+    ensures runs { RunsShowOneOutcome }
+{}
