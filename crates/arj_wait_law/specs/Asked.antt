@@ -1,5 +1,5 @@
--- What was asked: requests come from where their actors began, answers go to who asked, and what a server has of bindings and of the
--- last requests of actions was asked of some server.
+-- What was asked: requests come from where their actors began, answers go to who asked, what a server has of bindings and of the last
+-- requests of actions was asked of some server, and each new binding is one that naming made, as a line says, and keeps for its top.
 use Rattle.std.specs.Prelude.{Bool, List, None, Option, Some, true, ℕ, ⊤, ◌≡◌, ◌≤◌, ◌⊎◌}
 use Rattle.std.specs.List.{AllByRecursion}
 use Rattle.arj_base.specs.Uid.{object}
@@ -155,7 +155,8 @@ IsPlaced j inc o = (n : Naming) → o ≡ Some n → (j ≡ 1) × (n.inc ≤ inc
 
 -- ---- all nodes
 
--- So it is of each answer that was sent, of each request to activate a copy, and of each node that is up; and lines say which bindings were made.
+-- So it is of each answer that was sent, of each request to activate a copy, and of each node that is up; lines say which bindings naming
+-- made, and it is at node 1.
 pub record WereAsked (M : Seen) : Type 0 where
   pub replies : (p : Post) (a : Asked) (r : Reply) → In p M.sent → answers p.message ≡ Some (a, r) → ReplyWasAsked M.sent (WasMade M) p a r
   pub activates : (p : Post) (h : Head) (b : Binding) (st : ObjectState) → In p M.sent → asks p.message ≡ Some (h, ask.Activate b st) → ActivateNamed M.sent (WasMade M) h b st

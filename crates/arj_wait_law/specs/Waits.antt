@@ -1,5 +1,5 @@
 -- So much is known of whoever waits, in every run; and what is still to be given of requests for which somebody waits.
-use Rattle.std.specs.Prelude.{Bool, List, Some, is_some, true, ℕ, ⊤, ◌||◌, ◌≡◌, ◌≢◌}
+use Rattle.std.specs.Prelude.{Bool, List, Some, is_some, true, ℕ, ◌||◌, ◌≡◌, ◌≢◌}
 use Rattle.arj_journal.specs.ScriptForm.{HeaderInForm}
 use Rattle.arj_protocol.specs.Words.{Header, Uid, object}
 use Rattle.arj_protocol.specs.Ask.{actor}
@@ -28,7 +28,8 @@ use Rattle.arj_past_law.specs.Told.{EndsArePast}
 abbrev pub ObjectsAreKnown : Header → Seen → Type 0
 ObjectsAreKnown hd M = ((IsGood M × BindsAreKnown M) × CallsAreOfHeader hd M) × ((x : ℕ) → HasObject hd x → HaveEntries x M)
 
--- States are of objects and of their classes, objects at naming are good, requests come from where their actors began, and answers and what servers have was asked for.
+-- States are of objects and of their classes, objects at naming are good, requests come from where their actors began, answers and what
+-- servers have was asked for, and bindings were made as lines say.
 abbrev pub AskersAreKnown : Header → Seen → Type 0
 AskersAreKnown hd M = (((RequestsAreKnown M × HaveForms hd M) × ObjectsAreHeld M) × WereAsked M) × RequestsAreHome M
 
