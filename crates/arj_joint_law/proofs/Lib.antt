@@ -21,7 +21,6 @@ pub mod MarkRuns
 pub mod MarkTies
 pub mod Leaving
 pub mod RunsInTime
-pub mod Dropping
 pub mod Joining
 pub mod Recording
 pub mod Counting

@@ -11,4 +11,3 @@ pub mod Samples
 pub mod Excluded
 pub mod InTime
 pub mod Joined
-pub mod Dropped

@@ -7,7 +7,7 @@
 //! what stands of the object on disks is of its class (`specs/Forms.antt`); both machines are there at once, so that decided tops gave to
 //! the stores what they wrote (`specs/Joined.antt`); and files are clean with what is left
 //! (`specs/Cleaned.antt`), and stores excluded in time (`specs/Excluded.antt`, `specs/InTime.antt`). What one outcome is by a journal is
-//! in `specs/Outcome.antt`, `specs/Dropped.antt`; what lines say of exclusions in `specs/Marked.antt`. What it gives upward: `runs_begin_as_the_header_says`, `decisions_come_behind_calls`,
+//! in `specs/Outcome.antt`; what lines say of exclusions in `specs/Marked.antt`. What it gives upward: `runs_begin_as_the_header_says`, `decisions_come_behind_calls`,
 //! `writers_are_called_as_they_are_decided`, `runs_have_form`, `runs_have_both_machines`, `runs_are_clean`, `runs_exclude_in_time` (of what is seen of a run:
 //! `seen_runs_exclude_in_time`), `commits_are_done_behind_decisions`,
 //! `commits_say_what_they_exclude`.
@@ -22,7 +22,6 @@ pub use forms::runs_have_form;
 pub use outcomes::{
     commits_are_done_behind_decisions, exclusion_in_time_tells_disks_apart,
     one_outcome_tells_journals_apart, runs_exclude_in_time, seen_runs_exclude_in_time,
-    seen_runs_show_one_outcome,
 };
 pub use runs::{
     commits_say_what_they_exclude, decisions_come_behind_calls, runs_are_clean,

@@ -1,6 +1,5 @@
 // One outcome of each top, and that stores are excluded in time, by a journal.
 ghost use Rattle.std.specs.Prelude.{◌≡◌, false};
-ghost use Rattle.arj_joint_law.specs.Dropped.{SeenRunsShowOneOutcome};
 ghost use Rattle.arj_joint_law.specs.Excluded.{IsInTime, IsNew, NewWritersAreLast, NodesHaveForm, RunsBeginWithCalls, RunsExcludeInTimeByCalls, SeenRunsExcludeInTime};
 ghost use Rattle.arj_joint_law.specs.InTime.{RunsExcludeInTime, WholeRunsExcludeInTime};
 ghost use Rattle.arj_joint_law.specs.Outcome.{CommitsAreBehind, ShowsOneOutcome, aborts_have_cause, commits_are_behind};
@@ -11,14 +10,6 @@ ghost use Rattle.arj_joint_law.specs.Samples.{decided_lines, found_commit, halte
 /// nothing when it runs.
 pub fn commits_are_done_behind_decisions()
     ensures runs { CommitsAreBehind }
-{}
-
-/// And a run shows one outcome of each top where at each line that a store's abort is done the disk machine of an object is seen in a state in
-/// which it may drop what was prepared: a decided top that the store gave its Yes was committed there before, and that has its line, or the
-/// store halted since; and a store that gave it none was excluded. That naming has such a cause where it aborts is taken. It does nothing
-/// when it runs.
-pub fn seen_runs_show_one_outcome()
-    ensures runs { SeenRunsShowOneOutcome }
 {}
 
 /// The definition of one outcome, tried on small journals: which it accepts, and which it refuses. It does nothing when it runs.
