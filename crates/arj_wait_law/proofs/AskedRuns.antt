@@ -282,15 +282,15 @@ walk base lines inc e k v (Send to m ∷ es) d M within were placed low incs fin
     (said_so k (Some v) e more (posted (record { from = k; to = to; message = m }) M) lines (Made lines k inc v.naming M.nodes) (sent_so base lines (Made lines k inc v.naming M.nodes) k (Some v) M within to m fine.0 so))
 
 -- where all that is still to be said comes first
-walk_lines : (base : List Post) (lines : Body → Type 0) (inc e k : ℕ) (v : Parts) (says rest : List Effect) (d : Disk) (M : Seen) → ((p : Post) → In p base → In p M.sent) → AllSaid says → ((z : Body) → lines z → IsSaid M.lines z ⊎ SaidIn says z) → IsPlaced k inc v.naming → inc ≤ d.inc → IncsUp inc rest
-    → AllByRecursion (Fine base (Made lines k inc v.naming M.nodes) k) rest → AreSo k (Some v) M lines (Made lines k inc v.naming M.nodes) → Walks WereAsked e k (says ++ rest) (Up WereAsked k v) d M
-walk_lines base lines inc e k v [] rest d M within none were placed low incs fine so = walk base lines inc e k v rest d M within (λ z s. ⊎_elim (λ old. old) (λ no. absurd no) (were z s)) placed low incs fine so
-walk_lines base lines inc e k v (Say b ∷ es) rest d M within all were placed low incs fine so = walk_lines base lines inc e k v es rest d (said e (b ∷ []) M) within all.1 then placed low incs fine (said_so k (Some v) e (b ∷ []) M lines (Made lines k inc v.naming M.nodes) so)
+walk_lines : (base : List Post) (lines : Body → Type 0) (inc e k : ℕ) (v : Parts) (says behind : List Effect) (d : Disk) (M : Seen) → ((p : Post) → In p base → In p M.sent) → AllSaid says → ((z : Body) → lines z → IsSaid M.lines z ⊎ SaidIn says z) → IsPlaced k inc v.naming → inc ≤ d.inc → IncsUp inc behind
+    → AllByRecursion (Fine base (Made lines k inc v.naming M.nodes) k) behind → AreSo k (Some v) M lines (Made lines k inc v.naming M.nodes) → Walks WereAsked e k (says ++ behind) (Up WereAsked k v) d M
+walk_lines base lines inc e k v [] behind d M within none were placed low incs fine so = walk base lines inc e k v behind d M within (λ z s. ⊎_elim (λ old. old) (λ no. absurd no) (were z s)) placed low incs fine so
+walk_lines base lines inc e k v (Say b ∷ es) behind d M within all were placed low incs fine so = walk_lines base lines inc e k v es behind d (said e (b ∷ []) M) within all.1 then placed low incs fine (said_so k (Some v) e (b ∷ []) M lines (Made lines k inc v.naming M.nodes) so)
   where
     then : (z : Body) → lines z → IsSaid (M.lines ++ numbered e (b ∷ [])) z ⊎ SaidIn es z
     then z s = ⊎_elim (λ old. inl (line_stays M.lines (numbered e (b ∷ [])) z old)) (λ now. ⊎_elim (λ same. inl (line_new M.lines e b z same)) (λ late. inr late) now) (were z s)
-walk_lines base lines inc e k v (Send to m ∷ es) rest d M within all were placed low incs fine so = absurd all.0
-walk_lines base lines inc e k v (Do w ∷ es) rest d M within all were placed low incs fine so = absurd all.0
+walk_lines base lines inc e k v (Send to m ∷ es) behind d M within all were placed low incs fine so = absurd all.0
+walk_lines base lines inc e k v (Do w ∷ es) behind d M within all were placed low incs fine so = absurd all.0
 
 -- works that put no other incarnation
 of_incs : (n i : ℕ) (outs : List Effect) → AreOfInc n i outs → IncsUp i outs
@@ -507,7 +507,7 @@ module _ (hd : Header) (begun : List Action) (e k : ℕ) (d : Disk) (t : Parts) 
         by (AtBind avoid) (Reply.Bound (bound.Live b server i g stores)) is = tt
         by (AtBind avoid) (Reply.Bound (bound.Write g stores)) is = tt
         by (AtBind avoid) (Reply.Bound (bound.Conflict h l)) is = tt
-        by (AtLoad z n rest) (Reply.Bound b) is = tt
+        by (AtLoad z n others) (Reply.Bound b) is = tt
         by (AtActivate z st) (Reply.Bound b) is = tt
         by (AtNote z i) (Reply.Bound b) is = tt
         by (AtInvoke z i) (Reply.Bound b) is = tt

@@ -443,8 +443,8 @@ module _ (hd : Header) (form : HeaderInForm hd) (j : ℕ) (d : Disk) (t : Parts)
         of_header (subst (IsNumbered q.req) now (number hd W known j u c q does from_it at_its)).1.0
       where
         plain : (w : Used) (o : Option ObjectState) → IfSome o (OwnOf (stored (kind_of hd 0)) w.x) → IfSome o (λ st. st.uid ≡ object w.x)
-        plain w None its = tt
-        plain w (Some st) its = (its.0).0 ∙ ap object its.1
+        plain w None own = tt
+        plain w (Some st) own = (own.0).0 ∙ ap object own.1
 
     commit_given : ((p : Plan) (nodes : List ℕ) → m ≡ Preparing p nodes → (w : Uid) → prepare_answer (actor p.path) (states_for n p) d.store ≢ Already w) → IsVoid (taken j d t from_it (let p = h.post in p.message)) → ⊥
     commit_given left void_it = by m refl of_commit.0
