@@ -43,7 +43,8 @@ use Rattle.arj_disk_run_law.proofs.HeardTick.{heard_begin, heard_tick}
 use Rattle.arj_call_law.specs.Runs.{KnowsFew}
 use Rattle.arj_disk_run_law.proofs.HeardInputs.{heard_starts}
 use Rattle.arj_disk_run_law.proofs.HeardMessage.{heard_message}
-use Rattle.arj_disk_run_law.proofs.StateCoords.{acts_so, begins_so, new_so}
+use Rattle.arj_disk_run_law.proofs.StateCoords.{acts_so, begins_so}
+use Rattle.arj_disk_run_law.proofs.StateEnds.{new_so}
 use Rattle.arj_disk_run_law.proofs.StateTicks.{restart_so, tick_so}
 use Rattle.arj_disk_run_law.proofs.VersionNodes.{SendIsSo, handled_so, keep, sends_so}
 use Rattle.arj_disk_run_law.proofs.VersionWalks.{From, both_from, held_known, known_on, later_by, rest_of, stopped_versions, versions_from, versions_walk, versions_wider}

@@ -77,6 +77,7 @@ pub mod FewDecided
 pub mod Grows
 pub mod Scripts
 pub mod StateCoords
+pub mod StateEnds
 pub mod StateTicks
 pub mod StateWider
 pub mod VersionNodes

@@ -23,13 +23,13 @@ use Rattle.arj_protocol.specs.Call.{Answered, At, AtActivate, AtBind, AtInvoke, 
 use Rattle.arj_protocol.specs.Call as calls
 use Rattle.arj_protocol.specs.Commit.{Aborts, Asks, CommitStep, Confirming, Decides, Machine, Plan, Preparing, Stays, Used, Voting, ask_of, begin_confirm, begin_prepare, begin_vote, changed_of, has_record, left_of, marks_store, marks_stores, nodes_given_up, participants, plan_of, servers_of, state_by, state_for, states_for, stores_left, targets_of, votes_left, with_state, with_states}
 use Rattle.arj_protocol.specs.Commit as commit
-use Rattle.arj_protocol.specs.Coord.{Calling, Committing, Coord, Doing, Grant, Idle, Joined, Keeping, Now, Root, Said, Went, change_doing, doing_of, is_free, joined_with, joins_on, keeping_of, later_state, latest_of, loaded_for, new_coord, no_root, nodes_sent, objects_in, on_doing, on_root, or_kept_state, plan_for, root_at, same_join, same_said, same_went, servers_told, set_doing, used_of, with_keeping, with_said, with_went}
+use Rattle.arj_protocol.specs.Coord.{Calling, Committing, Coord, Doing, Grant, Idle, Joined, Keeping, Now, Root, Said, Went, change_doing, doing_of, is_free, joined_with, joins_on, keeping_of, later_state, latest_of, loaded_for, no_root, nodes_sent, objects_in, on_doing, on_root, or_kept_state, plan_for, root_at, same_join, same_said, same_went, servers_told, set_doing, used_of, with_keeping, with_said, with_went}
 use Rattle.arj_protocol.specs.Effect.{Did, Do, Effect, Intent, PutIntent, Served}
-use Rattle.arj_protocol.specs.Ending.{abort_action, aborts_with, acked, acked_by, acked_left, all_aborted, answer_decided, answer_query, answer_recorded, decide, decided_told, ended, ends_with, is_deferred, is_kept_commit, is_over, let_go, root_after, root_or_self, say_for, says, states_after, tell, tell_all, tolds_by, tolds_let_go, tolds_of, tolds_of_branch, up_to}
-use Rattle.arj_protocol.specs.Order.{at_number, at_uid, binding_eq, binding_less, has, put_number, put_uid, unbound, with_number, without_number, without_uid}
+use Rattle.arj_protocol.specs.Ending.{abort_action, aborts_with, all_aborted, decide, decided_told, ended, ends_with, is_deferred, root_after, say_for, says, states_after, tell, tell_all, tolds_by, tolds_of, tolds_of_branch, up_to}
+use Rattle.arj_protocol.specs.Order.{at_number, binding_eq, binding_less, has, put_number, put_uid, unbound, with_number, without_number}
 use Rattle.arj_protocol.specs.Step.{Input, acts, branch_named, on_branch, parent_of, tolds_again}
 use Rattle.arj_protocol.specs.Step as input
-use Rattle.arj_protocol.specs.Tree.{Branch, Tree, at_place, branch_of, doomed_at, ended_at, ends_of, is_open, is_own, open_below, root_of, uses_object}
+use Rattle.arj_protocol.specs.Tree.{Branch, Tree, at_place, branch_of, doomed_at, ended_at, ends_of, is_own, open_below, root_of, uses_object}
 use Rattle.arj_part_law.proofs.GoodCoords.{doomed_same, uses_same}
 use Rattle.arj_part_law.proofs.GoodTrees.{get_more, placed}
 use Rattle.arj_part_law.proofs.LivesNamed.{all_at, all_put as all_put_number, keyed_found, keyed_put}
@@ -52,7 +52,7 @@ module _ (F : Fits) (keep : MayKeep F) where
 
   -- ---- effects
 
-  both : (es fs : List Effect) → AllSay F es → AllSay F fs → AllSay F (es ++ fs)
+  pub both : (es fs : List Effect) → AllSay F es → AllSay F fs → AllSay F (es ++ fs)
   both es fs a b = all_append _ es fs a b
 
   flat : {A : Type 0} (f : A → List Effect) (items : List A) → ((x : A) → AllSay F (f x)) → AllSay F (flat_map f items)
@@ -66,7 +66,7 @@ module _ (F : Fits) (keep : MayKeep F) where
       by None = tt
       by (Some x) = (tt, tt)
 
-  tells : (root : Uid) (ack : Bool) (ends : List (Uid × End)) (nodes : List ℕ) → AllSay F (tell_all root ack ends nodes)
+  pub tells : (root : Uid) (ack : Bool) (ends : List (Uid × End)) (nodes : List ℕ) → AllSay F (tell_all root ack ends nodes)
   tells root ack ends [] = tt
   tells root ack ends (n ∷ ns) = ((tt, tt), tells root ack ends ns)
 
@@ -630,7 +630,7 @@ module _ (F : Fits) (keep : MayKeep F) where
 
   -- ---- what a coordinator hears, and inputs
 
-  abbrev IsServed : Served Coord (Unit {0}) → Type 0
+  abbrev pub IsServed : Served Coord (Unit {0}) → Type 0
   IsServed d = CoordIsSo F d.part × AllSay F d.outs
 
   pub hears_so : (from : ℕ) (a : Asked) (r : Reply) (intents : List (Uid × Intent)) (c : Coord) → CoordIsSo F c → reply_is_meant c a r ≡ true → ReplyIsSo F r → IsServed (heard from a r intents c)
@@ -759,68 +759,3 @@ module _ (F : Fits) (keep : MayKeep F) where
   acts_so input.Restart intents c so = (so, tt)
   acts_so input.Crash intents c so = (so, tt)
   acts_so (input.Show x) intents c so = (so, tt)
-
-  -- ---- acknowledgements and queries
-
-  pub acks_so : (from : ℕ) (u : Uid) (intents : List (Uid × Intent)) (c : Coord) → CoordIsSo F c → IsServed (acked from u intents c)
-  acks_so from u intents c so = by (at_uid u c.telling)
-    where
-      told : (m : List (Uid × Intent)) → CoordIsSo F (record c { telling = m })
-      told m = record { works = so.works; roots = so.roots }
-
-      gone : (o : Option Intent) → AllSay F (tolds_let_go u (without_uid u intents) c o)
-      gone None = tt
-      gone (Some i) = each (not (uid_eq i.root u) && is_over (branch_of i.root c.tree))
-        where
-          each : (b : Bool) → AllSay F (cond b (tell_all i.root false ((i.root, ending.Abort) ∷ []) (let_go i.root (without_uid u intents) c i.nodes)) [])
-          each true = tells i.root false ((i.root, ending.Abort) ∷ []) (let_go i.root (without_uid u intents) c i.nodes)
-          each false = tt
-
-      left : (i : Intent) (ns : List ℕ) → IsServed (acked_left u i intents c ns)
-      left i [] = (told (without_uid u c.telling), (tt, gone (at_uid u intents)))
-      left i (n ∷ ns) = (told (put_uid u (record i { nodes = n ∷ ns }) c.telling), tt)
-
-      by : (o : Option Intent) → IsServed (acked_by from u intents c o)
-      by None = (so, tt)
-      by (Some i) = each (has i.nodes from)
-        where
-          each : (b : Bool) → IsServed (cond {A = Served Coord (Unit {0})} b (acked_left u i intents c (without_number from i.nodes)) (record { part = c; outs = []; reply = None }))
-          each true = left i (without_number from i.nodes)
-          each false = (so, tt)
-
-  pub query_so : (from : ℕ) (u : Uid) (intents : List (Uid × Intent)) (c : Coord) → AllSay F (answer_query from u intents c)
-  query_so from u intents c = by (is_open u c.tree || is_deferred u intents from)
-    where
-      told : (root : Uid) (ack : Bool) (e : End) → AllSay F (tell root ack ((u, e) ∷ []) from ∷ [])
-      told root ack e = ((tt, tt), tt)
-
-      decided : AllSay F (answer_decided from u c)
-      decided = each (is_kept_commit from u c)
-        where
-          each : (b : Bool) → AllSay F (cond b (tell (root_or_self u (branch_of u c.tree)) false ((u, ending.Commit) ∷ []) from ∷ []) (tell (root_or_self u (branch_of u c.tree)) false ((u, ending.Abort) ∷ []) from ∷ []))
-          each true = told (root_or_self u (branch_of u c.tree)) false ending.Commit
-          each false = told (root_or_self u (branch_of u c.tree)) false ending.Abort
-
-      recorded_so : (o : Option Intent) → AllSay F (answer_recorded from u c o)
-      recorded_so None = decided
-      recorded_so (Some i) = each (has i.nodes from)
-        where
-          each : (b : Bool) → AllSay F (cond b (tell i.root true ((u, ending.Commit) ∷ []) from ∷ []) (answer_decided from u c))
-          each true = told i.root true ending.Commit
-          each false = decided
-
-      by : (b : Bool) → AllSay F (cond b [] (answer_recorded from u c (at_uid u intents)))
-      by true = tt
-      by false = recorded_so (at_uid u intents)
-
-  pub told_again_so : (telling : List (Uid × Intent)) → AllSay F (tolds_again telling)
-  told_again_so [] = tt
-  told_again_so (e ∷ es) = let i = e.1 in both (tell_all i.root true ((e.0, ending.Commit) ∷ []) i.nodes) (tolds_again es) (tells i.root true ((e.0, ending.Commit) ∷ []) i.nodes) (told_again_so es)
-
-  pub new_so : (node inc : ℕ) (records : List (Uid × Intent)) → CoordIsSo F (record (new_coord node inc) { telling = records })
-  new_so node inc records = record { works = λ u d at. nothing (is_own u (let c = new_coord node inc in c.tree)) u.num d at; roots = tt }
-    where
-      nothing : (b : Bool) (j : ℕ) (d : Doing) → cond b (at_place j []) None ≡ Some d → NowIsSo F d.now
-      nothing true zero d is = let no_way : ◌≡◌ {A = Option Doing} None (Some d) = is in cc
-      nothing true (suc j) d is = let no_way : ◌≡◌ {A = Option Doing} None (Some d) = is in cc
-      nothing false j d is = let no_way : ◌≡◌ {A = Option Doing} None (Some d) = is in cc

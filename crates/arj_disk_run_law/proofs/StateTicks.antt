@@ -16,7 +16,8 @@ use Rattle.arj_protocol.specs.Says.{AreAll, is_server_effect}
 use Rattle.arj_protocol.specs.Step.{Node, hello_to, naming_at, naming_back, numbers_to, recovered_records, restart_outs, tolds_again}
 use Rattle.arj_address_law.proofs.Lists.{all_append}
 use Rattle.arj_disk_run_law.specs.States.{AllSay, CoordIsSo, Fits, MayKeep}
-use Rattle.arj_disk_run_law.proofs.StateCoords.{ticks_so, told_again_so}
+use Rattle.arj_disk_run_law.proofs.StateCoords.{ticks_so}
+use Rattle.arj_disk_run_law.proofs.StateEnds.{told_again_so}
 
 module _ (F : Fits) (keep : MayKeep F) where
   both : (es fs : List Effect) → AllSay F es → AllSay F fs → AllSay F (es ++ fs)

@@ -26,7 +26,8 @@ use Rattle.arj_disk_law.proofs.Base.{never}
 use Rattle.arj_disk_run_law.specs.States.{AllSay, AnsweredIsSo, AskIsSo, AskedIsSo, CoordIsSo, Fits, MayKeep, MessageIsSo, ReplyIsSo}
 use Rattle.arj_disk_run_law.specs.Versions.{AreRaised, CopiesAreSo, EndsRaise, PartsAreSo, fits_of, most_version}
 use Rattle.arj_disk_run_law.proofs.HeardPosts.{all_join}
-use Rattle.arj_disk_run_law.proofs.StateCoords.{acks_so, hears_so, query_so}
+use Rattle.arj_disk_run_law.proofs.StateCoords.{hears_so}
+use Rattle.arj_disk_run_law.proofs.StateEnds.{acks_so, query_so}
 use Rattle.arj_disk_run_law.proofs.StateTicks.{queries, server_lines}
 use Rattle.arj_disk_run_law.proofs.VersionServers as servers
 

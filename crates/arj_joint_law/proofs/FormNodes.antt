@@ -38,7 +38,8 @@ use Rattle.arj_disk_view_law.proofs.HeardWalks.{is_say}
 use Rattle.arj_disk_view_law.proofs.ServedWalks.{bind_says, lock_says, note_says}
 use Rattle.arj_address_law.proofs.Lists.{all_append, all_at_uid, all_put, all_without}
 use Rattle.arj_disk_run_law.specs.States.{AllSay, AnsweredIsSo, AskIsSo, AskedIsSo, CoordIsSo, MayKeep, MessageIsSo, Own, PreparesNone, ReplyIsSo}
-use Rattle.arj_disk_run_law.proofs.StateCoords.{acks_so, hears_so, new_so, query_so}
+use Rattle.arj_disk_run_law.proofs.StateCoords.{hears_so}
+use Rattle.arj_disk_run_law.proofs.StateEnds.{acks_so, new_so, query_so}
 use Rattle.arj_disk_run_law.proofs.StateTicks as ticks
 use Rattle.arj_joint_law.specs.Forms.{AllAreSo, CopyIsSo, DiskIsSo, EffectIsSo, Kind, PairIsSo, PartsAreSo, WorkIsSo, listed, so_of, stored}
 use Rattle.arj_joint_law.proofs.FormServers as servers

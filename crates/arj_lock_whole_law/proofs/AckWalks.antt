@@ -1,57 +1,50 @@
--- Who acknowledges is known in every run: each handler keeps it, for the actions that were begun.
-use Rattle.std.proofs.Common.{◌≡◌, ◌≢◌, ◌⊎◌, ◌≤◌, ◌<◌, ◌+◌, ◌==◌, ◌∙◌, ◌&&◌, arith, ℕ, List, [], ◌∷◌, ◌++◌, length, map, Bool, true, false, cond, Option, Some, None, Contains, refl, sym, ap, subst, inl, inr, ⊎_elim, eqb-true}
+-- Who acknowledges is known: each handler keeps it, for the actions that were begun.
+use Rattle.std.proofs.Common.{◌≡◌, ◌≢◌, ◌⊎◌, ◌≤◌, ◌<◌, ◌==◌, ◌∙◌, ◌&&◌, arith, ℕ, List, [], ◌∷◌, ◌++◌, map, Bool, true, false, cond, Option, Some, None, Contains, refl, sym, ap, subst, inl, inr, ⊎_elim, eqb-true}
 use Rattle.std.specs.Prelude.{⊤, is_some, nat_le, not, option_map}
 use Rattle.std.specs.List.{AllByRecursion}
 use Rattle.std.proofs.lemmas.Bool.{and_parts}
 use Rattle.arj_lock.proofs.Members as list
 use Rattle.arj_lock.proofs.Members.{in_from, in_to}
-use Rattle.arj_protocol.specs.Words.{Ask, Binding, Body, End, Head, Header, Kind, Label, Message, Uid, asks, before_last, first_uid, is_on, uids_of}
+use Rattle.arj_protocol.specs.Words.{Ask, Binding, End, Head, Header, Kind, Label, Message, Uid, asks, before_last, first_uid, is_on, uids_of}
 use Rattle.arj_protocol.specs.Words.ask
-use Rattle.arj_protocol.specs.Words.body
 use Rattle.arj_protocol.specs.Words.ending
 use Rattle.arj_protocol.specs.Words.kind
 use Rattle.arj_protocol.specs.Words.message
 use Rattle.arj_protocol.specs.Ask.{actor, last_end}
-use Rattle.arj_protocol.specs.Asking.{again_all, began_line, begin_action, heard}
+use Rattle.arj_protocol.specs.Asking.{again_all, heard}
 use Rattle.arj_protocol.specs.Commit.{plan_of}
-use Rattle.arj_protocol.specs.Confirm.{back_lines}
 use Rattle.arj_protocol.specs.Coord.{Committing, Coord, Doing, Idle, doing_of}
 use Rattle.arj_protocol.specs.Effect.{Abort, Commit, Did, Disk, Do, Effect, Intent, Look, Prepare, PutInc, PutIntent, RemoveIntent, Say, Send, Served, Work, worked}
 use Rattle.arj_protocol.specs.Ending.{acked, acked_by, acked_left, tolds_let_go}
 use Rattle.arj_protocol.specs.Follow.{tick_outs}
-use Rattle.arj_protocol.specs.Named.{Named}
-use Rattle.arj_protocol.specs.Naming.{Naming}
-use Rattle.arj_protocol.specs.Node.{Parts, Took, handle, holders, is_meant, prepared_actions, query_about, with_coord}
-use Rattle.arj_protocol.specs.Order.{at_uid, has, put_uid, uid_set, without_number, without_uid}
+use Rattle.arj_protocol.specs.Node.{Parts, Took, handle, holders, is_meant, query_about, with_coord}
+use Rattle.arj_protocol.specs.Order.{at_uid, has, put_uid, without_number, without_uid}
 use Rattle.arj_protocol.specs.Server.{is_told}
 use Rattle.arj_protocol.specs.Step.{Input, Node, acts, begin_refusal, first_disk, first_node, hello_to, naming_at, naming_back, numbers_to, parent_of, parts_in, recovered_records, refusal_up, restart_outs, tolds_again}
 use Rattle.arj_protocol.specs.Step as input
-use Rattle.arj_protocol.specs.Tree.{Branch, branch_of, ends_of, is_own, next_uid}
-use Rattle.arj_protocol.specs.World.{format, is_serial_kind}
-use Rattle.arj_part_law.specs.Actions.{Action, AreBegun, IsNew, Stands, act_of, paths_of}
-use Rattle.arj_part_law.specs.Claims.{IsOfNode}
+use Rattle.arj_protocol.specs.Tree.{Branch, branch_of, ends_of, is_own}
+use Rattle.arj_part_law.specs.Actions.{Action, AreBegun, act_of, paths_of}
 use Rattle.arj_part_law.specs.Coords.{IsBusy, IsGoodCoord, IsVoting}
 use Rattle.arj_part_law.specs.Copies.{IsTree}
 use Rattle.arj_part_law.specs.Ends.{AllSayEnds, AreOfCommits, Decides, IsSure, IsSurelyHandled, told_by}
 use Rattle.arj_part_law.specs.Incs.{IsTrulyHandled}
 use Rattle.arj_part_law.specs.Lives.{NamesAsked, Reach}
 use Rattle.arj_part_law.specs.Messages.{IsTopAction}
-use Rattle.arj_part_law.proofs.Begun.{before_more, begun_tree, on_own, path_found, path_some}
+use Rattle.arj_part_law.proofs.Begun.{begun_tree, path_found}
 use Rattle.arj_part_law.proofs.GoodCoords.{doing_by}
 use Rattle.arj_part_law.proofs.GoodTrees.{found_by}
 use Rattle.arj_part_law.proofs.Keys as keys
-use Rattle.arj_part_law.proofs.SaidIncs.{all_both, all_flat, all_map, truly_handled}
+use Rattle.arj_part_law.proofs.SaidIncs.{truly_handled}
 use Rattle.arj_part_law.proofs.TrueSteps.{top_in}
 use Rattle.arj_run_law.specs.Worlds.{IsGoodOf, IsUp}
-use Rattle.arj_run_law.proofs.Begins.{begin_good, its_uid}
 use Rattle.arj_run_law.proofs.Handled.{act_good, good_coord, it, message_good, own_of_disk, records_of_disk, tick_good, tops_of_disk}
-use Rattle.arj_view_law.specs.Keeps.{MayGive, is_act, label_at}
-use Rattle.arj_view_law.specs.Seen.{In, Post, Seen, at, down, given, posted, said, see, up}
+use Rattle.arj_view_law.specs.Keeps.{is_act}
+use Rattle.arj_view_law.specs.Seen.{In, Post, Seen, at, posted, said, up}
 use Rattle.arj_view_law.specs.Walks.{Up, Walks}
 use Rattle.arj_call_law.specs.Lived.{LivesRun, PassesAll, PassesIn}
 use Rattle.arj_call_law.specs.Runs.{KnowsFew}
 use Rattle.arj_call_law.proofs.CoordOuts.{quiet_acked, quiet_again, quiet_query}
-use Rattle.arj_call_law.proofs.CoordSends.{AllQuiet, IsQuiet}
+use Rattle.arj_call_law.proofs.CoordSends.{AllQuiet}
 use Rattle.arj_call_law.proofs.WholeRuns.{home_in, is_home}
 use Rattle.arj_disk_view_law.proofs.Frames.{node_here}
 use Rattle.arj_disk_view_law.proofs.Keys as sorted_keys
@@ -64,11 +57,9 @@ use Rattle.arj_part_law.proofs.Decided.{stand_acts, stand_again}
 use Rattle.arj_part_law.proofs.TrueSteps.{well_acts, well_again}
 use Rattle.arj_lock_run_law.specs.World.{is_for_parts}
 use Rattle.arj_disk_run_law.proofs.Telling.{again_telling}
-use Rattle.arj_disk_view_law.proofs.FirstSeen.{first_at}
 use Rattle.arj_disk_run_law.specs.Places.{AsksBegun}
 use Rattle.arj_disk_run_law.specs.Records.{AreRecorded, HaveRecords, IsRecorded, IsRooted, recorded}
 use Rattle.arj_disk_view_law.specs.Pairs.{AreSorted}
-use Rattle.arj_lock_fact_law.specs.Acts.{KeepsOf, begins_in}
 use Rattle.arj_lock_fact_law.specs.Parted.{IsPart, KnowsParted, KnowsParts, asks_part}
 use Rattle.arj_lock_fact_law.specs.Uppers.{IsTopOf}
 use Rattle.arj_lock_fact_law.specs.Works.{AreInner}
@@ -81,17 +72,17 @@ use Rattle.arj_past_law.proofs.Past.{past_of}
 use Rattle.arj_lock_whole_law.specs.Acks.{AcksAreKnown, AreHomed, AreListed, HasAcked, IsDemanded, IsPartOf, IsVoter, KnowsAcked, KnowsAcks, acked_in, demanded, demanded_if}
 use Rattle.arj_lock_whole_law.proofs.AckOuts.{AreLines, Plainly, Puts, Stepped, acts_stepped, asked_again, heard_stepped}
 use Rattle.arj_lock_whole_law.proofs.AckServes.{PartSo, Serves, ServesSo, serves_so}
-use Rattle.arj_lock_whole_law.proofs.AckSteps.{AllMay, MayPost, MayWork, Others, acks_walk, down_known, here_at, known_at, of_node, records_at}
-use Rattle.arj_lock_whole_law.proofs.AckTells.{AllTell, IsIdle, Teller, TellSo, again_so, let_go_so, open_none, queries_so, query_so, silent, tell_both}
+use Rattle.arj_lock_whole_law.proofs.AckSteps.{AllMay, MayPost, MayWork, Others, acks_walk, here_at, known_at, records_at}
+use Rattle.arj_lock_whole_law.proofs.AckTells.{AllTell, IsIdle, Teller, again_so, let_go_so, open_none, queries_so, query_so, tell_both}
 use Rattle.arj_lock_whole_law.proofs.CoordCases.{Acks, Asks, CoordCase, Heard, OfParts, coord_case}
 
-some_is : {A : Type 0} {a b : A} → Some a ≡ Some b → a ≡ b
+pub some_is : {A : Type 0} {a b : A} → Some a ≡ Some b → a ≡ b
 some_is {A} {a} {b} is = let k : ◌≡◌ {A = Option A} (Some a) (Some b) = is in cc
 
 none_some : {A P : Type 0} {o : Option A} {x : A} → o ≡ None → o ≡ Some x → P
 none_some {A} {P} {o} {x} none is = let no_way : ◌≡◌ {A = Option A} None (Some x) = sym none ∙ is in absurd (cc no_way)
 
-never : {A : Type 0} {b : Bool} → b ≡ true → b ≡ false → A
+pub never : {A : Type 0} {b : Bool} → b ≡ true → b ≡ false → A
 never a b = let no_way : true ≡ false = sym a ∙ b in absurd (cc no_way)
 
 -- ---- messages
@@ -136,7 +127,7 @@ demanded_told (message.Confirmed m) u is = absurd (cc is)
 
 -- ---- what a walk comes to
 
-abbrev sent_after : ℕ → List Effect → List Post → List Post
+abbrev pub sent_after : ℕ → List Effect → List Post → List Post
 sent_after k [] sent = sent
 sent_after k (Send to m ∷ es) sent = sent_after k es (record { from = k; to = to; message = m } ∷ sent)
 sent_after k (Say b ∷ es) sent = sent_after k es sent
@@ -148,13 +139,13 @@ after_in k (Send to m ∷ es) sent p i = after_in k es (record { from = k; to = 
 after_in k (Say b ∷ es) sent p i = after_in k es sent p i
 after_in k (Do w ∷ es) sent p i = after_in k es sent p i
 
-record Ended (P : Seen → Type 0) (k : ℕ) (v : Parts) (outs : List Effect) (M : Seen) : Type 0 where
-  disk : Disk
-  seen : Seen
-  holds : P (up k disk v seen)
-  sent : seen.sent ≡ sent_after k outs M.sent
+pub record Ended (P : Seen → Type 0) (k : ℕ) (v : Parts) (outs : List Effect) (M : Seen) : Type 0 where
+  pub disk : Disk
+  pub seen : Seen
+  pub holds : P (up k disk v seen)
+  pub sent : seen.sent ≡ sent_after k outs M.sent
 
-ended_of : (P : Seen → Type 0) (e k : ℕ) (v : Parts) (outs : List Effect) (d : Disk) (M : Seen) → Walks P e k outs (Up P k v) d M → Ended P k v outs M
+pub ended_of : (P : Seen → Type 0) (e k : ℕ) (v : Parts) (outs : List Effect) (d : Disk) (M : Seen) → Walks P e k outs (Up P k v) d M → Ended P k v outs M
 ended_of P e k v [] d M w = record { disk = d; seen = M; holds = w; sent = refl }
 ended_of P e k v (Do z ∷ es) d M w = let r = ended_of P e k v es (worked z d) M w.1 in record { disk = r.disk; seen = r.seen; holds = r.holds; sent = r.sent }
 ended_of P e k v (Say b ∷ es) d M w = let r = ended_of P e k v es d (said e (b ∷ []) M) w in record { disk = r.disk; seen = r.seen; holds = r.holds; sent = r.sent }
@@ -200,7 +191,7 @@ known_walk begun e k v outs d M a b c w =
     let r = ended_of (Known begun) e k v outs d M four in
     subst (λ sent. Stays begun k sent v.coord) r.sent (stays_at begun k r.disk v r.seen r.holds.0 r.holds.1.0 r.holds.1.1.0 r.holds.1.1.1)
 
-all_at : {A : Type 0} (P : A → Type 0) (xs : List A) (x : A) → AllByRecursion P xs → list.In x xs → P x
+pub all_at : {A : Type 0} (P : A → Type 0) (xs : List A) (x : A) → AllByRecursion P xs → list.In x xs → P x
 all_at P [] x all none = absurd none
 all_at P (y ∷ ys) x all (inl same) = subst P same all.0
 all_at P (y ∷ ys) x all (inr i) = all_at P ys x all.1 i
@@ -236,13 +227,13 @@ module _ (begun : List Action) (all : AreBegun begun) (homes : AreHomed begun) (
   -- ---- votes
 
   -- Who asks for votes: a top of this node without a record, of which, and of whose serializing action, no end was told.
-  record MayVote (intents : List (Uid × Intent)) (sent : List Post) (u : Uid) : Type 0 where
+  pub record MayVote (intents : List (Uid × Intent)) (sent : List Post) (u : Uid) : Type 0 where
     home : u.node ≡ k
     unrecorded : (j : Intent) → at_uid u intents ≡ Some j → ⊥
     untold : (p : Post) (e : End) → In p sent → Contains {X = Uid × End} (told_by p.message) (u, e) → ⊥
     unaborted : (p : Post) (w : Uid) → In p sent → Contains {X = Uid × End} (told_by p.message) (w, ending.Abort) → IsPartOf begun u w → ⊥
 
-  abbrev VoteSo : List (Uid × Intent) → List Post → Effect → Type 0
+  abbrev pub VoteSo : List (Uid × Intent) → List Post → Effect → Type 0
   VoteSo intents sent (Send to m) = (h : Head) (i : ℕ) (ties : List (ℕ × Binding)) (ends : List (Uid × End)) → asks m ≡ Some (h, ask.Vote i ties ends) → MayVote intents sent (actor h.path)
   VoteSo intents sent (Say b) = ⊤
   VoteSo intents sent (Do w) = ⊤
@@ -268,7 +259,7 @@ module _ (begun : List Action) (all : AreBegun begun) (homes : AreHomed begun) (
             unaborted = part_untold sent c h (actor j.path) b v.asking.found v.asking.opened;
           }
 
-  votes_quiet : (intents : List (Uid × Intent)) (sent : List Post) (outs : List Effect) → AllQuiet outs → AllVote intents sent outs
+  pub votes_quiet : (intents : List (Uid × Intent)) (sent : List Post) (outs : List Effect) → AllQuiet outs → AllVote intents sent outs
   votes_quiet intents sent [] q = tt
   votes_quiet intents sent (Say b ∷ es) q = (tt, votes_quiet intents sent es q.1)
   votes_quiet intents sent (Do w ∷ es) q = (tt, votes_quiet intents sent es q.1)
@@ -286,7 +277,7 @@ module _ (begun : List Action) (all : AreBegun begun) (homes : AreHomed begun) (
   idle_may v (RemoveIntent u) sent intents idle = absurd idle
 
   module _ (v : Parts) (found : ℕ → Option Node) (intents : List (Uid × Intent)) where
-    tell_may : (S : List Post) → ((p : Post) (h : Head) (a : Ask) → In p S → asks p.message ≡ Some (h, a) → asks_part a ≡ true → IsTopOf begun (actor h.path))
+    pub tell_may : (S : List Post) → ((p : Post) (h : Head) (a : Ask) → In p S → asks p.message ≡ Some (h, a) → asks_part a ≡ true → IsTopOf begun (actor h.path))
         → (outs : List Effect) (sent : List Post) → sent_after k outs sent ≡ S → AllTell begun all k intents outs → AllVote intents S outs → AllMay begun k v found outs sent intents
     tell_may S tops [] sent is tells votes = tt
     tell_may S tops (Say b ∷ es) sent is tells votes = tell_may S tops es sent is tells.1 votes.1
@@ -495,7 +486,7 @@ abbrev not_before : Option Node → ℕ → Bool
 not_before None i = true
 not_before (Some n) i = nat_le i n.disk.inc
 
-voter_low : (M : Seen) → KnowsFew M → (u : Uid) (k i : ℕ) (n : Node) → M.nodes k ≡ Some n → IsVoter M.sent u k i → i ≤ n.disk.inc
+pub voter_low : (M : Seen) → KnowsFew M → (u : Uid) (k i : ℕ) (n : Node) → M.nodes k ≡ Some n → IsVoter M.sent u k i → i ≤ n.disk.inc
 voter_low M few u k i n is v = low (sym (ap (λ o. not_before o i) (ap M.nodes v.to ∙ is)) ∙ named.2)
   where
     low : {a b : ℕ} → nat_le a b ≡ true → a ≤ b
@@ -570,7 +561,7 @@ module _ (hd : Header) (begun : List Action) (e k : ℕ) (d : Disk) (t : Parts) 
   with_it : (c : Coord) → Awaits begun good.begun all.homes k M.sent d.intents c.telling → KnowsAcked M.sent k d.intents (with_coord t c)
   with_it c awaits = record { voted = mine.voted; acked = mine.acked; awaited = awaits }
 
-  message_acks : (v : Parts) (from : ℕ) (m : Message) (outs : List Effect) → In (record { from = from; to = k; message = m }) M.sent → is_meant t m ≡ true → handle k d t from m ≡ Took v outs → Walks (AcksAreKnown begun) e k outs (Up (AcksAreKnown begun) k v) d M
+  pub message_acks : (v : Parts) (from : ℕ) (m : Message) (outs : List Effect) → In (record { from = from; to = k; message = m }) M.sent → is_meant t m ≡ true → handle k d t from m ≡ Took v outs → Walks (AcksAreKnown begun) e k outs (Up (AcksAreKnown begun) k v) d M
   message_acks v from m outs there meant is = let z = by (coord_case k d t v from m outs is) in stays_in v outs z.0 (knows z.0) z.1
     where
       p : Post
@@ -627,7 +618,7 @@ module _ (hd : Header) (begun : List Action) (e k : ℕ) (d : Disk) (t : Parts) 
           acked_may begun good.begun all.homes k d t M was commits rec before.0 mine.awaited (λ w j at. top_in begun w j d.intents (tops_of_disk 0 k d t M (begun, good)) (keys.at_in w j d.intents at)) (λ w j at. (x.faithful.told w j (in_to (w, j) t.coord.telling (keys.at_in w j t.coord.telling at))).0 ∙ x.node) from u
           (record { post = p; posted = there; from = refl; acks = ap acked_in which }) v outs part outs_are now.tops (subst AllQuiet outs_are (quiet_acked from u d.intents t.coord))
 
-  act_acks : (i : Input) → is_act i ≡ true → refusal_up hd i t.coord ≡ None → (let did = acts i d.intents t.coord in Walks (AcksAreKnown begun) e k did.outs (Up (AcksAreKnown begun) k (with_coord t did.part)) d M)
+  pub act_acks : (i : Input) → is_act i ≡ true → refusal_up hd i t.coord ≡ None → (let did = acts i d.intents t.coord in Walks (AcksAreKnown begun) e k did.outs (Up (AcksAreKnown begun) k (with_coord t did.part)) d M)
   act_acks i is free = stays_in v did.outs z.0 (with_it did.part z.0) z.1
     where
       did : Did Coord
@@ -650,7 +641,7 @@ module _ (hd : Header) (begun : List Action) (e k : ℕ) (d : Disk) (t : Parts) 
           (acts_stepped begun good.begun tree k d.intents rec.disk.each t.coord (teller_was begun good.begun all.homes k tree d t v M did.outs was now commits later rec.disk.each mine.awaited) x.faithful.works hd i free (record { good = now.good; sure = now.sure; node = now.node; inner = now.inner; records = later }))
           (acts_seeks begun (paths_of begun) tree t.coord was.good x.faithful.works i d.intents other)
 
-  tick_acks : Walks (AcksAreKnown begun) e k (tick_outs (record { number = k; disk = d; live = Some t }) t) (Up (AcksAreKnown begun) k (with_coord t (again_all t.coord.doings t.coord).part)) d M
+  pub tick_acks : Walks (AcksAreKnown begun) e k (tick_outs (record { number = k; disk = d; live = Some t }) t) (Up (AcksAreKnown begun) k (with_coord t (again_all t.coord.doings t.coord).part)) d M
   tick_acks = stays_in v outs awaits (with_it c awaits) (tell_may begun good.begun all.homes k v M.nodes d.intents (sent_after k outs M.sent) now.tops outs M.sent refl tells (votes_of begun good.begun all.homes k d.intents (sent_after k outs M.sent) c now none outs seeks))
     where
       c : Coord
@@ -694,178 +685,3 @@ module _ (hd : Header) (begun : List Action) (e k : ℕ) (d : Disk) (t : Parts) 
 
       seeks : AllSeek c outs
       seeks = seek_both c ((again_all t.coord.doings t.coord).outs ++ tolds) queries (seek_both c (again_all t.coord.doings t.coord).outs tolds (again_seeks begun (paths_of begun) tree t.coord was.good x.faithful.works x.numbered) (seek_quiet c tolds (quiet_again t.coord.telling))) (seek_quiet c queries (quiet (holders d t)))
-
--- ---- one action begins
-
-begun_listed : (a : Action) (begun : List Action) (records : Uid → Option Intent) (sent : List Post) → IsNew (act_of a) begun → ((u : Uid) (k inc : ℕ) → IsVoter sent u k inc → IsTopOf begun u) → AreListed begun records sent → AreListed (a ∷ begun) records sent
-begun_listed a begun records sent new tops l = record { listed = l.listed; ended = l.ended; aborts = λ p w u inc there told part v r. l.aborts p w u inc there told (older u w part (tops u p.to inc v)) v r; asked = l.asked }
-  where
-    older : (u w : Uid) → IsPartOf (a ∷ begun) u w → IsTopOf begun u → IsPartOf begun u w
-    older u w (inl same) top = inl same
-    older u w (inr b) top = by (in_from b.0 (a ∷ begun) b.1)
-      where
-        by : list.In b.0 (a ∷ begun) → IsPartOf begun u w
-        by (inr old) = inr (b.0, in_to b.0 begun old, b.2, b.3, b.4)
-        by (inl same) = absurd (never (on_own top.0.path) (ap (is_on (uids_of top.0.path)) (top.2 ∙ sym b.2 ∙ ap act_of (sym same)) ∙ new top.0 top.1))
-
--- who begins is of its root's node
-home_begins : (a : Action) (begun : List Action) (k : ℕ) → AreHomed begun → Stands begun a a.kind → (act_of a).node ≡ k → ((b : Action) → Contains begun b → before_last (uids_of a.path) ≡ Some (act_of b) → (act_of b).node ≡ k) → (first_uid (uids_of a.path)).node ≡ (act_of a).node
-home_begins a begun k homes stands home parent = by a.kind stands
-  where
-    first_more : (us : List Uid) (u : Uid) → 1 ≤ length us → first_uid (us ++ u ∷ []) ≡ first_uid us
-    first_more [] u some = absurd (omega (arith, some))
-    first_more (w ∷ ws) u some = refl
-
-    below : (b : Action) → Contains begun b → uids_of a.path ≡ uids_of b.path ++ act_of a ∷ [] → (first_uid (uids_of a.path)).node ≡ (act_of a).node
-    below b there is =
-        let its = parent b there (ap before_last is ∙ before_more (uids_of b.path) (act_of a) (path_some b.path)) in
-        ap (λ (us : List Uid). (first_uid us).node) is ∙ ap (λ (u : Uid). u.node) (first_more (uids_of b.path) (act_of a) (path_some b.path)) ∙ all_at (λ (z : Action). (first_uid (uids_of z.path)).node ≡ (act_of z).node) begun b homes (in_from b begun there) ∙ its ∙ sym home
-
-    by : (kd : Kind) → Stands begun a kd → (first_uid (uids_of a.path)).node ≡ (act_of a).node
-    by kind.Nested s = below s.0 s.1 s.3
-    by kind.Constituent s = below s.0 s.1 s.3
-    by kind.Top s = ap (λ (us : List Uid). (first_uid us).node) s.0
-    by kind.Serial s = ap (λ (us : List Uid). (first_uid us).node) s.0
-    by kind.Independent s = ap (λ (us : List Uid). (first_uid us).node) s.0
-
-module _ (hd : Header) (begun : List Action) (e k : ℕ) (d : Disk) (t : Parts) (l : Label) (how : Kind) (parent : Option Label) (M : Seen) (new : label_at l M.labels ≡ None) (may : MayGive M.labels k how parent) (free : begin_refusal how t.coord parent ≡ None) (more : AcksNeed begun (up k d t M)) (good : IsGoodOf begun (up k d t M)) (all : AcksAreKnown begun (up k d t M)) where
-  abbrev a : Action
-  a = begins_in how parent t
-
-  abbrev did : Did Coord
-  did = begin_action l how parent (parent_of parent t.coord) t.coord
-
-  abbrev M2 : Seen
-  M2 = given l (record { node = k; serial = is_serial_kind how }) M
-
-  begin_acks : Walks (AcksAreKnown (a ∷ begun)) e k did.outs (Up (AcksAreKnown (a ∷ begun)) k (with_coord t did.part)) d M2
-  begin_acks = of_node (a ∷ begun) k (with_coord t did.part) d (Some (with_coord t did.part)) (said e (began_line l how (next_uid t.coord.tree) parent ∷ []) M2) (home, all.homes)
-      (begun_listed a begun (records_at k d.intents M.nodes) M.sent later.0.new voters z.0) z.1 (λ v is. subst (KnowsAcked M.sent k d.intents) (some_is is) (record { voted = mine.voted; acked = mine.acked; awaited = mine.awaited }))
-    where
-      after : IsGoodOf (a ∷ begun) (up k d (with_coord t did.part) (said e (began_line l how (next_uid t.coord.tree) parent ∷ []) M2))
-      after = begin_good e k d t l how parent M new may free (begun, good)
-
-      later : AreBegun (a ∷ begun)
-      later = after.begun
-
-      z : AreListed begun (records_at k d.intents M.nodes) M.sent × Others begun k t M × KnowsAcks M.sent k (record { number = k; disk = d; live = Some t })
-      z = known_at begun k t d (Some t) M all
-
-      mine : KnowsAcked M.sent k d.intents t
-      mine = z.2 t refl
-
-      voters : (u : Uid) (j inc : ℕ) → IsVoter M.sent u j inc → IsTopOf begun u
-      voters u j inc v = subst (IsTopOf begun) v.top (more.1.1.1.0.tops v.post v.head (ask.Vote inc v.ties v.ends) v.posted v.asking refl)
-
-      uid : act_of a ≡ next_uid t.coord.tree
-      uid = its_uid e k d t l how parent M new may free (begun, good)
-
-      node : t.coord.tree.node ≡ k
-      node = let x = it 0 k d t M (begun, good) in x.node
-
-      coord : IsGoodCoord (a ∷ begun) (paths_of (a ∷ begun)) did.part
-      coord = good_coord 0 k d (with_coord t did.part) (said e (began_line l how (next_uid t.coord.tree) parent ∷ []) M2) (a ∷ begun, after)
-
-      same : (n : ℕ) → (n == n) ≡ true
-      same n = grind arith
-
-      home : (first_uid (uids_of a.path)).node ≡ (act_of a).node
-      home = home_begins a begun k all.homes later.0.stands (ap (λ (u : Uid). u.node) uid ∙ node) parents
-        where
-          there : (b : Branch) × (branch_of (act_of a) did.part.tree ≡ Some b) × (b.path ≡ a.path)
-          there = coord.home a (act_of a) (in_to a (a ∷ begun) (inl refl)) (on_own a.path) (own_it (sym uid))
-            where
-              own_it : next_uid t.coord.tree ≡ act_of a → is_own (act_of a) did.part.tree ≡ true
-              own_it is = subst (λ u. is_own u did.part.tree ≡ true) is (λ i. same t.coord.tree.node i && same t.coord.tree.inc i)
-
-          parents : (b : Action) → Contains begun b → before_last (uids_of a.path) ≡ Some (act_of b) → (act_of b).node ≡ k
-          parents b known is =
-              let q = coord.tree.lists.parents (act_of a) (act_of b) there.0 there.1 (ap before_last (path_found (a ∷ begun) later a (in_to a (a ∷ begun) (inl refl))) ∙ is) in
-              eqb-true (act_of b).node did.part.tree.node (and_parts ((act_of b).node == did.part.tree.node) ((act_of b).inc == did.part.tree.inc) (found_by (act_of b) did.part.tree q.0 q.1).0).0 ∙ node
-
--- ---- restarts
-
-module _ (hd : Header) (begun : List Action) (e k : ℕ) (d : Disk) (M : Seen) (more : AcksNeed begun (down k d M)) (good : IsGoodOf begun (down k d M)) (all : AcksAreKnown begun (down k d M)) where
-  abbrev v : Parts
-  v = parts_in k (d.inc + 1) d
-
-  abbrev outs : List Effect
-  outs = restart_outs hd k (d.inc + 1) d
-
-  restart_acks : Walks (AcksAreKnown begun) e k outs (Up (AcksAreKnown begun) k v) d M
-  restart_acks = acks_walk begun k v e outs d M all.homes (z.0, knows) z.1 (tell_may begun good.begun all.homes k v M.nodes d.intents (sent_after k outs M.sent) tops outs M.sent refl tells (votes_quiet begun good.begun all.homes k d.intents (sent_after k outs M.sent) outs quiet))
-    where
-      z : AreListed begun (records_at k d.intents M.nodes) M.sent × Others begun k v M × KnowsAcks M.sent k (record { number = k; disk = d; live = None })
-      z = known_at begun k v d None M all
-
-      knows : KnowsAcked M.sent k d.intents v
-      knows = record {
-        voted = λ u on. let no_way : false ≡ true = on in absurd (cc no_way);
-        acked = λ u a. inr (λ i x. let low = voter_low (down k d M) more.0 u k i (record { number = k; disk = d; live = None }) (node_here M k (record { number = k; disk = d; live = None })) x in omega (arith, low));
-        awaited = λ u j i m telling at on isnt. absurd (never (ap (λ (y : Intent). has y.nodes m) (some_is (sym telling ∙ at)) ∙ on) isnt);
-      }
-
-      tops : (p : Post) (h : Head) (a : Ask) → In p (sent_after k outs M.sent) → asks p.message ≡ Some (h, a) → asks_part a ≡ true → IsTopOf begun (actor h.path)
-      tops = let r = ended_of (KnowsParted begun) e k v outs d M ((parted_keep hd).restart begun e k d M tt good more.1.1.1.0) in subst (λ sent. (p : Post) (h : Head) (a : Ask) → In p sent → asks p.message ≡ Some (h, a) → asks_part a ≡ true → IsTopOf begun (actor h.path)) r.sent r.holds.tops
-
-      rec : IsRecorded begun (record { number = k; disk = d; live = None })
-      rec = more.1.1.0 k (record { number = k; disk = d; live = None }) (node_here M k (record { number = k; disk = d; live = None }))
-
-      owned : (u : Uid) (j : Intent) → list.In {X = Uid × Intent} (u, j) d.intents → u.node ≡ k
-      owned u j i = (all_at (λ (m : Uid × Intent). IsOfNode k d.inc m.0) d.intents (u, j) (let p = good.places k (record { number = k; disk = d; live = None }) (node_here M k (record { number = k; disk = d; live = None })) in p.disk.own) i).0
-
-      us : List Uid
-      us = uid_set (prepared_actions d.store ++ prepared_actions d.names)
-
-      one : List Effect
-      one = Do Look ∷ Do (PutInc (d.inc + 1)) ∷ Say (body.Up k (d.inc + 1)) ∷ Do Look ∷ naming_back (naming_at k (d.inc + 1) d.names)
-
-      records : List Effect
-      records = Do Look ∷ recovered_records k d.intents
-
-      asking : List Effect
-      asking = map query_about us
-
-      hellos : List Effect
-      hellos = map (hello_to k (d.inc + 1)) (without_number k (numbers_to hd.nodes))
-
-      back_all : (P : Effect → Type 0) → ((b : Body) → P (Say b)) → (o : Option Naming) → AllByRecursion P (naming_back o)
-      back_all P each None = tt
-      back_all P each (Some o) = all_flat P (λ (e : ℕ × Named). back_lines e.1) o.objects (λ e. all_map P _ e.1.rows (λ r. each _))
-
-      tells : AllTell begun good.begun k d.intents outs
-      tells = all_both P (one ++ records ++ tolds_again d.intents ++ asking) hellos (all_both P (one ++ records ++ tolds_again d.intents) asking (all_both P (one ++ records) (tolds_again d.intents) (all_both P one records (tt, (tt, (tt, (tt, back_all P (λ b. tt) (naming_at k (d.inc + 1) d.names))))) (tt, all_map P (λ (e : Uid × Intent). Say (body.Recovered k e.0)) d.intents (λ e. tt)))
-          (again_so begun good.begun k d.intents d.intents (λ u j i. ((j, keys.in_at (u, j) d.intents rec.disk.sorted i), owned u j i)))) (queries_so begun good.begun k d.intents us))
-          (all_map P (hello_to k (d.inc + 1)) (without_number k (numbers_to hd.nodes)) (λ w. silent begun good.begun k d.intents w _ refl refl refl))
-        where
-          P : Effect → Type 0
-          P = TellSo begun good.begun k d.intents
-
-      quiet : AllQuiet outs
-      quiet = all_both IsQuiet (one ++ records ++ tolds_again d.intents ++ asking) hellos (all_both IsQuiet (one ++ records ++ tolds_again d.intents) asking (all_both IsQuiet (one ++ records) (tolds_again d.intents) (all_both IsQuiet one records (tt, (tt, (tt, (tt, back_all IsQuiet (λ b. tt) (naming_at k (d.inc + 1) d.names))))) (tt, all_map IsQuiet (λ (e : Uid × Intent). Say (body.Recovered k e.0)) d.intents (λ e. tt)))
-          (quiet_again d.intents)) (all_map IsQuiet query_about us (λ u. refl))) (all_map IsQuiet (hello_to k (d.inc + 1)) (without_number k (numbers_to hd.nodes)) (λ w. refl))
-
--- ---- all runs
-
-first_acks : (hd : Header) → AcksAreKnown [] (see [] (format hd))
-first_acks hd = record {
-  homes = tt;
-  world = record { listed = λ u i k inc is v. absurd v.posted; ended = λ u k inc dem is v. absurd v.posted; aborts = λ p w u inc there told part v r. absurd there; asked = λ u k a. absurd a.posted };
-  nodes = λ k n is. subst (KnowsAcks [] k) (first_at hd k n is) (λ t live. subst (KnowsAcked [] k (first_disk hd k).intents) (some_is live) (record {
-    voted = λ u on. let no_way : false ≡ true = on in absurd (cc no_way);
-    acked = λ u a. absurd a.posted;
-    awaited = λ u j i m telling at on isnt. absurd (never (ap (λ (y : Intent). has y.nodes m) (some_is (sym telling ∙ at)) ∙ on) isnt);
-  }));
-}
-
-pub acks_of : (hd : Header) → KeepsOf hd AcksNeed AcksAreKnown
-acks_of hd = record {
-  quiet = λ begun e bs M quiet more good all. record { homes = all.homes; world = all.world; nodes = all.nodes };
-  stop = λ begun e k d live M more good all. let z = known_at begun k (parts_in k d.inc d) d live M all in down_known begun k (parts_in k d.inc d) e d M all.homes z.0 z.1;
-  message = λ begun e k d t v from m outs M more good all there meant is. message_acks hd begun e k d t M more good all v from m outs there meant is;
-  act = λ begun e k d t i M is free more good all. act_acks hd begun e k d t M more good all i is free;
-  begin = λ begun e k d t l how parent M new may free more good all. begin_acks hd begun e k d t l how parent M new may free more good all;
-  tick = λ begun e k d t M more good all. tick_acks hd begun e k d t M more good all;
-  restart = λ begun e k d M more good all. restart_acks hd begun e k d M more good all;
-  first = first_acks hd;
-}

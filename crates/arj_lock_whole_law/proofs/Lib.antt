@@ -17,6 +17,7 @@ pub mod AckSteps
 pub mod AckTells
 pub mod AckOuts
 pub mod AckServes
+pub mod AckRuns
 pub mod AckWalks
 pub mod Drained
 pub mod Whole

@@ -40,7 +40,8 @@ use Rattle.arj_lock_whole_law.specs.Avoids.{AvoidsAreKnown}
 use Rattle.arj_lock_whole_law.specs.Tops.{HoldsNames, TopsAreKnown}
 use Rattle.arj_lock_whole_law.specs.Whole.{KnowsWhole}
 use Rattle.arj_lock_whole_law.proofs.AbortRuns.{AbortsNeed, aborts_of}
-use Rattle.arj_lock_whole_law.proofs.AckWalks.{AcksNeed, acks_of}
+use Rattle.arj_lock_whole_law.proofs.AckWalks.{AcksNeed}
+use Rattle.arj_lock_whole_law.proofs.AckRuns.{acks_of}
 use Rattle.arj_lock_whole_law.proofs.AvoidWalks.{avoids_of}
 use Rattle.arj_lock_whole_law.proofs.Names.{held_names}
 use Rattle.arj_lock_whole_law.proofs.Of.{of_as, of_both, of_kept, of_more}
