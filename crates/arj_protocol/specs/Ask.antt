@@ -46,17 +46,19 @@ response a (Confirmed r) = message.Confirmed (record { asked = a; reply = r })
 abbrev pub actor : Path → Uid
 actor p = last_uid (uids_of p)
 
+-- what an answer names of the request: the action and its number
 abbrev pub asked_by : Head → Asked
 asked_by h = record { act = actor h.path; req = h.req }
 
--- the leading Uids of a path that end with its top, and the top
+-- the leading Uids of a path that end with its top
 abbrev pub top_path : Path → List Uid
 top_path p = take (tops_of p) (uids_of p)
 
+-- the top of a path
 abbrev pub top_of : Path → Uid
 top_of p = last_uid (top_path p)
 
--- the kind of answer that a request waits for, and the kind of an answer
+-- the kind of answer that a request waits for
 abbrev pub ask_kind : Ask → ℕ
 ask_kind (ask.Bind x include avoid) = 1
 ask_kind (ask.Load x) = 2
@@ -67,6 +69,7 @@ ask_kind (ask.Vote i objects ends) = 6
 ask_kind (ask.Prepare states) = 7
 ask_kind (ask.Confirm objects excluded included) = 8
 
+-- the kind of an answer
 abbrev pub reply_kind : Reply → ℕ
 reply_kind (Bound r) = 1
 reply_kind (Loaded r) = 2

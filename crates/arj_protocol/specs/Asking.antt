@@ -20,9 +20,11 @@ use Rattle.arj_protocol.specs.Ending.{says, ends_with, aborts_with, decide}
 
 -- ---- an action begins
 
+-- the line of an action that begins
 abbrev pub began_line : Label → Kind → Uid → Option Label → Body
 began_line l k u parent = body.Began l k u parent
 
+-- an action begins with the next Uid, and the label is its
 abbrev pub begin_action : Label → Kind → Option Label → Option Branch → Coord → Did Coord
 begin_action l k parent above c =
     let u = next_uid c.tree in
@@ -33,6 +35,7 @@ begin_action l k parent above c =
 
 -- ---- requests
 
+-- an Invoke
 abbrev pub is_invoke_ask : Ask → Bool
 is_invoke_ask (ask.Invoke x b i ends op) = true
 is_invoke_ask _ = false
@@ -44,6 +47,7 @@ asks_node p req a c = record {
   outs = Send a.0 (request (record { path = p; req = req }) a.1) ∷ [];
 }
 
+-- a request to each of these nodes, in order
 abbrev pub asks_all : Path → ℕ → List (ℕ × Ask) → Coord → Did Coord
 asks_all p req [] c = record { part = c; outs = [] }
 asks_all p req (a ∷ rest) c =
@@ -65,10 +69,12 @@ goes_on s c = asks_step s (on_doing (actor s.path) (λ (d : Doing). record d { r
 abbrev pub given_away : Keeping → Known → Keeping
 given_away k old = record { kept = None; spoiled = false; avoid = old.binding }
 
+-- where the root is free and the kept binding is spoiled it is given up, and else kept
 abbrev pub renewed : Bool → Keeping → Option Known → Keeping
 renewed free k None = k
 renewed free k (Some old) = if free && k.spoiled then given_away k old else k
 
+-- the answer named this binding
 abbrev pub is_named : Binding → Option Binding → Bool
 is_named b None = false
 is_named b (Some c) = binding_eq b c
@@ -83,6 +89,7 @@ abbrev pub known_at_start : Uid → ℕ → Root → Coord → Option Known → 
 known_at_start top x r c None = None
 known_at_start top x r c (Some k) = if k.recorded && (was_named top x k.binding r || retains x r c) then Some k else None
 
+-- the steps of a call, from the Bind or from what is known
 abbrev pub call_steps : Path → ℕ → Op → ℕ → Root → Coord → Keeping → Steps
 call_steps p x op req r c k = start p x (Run op) (known_at_start (top_of p) x r c k.kept) k.avoid req
 
@@ -91,6 +98,7 @@ abbrev pub last_req : Option Doing → ℕ
 last_req None = 0
 last_req (Some d) = d.req
 
+-- the number of an action's next request
 abbrev pub next_req : Uid → Coord → ℕ
 next_req u c = last_req (doing_of u c) + 1
 
@@ -116,6 +124,7 @@ granted_by top x (Reply.Bound (bound.Make b server g stores)) = Some (record { t
 granted_by top x (Reply.Bound (bound.Write g stores)) = Some (record { top = top; x = x; least = g; named = None })
 granted_by top x _ = None
 
+-- the root notes what was granted, where something was
 abbrev pub notes_grant : Option Grant → Root → Root
 notes_grant None r = r
 notes_grant (Some g) r = with_grant g r
@@ -134,6 +143,7 @@ abbrev pub answer_line : ℕ → Goal → Answer → Label → Body
 answer_line x (Run o) a l = body.Ok l x o (answer_text a)
 answer_line x (Include s) a l = body.Includes l x s
 
+-- the store that an include is about
 abbrev pub store_of : Goal → ℕ
 store_of (Run o) = 0
 store_of (Include s) = s
@@ -157,12 +167,14 @@ abbrev pub doomed_by : Uid → CallEnd → Coord → Coord
 doomed_by u (Lost n true) c = record c { tree = doomed_at u c.tree }
 doomed_by u _ c = c
 
+-- a call or an include ends: what the root notes, and the line
 abbrev pub ends_call : Steps → CallEnd → Coord → Did Coord
 ends_call s e c = record {
   part = doomed_by (actor s.path) e (on_root (root_of s.path) (root_heard s e) (on_doing (actor s.path) (λ (d : Doing). record d { now = Idle }) c));
   outs = says (actor s.path) (end_line s.x s.goal e) c;
 }
 
+-- a call or an include goes on with its next request, or ends
 abbrev pub step_call : Steps → CallStep → Coord → Did Coord
 step_call s (On at) c = goes_on (record s { req = s.req + 1; at = at }) c
 step_call s (Ended e) c = ends_call s e c
@@ -173,26 +185,33 @@ root_moved s r m root =
     let k = keeping_of s.x root in
     with_keeping s.x (keeps_after s.goal (has_changed m.step) m.kept k) (notes_grant (granted_by (top_of s.path) s.x r) root)
 
+-- so it goes, with what the root keeps after the answer
 abbrev pub moved_call : Steps → Reply → Coord → Moved → Did Coord
 moved_call s r c m = step_call s m.step (on_root (root_of s.path) (root_moved s r m) c)
 
+-- what the root of the call keeps of its object
 abbrev pub kept_at : Steps → Coord → Option Known
 kept_at s c = let k = keeping_of s.x (root_at (root_of s.path) c) in k.kept
 
+-- a call or an include takes an answer
 abbrev pub heard_call : Steps → Reply → Coord → Did Coord
 heard_call s r c = moved_call s r c (answered (is_free (root_of s.path) (actor s.path) s.x c) (kept_at s c) s.goal s.at r)
 
 -- ---- commits
 
+-- a line for each store that the commit marks for exclusion
 abbrev pub mark_lines : Uid → List (ℕ × ℕ) → Coord → List Effect
 mark_lines u marks c = flat_map (λ (m : ℕ × ℕ). says u (λ l. body.Excluded l m.0 m.1) c) marks
 
+-- the commit of this action waits in this step
 abbrev pub commits_in : Uid → Machine → Coord → Coord
 commits_in u m c = on_doing u (λ (d : Doing). record d { req = (plan_of m).req; now = Committing m }) c
 
+-- the requests that the commit waits with
 abbrev pub asks_machine : Machine → Coord → Did Coord
 asks_machine m c = asks_all (plan_of m).path (plan_of m).req (waiting m) c
 
+-- the commit waits further, asks the next requests, is decided, or is aborted
 abbrev pub step_commit : Uid → CommitStep → List (Uid × Intent) → Coord → Did Coord
 step_commit u (Stays m) intents c = record { part = commits_in u m c; outs = [] }
 step_commit u (Asks m) intents c = asks_machine m (commits_in u m c)
@@ -205,11 +224,13 @@ moved_commit u m intents c =
     let t = step_commit u m.step intents c in
     record { part = t.part; outs = mark_lines u m.marks c ++ t.outs }
 
+-- the commit of a top is called: its plan is made, and its first requests go
 abbrev pub commit_top : Path → List (Uid × Intent) → Coord → Did Coord
 commit_top p intents c =
     let t = moved_commit (actor p) (commit.start (plan_for p (last_req (doing_of (actor p) c)) (root_at (root_of p) c) c)) intents c in
     record { part = t.part; outs = says (actor p) body.Committing c ++ t.outs }
 
+-- the commit of an action that isn't doomed, by its kind
 abbrev pub commit_open : Branch → List (Uid × Intent) → Coord → Kind → Did Coord
 commit_open b intents c kind.Nested = ends_with (actor b.path) ending.Commit body.Committed intents c
 commit_open b intents c kind.Serial = ends_with (actor b.path) ending.Commit body.Ended intents c
@@ -226,21 +247,26 @@ commit_action b intents c = if b.doomed then aborts_with (actor b.path) cause.Do
 abbrev pub waits_for_call : ℕ → Asked → Reply → Steps → Bool
 waits_for_call from a r s = (s.req == a.req) && ((reply_kind r == ask_kind (next_ask [] s)) && (next_node s == from))
 
+-- the commit waits for this answer: of its kind, to its request, from a node that hasn't answered
 abbrev pub waits_for_commit : ℕ → Asked → Reply → Machine → Bool
 waits_for_commit from a r m = ((plan_of m).req == a.req) && ((reply_kind r == ask_kind (ask_of m from)) && has (left_of m) from)
 
+-- nobody waits for the answer: it is void
 abbrev pub heard_none : Coord → Served Coord (Unit {0})
 heard_none c = record { part = c; outs = []; reply = None }
 
+-- the answer was taken
 abbrev pub heard_by : Did Coord → Served Coord (Unit {0})
 heard_by d = record { part = d.part; outs = d.outs; reply = Some tt }
 
+-- what an action is at takes the answer, where it waits for it
 abbrev pub heard_now : ℕ → Asked → Reply → List (Uid × Intent) → Coord → Now → Served Coord (Unit {0})
 heard_now from a r intents c Idle = heard_none c
 heard_now from a r intents c (Calling s) = if waits_for_call from a r s then heard_by (heard_call s r c) else heard_none c
 heard_now from a r intents c (Committing m) =
     if waits_for_commit from a r m then heard_by (moved_commit a.act (commit.answered from m r) intents c) else heard_none c
 
+-- an action whose doing is known takes the answer, where it waits for it
 abbrev pub heard_doing : ℕ → Asked → Reply → List (Uid × Intent) → Coord → Option Doing → Served Coord (Unit {0})
 heard_doing from a r intents c None = heard_none c
 heard_doing from a r intents c (Some d) = heard_now from a r intents c d.now
@@ -251,9 +277,11 @@ heard from a r intents c = heard_doing from a r intents c (doing_of a.act c)
 
 -- ---- giveup
 
+-- a line for each node of which an answer was given up
 abbrev pub gaveup_lines : Uid → List ℕ → Coord → List Effect
 gaveup_lines u nodes c = flat_map (λ n. says u (λ l. body.GaveUp l n) c) nodes
 
+-- the step ends the call
 abbrev pub is_ended : CallStep → Bool
 is_ended (On at) = false
 is_ended (Ended e) = true
@@ -262,9 +290,11 @@ is_ended (Ended e) = true
 abbrev pub root_lost : Steps → CallStep → Root → Root
 root_lost s step r = let k = keeping_of s.x r in with_keeping s.x (keeps_after s.goal (is_ended step && spoils s.at) k.kept k) r
 
+-- a call or an include is given up in the step in which it waits
 abbrev pub give_up_call : Steps → Coord → Did Coord
 give_up_call s c = step_call s (given_up s.at) (on_root (root_of s.path) (root_lost s (given_up s.at)) c)
 
+-- what an action is at is given up, with a line for each node that it waited for
 abbrev pub gives_up : Uid → List (Uid × Intent) → Coord → Now → Did Coord
 gives_up u intents c Idle = record { part = c; outs = [] }
 gives_up u intents c (Calling s) =
@@ -274,15 +304,18 @@ gives_up u intents c (Committing m) =
     let t = moved_commit u (commit.given_up m) intents c in
     record { part = t.part; outs = gaveup_lines u (nodes_given_up m) c ++ t.outs }
 
+-- an action whose doing is known gives up what it waits for
 abbrev pub give_up_doing : Uid → List (Uid × Intent) → Coord → Option Doing → Did Coord
 give_up_doing u intents c None = record { part = c; outs = [] }
 give_up_doing u intents c (Some d) = gives_up u intents c d.now
 
+-- an action gives up what it waits for
 abbrev pub give_up : Uid → List (Uid × Intent) → Coord → Did Coord
 give_up u intents c = give_up_doing u intents c (doing_of u c)
 
 -- ---- what a tick sends again
 
+-- the requests that an action waits with are sent again
 abbrev pub again_now : Coord → Now → Did Coord
 again_now c Idle = record { part = c; outs = [] }
 again_now c (Calling s) = asks_step s c

@@ -24,6 +24,7 @@ pub record Known : Type 0 where
   pub recorded : Bool
   pub loaded : Option ObjectState
 
+-- What is wanted: to run an operation, or to include a store.
 pub data Goal : Type 0 where
   Run : Op → Goal
   Include : ℕ → Goal
@@ -36,6 +37,7 @@ pub data At : Type 0 where
   AtNote : Known → ℕ → At
   AtInvoke : Known → ℕ → At
 
+-- A call or an include under way: who asks, for which object, by which request, and the step in which it waits.
 pub record Steps : Type 0 where
   pub path : Path
   pub x : ℕ
@@ -51,6 +53,7 @@ pub data CallEnd : Type 0 where
   Changed : ℕ → What → CallEnd
   Lost : ℕ → Bool → CallEnd
 
+-- It goes on in this step, or has ended.
 pub data CallStep : Type 0 where
   On : At → CallStep
   Ended : CallEnd → CallStep
@@ -60,9 +63,11 @@ pub record Moved : Type 0 where
   pub step : CallStep
   pub kept : Option Known
 
+-- it goes on, and the root keeps this
 abbrev pub moves : Option Known → At → Moved
 moves kept at = record { step = On at; kept = kept }
 
+-- it ends, and the root keeps this
 abbrev pub finds : Option Known → CallEnd → Moved
 finds kept e = record { step = Ended e; kept = kept }
 
@@ -71,9 +76,11 @@ abbrev pub start_at : Option Known → Binding → At
 start_at None avoid = AtBind avoid
 start_at (Some k) avoid = AtInvoke k (unwrap_or k.inc 0)
 
+-- a call or an include begins
 abbrev pub start : Path → ℕ → Goal → Option Known → Binding → ℕ → Steps
 start p x g known avoid req = record { path = p; x = x; goal = g; req = req; at = start_at known avoid }
 
+-- an include, and no call
 abbrev pub is_include : Goal → Bool
 is_include (Run o) = false
 is_include (Include s) = true
@@ -90,6 +97,7 @@ abbrev pub invoked_op : Goal → Op
 invoked_op (Run o) = o
 invoked_op (Include s) = op.Get
 
+-- the request of each step
 abbrev pub ask_at : ℕ → Goal → List (Uid × End) → At → Ask
 ask_at x g ends (AtBind avoid) = ask.Bind x (is_include g) avoid
 ask_at x g ends (AtLoad k s rest) = ask.Load x
@@ -97,6 +105,7 @@ ask_at x g ends (AtActivate k st) = ask.Activate k.binding st
 ask_at x g ends (AtNote k i) = ask.Record x k.binding i k.grant
 ask_at x g ends (AtInvoke k i) = ask.Invoke x k.binding i ends (invoked_op g)
 
+-- the node that is asked in each step
 abbrev pub node_at : At → ℕ
 node_at (AtBind avoid) = 1
 node_at (AtLoad k s rest) = s
@@ -104,12 +113,15 @@ node_at (AtActivate k st) = k.server
 node_at (AtNote k i) = 1
 node_at (AtInvoke k i) = k.server
 
+-- the request that waits
 abbrev pub next_ask : List (Uid × End) → Steps → Ask
 next_ask ends s = ask_at s.x s.goal ends s.at
 
+-- the node that is asked
 abbrev pub next_node : Steps → ℕ
 next_node s = node_at s.at
 
+-- the step is the Invoke
 abbrev pub is_invoke : At → Bool
 is_invoke (AtInvoke k i) = true
 is_invoke _ = false
@@ -120,6 +132,7 @@ is_invoke _ = false
 abbrev pub two_incs : ℕ → ℕ → What
 two_incs i j = if nat_lt j i then what.Inc j i else what.Inc i j
 
+-- the lesser one first, as an answer says them
 abbrev pub two_bindings : Binding → Binding → What
 two_bindings b c = what.Bind (lesser_binding b c) (greater_binding b c)
 
@@ -132,6 +145,7 @@ abbrev pub with_inc : ℕ → Known → At → Option ℕ → Moved
 with_inc i kept at None = moves (Some (record kept { inc = Some i })) at
 with_inc i kept at (Some first) = if first == i then moves (Some kept) at else finds (Some kept) (Changed kept.server (two_incs first i))
 
+-- the answer names the kept binding, and perhaps an incarnation of its server
 abbrev pub same_binding : Known → Known → At → Option ℕ → Moved
 same_binding old k at None = moves (Some (named_again old k)) at
 same_binding old k at (Some i) = with_inc i (named_again old k) at old.inc
@@ -142,18 +156,22 @@ other_binding free old k at =
     if free && binding_less old.binding k.binding then moves (Some k) at
     else finds (Some old) (Changed 1 (two_bindings old.binding k.binding))
 
+-- the answer names a binding: the first one is kept
 abbrev pub bound_by : Bool → Known → At → Option Known → Moved
 bound_by free k at None = moves (Some k) at
 bound_by free k at (Some old) = if binding_eq old.binding k.binding then same_binding old k at k.inc else other_binding free old k at
 
 -- ---- answers
 
+-- what an answer tells of a live binding
 abbrev pub live_known : Binding → ℕ → ℕ → ℕ → List ℕ → Known
 live_known b server i g stores = record { binding = b; server = server; inc = Some i; grant = g; stores = stores; recorded = true; loaded = None }
 
+-- what an answer tells of a binding that was made: it isn't recorded, and no incarnation of the server is known
 abbrev pub made_known : Binding → ℕ → ℕ → List ℕ → Known
 made_known b server g stores = record { binding = b; server = server; inc = None; grant = g; stores = stores; recorded = false; loaded = None }
 
+-- what an answer to an include tells: no binding
 abbrev pub write_known : ℕ → List ℕ → Known
 write_known g stores = record { binding = unbound; server = 0; inc = None; grant = g; stores = stores; recorded = false; loaded = None }
 
@@ -162,10 +180,12 @@ abbrev pub load_from : Known → List ℕ → Option At
 load_from k [] = None
 load_from k (s ∷ ss) = Some (AtLoad k s ss)
 
+-- the include goes on with its first store
 abbrev pub or_lost : Option Known → Option At → Moved
 or_lost kept None = finds kept (Lost 1 false)
 or_lost kept (Some at) = moves kept at
 
+-- the call goes on with the first store of a binding that was made, where the binding can be kept
 abbrev pub made_by : Bool → Known → Option Known → Option At → Moved
 made_by free k kept None = finds kept (Lost 1 false)
 made_by free k kept (Some at) = bound_by free k at kept
@@ -182,6 +202,7 @@ abbrev pub loaded_state : Option Known → Known → ObjectState → Goal → Mo
 loaded_state kept k st (Run o) = moves kept (AtActivate k st)
 loaded_state kept k st (Include s) = finds kept (Included st)
 
+-- a state, or the holder of one in doubt, by which the call conflicts
 abbrev pub loaded_answer : Option Known → Known → ℕ → Goal → LoadedReply → Moved
 loaded_answer kept k s g (loaded.State st) = loaded_state kept k st g
 loaded_answer kept k s g (loaded.InDoubt holder) = finds kept (Conflict holder mode.Write s)
@@ -196,6 +217,7 @@ abbrev pub recorded_kept : Known → Option Known → Option Known
 recorded_kept k None = None
 recorded_kept k (Some old) = if binding_eq old.binding k.binding then Some (record old { recorded = true }) else Some old
 
+-- naming recorded the binding, or is of another incarnation
 abbrev pub recorded_answer : Option Known → Known → ℕ → RecordedReply → Moved
 recorded_answer kept k i recorded.Yes = moves (recorded_kept k kept) (AtInvoke k i)
 recorded_answer kept k i (recorded.Changed w) = finds kept (Changed 1 w)
@@ -220,6 +242,7 @@ abbrev pub load_given_up : Known → ℕ → List ℕ → CallStep
 load_given_up k s [] = Ended (Lost s false)
 load_given_up k s (t ∷ ts) = On (AtLoad k t ts)
 
+-- what giving up leads to in each step
 abbrev pub given_up : At → CallStep
 given_up (AtBind avoid) = Ended (Lost 1 false)
 given_up (AtLoad k s rest) = load_given_up k s rest

@@ -44,6 +44,7 @@ pub data Machine : Type 0 where
   Preparing : Plan → List ℕ → Machine
   Confirming : Plan → Machine
 
+-- What a step leads to: it waits further, asks, decides, or aborts for a cause.
 pub data CommitStep : Type 0 where
   Stays : Machine → CommitStep
   Asks : Machine → CommitStep
@@ -55,14 +56,17 @@ pub record Marked : Type 0 where
   pub step : CommitStep
   pub marks : List (ℕ × ℕ)
 
+-- the step sets out to exclude nothing
 abbrev pub plainly : CommitStep → Marked
 plainly s = record { step = s; marks = [] }
 
+-- the plan of a commit, whatever it waits for
 abbrev pub plan_of : Machine → Plan
 plan_of (Voting p left) = p
 plan_of (Preparing p left) = p
 plan_of (Confirming p) = p
 
+-- the nodes that haven't answered: naming alone, while it is asked to confirm
 abbrev pub left_of : Machine → List ℕ
 left_of (Voting p left) = left
 left_of (Preparing p left) = left
@@ -74,6 +78,7 @@ left_of (Confirming p) = 1 ∷ []
 abbrev pub servers_of : Plan → List ℕ
 servers_of p = number_set (map (λ u. u.server) (filter (λ u. u.called) p.used))
 
+-- the object was called at this server
 abbrev pub is_at_server : ℕ → Used → Bool
 is_at_server s u = u.called && (u.server == s)
 
@@ -83,6 +88,7 @@ least_of [] = 0
 least_of (n ∷ []) = n
 least_of (n ∷ m ∷ ns) = min n (least_of (m ∷ ns))
 
+-- the Vote for a server: the least incarnation that was heard of it, each of its objects with its binding, and the ends of the root
 abbrev pub vote_ask : Plan → ℕ → Ask
 vote_ask p s =
     let here = filter (is_at_server s) p.used in
@@ -98,9 +104,11 @@ abbrev pub state_by : ℕ → Used → Option ObjectState → Option ObjectState
 state_by s u None = if has u.joins s then u.loaded else None
 state_by s u (Some st) = if has u.stores s || has u.joins s then Some st else None
 
+-- what a store is sent of an object
 abbrev pub state_for : ℕ → Plan → Used → Option ObjectState
 state_for s p u = state_by s u (changed_of u.x p)
 
+-- what a store is sent, object by object
 abbrev pub states_for : ℕ → Plan → List ObjectState
 states_for s p = filter_map (state_for s p) p.used
 
@@ -109,9 +117,11 @@ abbrev pub stores_by : Used → Option ObjectState → List ℕ
 stores_by u None = u.joins
 stores_by u (Some st) = u.stores ++ u.joins
 
+-- all stores that the prepare step asks, in order
 abbrev pub targets_of : Plan → List ℕ
 targets_of p = number_set (flat_map (λ u. stores_by u (changed_of u.x p)) p.used)
 
+-- the store is marked for exclusion of the object
 abbrev pub is_marked : ℕ → ℕ → Plan → Bool
 is_marked x s p = list_any (λ (m : ℕ × ℕ). (m.0 == x) && (m.1 == s)) p.excluded
 
@@ -119,12 +129,15 @@ is_marked x s p = list_any (λ (m : ℕ × ℕ). (m.0 == x) && (m.1 == s)) p.exc
 abbrev pub joins_left : Plan → Used → List (ℕ × ℕ)
 joins_left p u = map {A = ℕ} {B = ℕ × ℕ} (λ s. (u.x, s)) (filter (λ s. not (is_marked u.x s p)) u.joins)
 
+-- all includes that the commit makes
 abbrev pub included_of : Plan → List (ℕ × ℕ)
 included_of p = flat_map (joins_left p) p.used
 
+-- the Confirm: each object with the least incarnation of its grants, and the stores that are excluded and included
 abbrev pub confirm_ask : Plan → Ask
 confirm_ask p = ask.Confirm (map {A = Used} {B = ℕ × ℕ} (λ u. (u.x, u.grant)) p.used) p.excluded (included_of p)
 
+-- what the step asks a node
 abbrev pub ask_of : Machine → ℕ → Ask
 ask_of (Voting p left) n = vote_ask p n
 ask_of (Preparing p left) n = ask.Prepare (states_for n p)
@@ -145,14 +158,17 @@ abbrev pub begin_confirm : List Used → Plan → CommitStep
 begin_confirm [] p = Decides p
 begin_confirm (u ∷ us) p = Asks (Confirming (further (1 ∷ []) p))
 
+-- with no store to ask the prepare step is left out
 abbrev pub begin_prepare : List ℕ → Plan → CommitStep
 begin_prepare [] p = begin_confirm p.used p
 begin_prepare (s ∷ ss) p = Asks (Preparing (further (s ∷ ss) p) (s ∷ ss))
 
+-- with no server to ask the vote step is left out
 abbrev pub begin_vote : List ℕ → Plan → CommitStep
 begin_vote [] p = begin_prepare (targets_of p) p
 begin_vote (s ∷ ss) p = Asks (Voting (further (s ∷ ss) p) (s ∷ ss))
 
+-- a commit begins with the votes
 abbrev pub start : Plan → Marked
 start p = plainly (begin_vote (servers_of p) p)
 
@@ -161,6 +177,7 @@ abbrev pub with_state : ObjectState → List ObjectState → List ObjectState
 with_state s [] = s ∷ []
 with_state s (t ∷ ts) = if nat_lt t.uid.num s.uid.num then t ∷ with_state s ts else s ∷ t ∷ ts
 
+-- these states put in
 abbrev pub with_states : List ObjectState → List ObjectState → List ObjectState
 with_states [] all = all
 with_states (s ∷ ss) all = with_states ss (with_state s all)
@@ -170,6 +187,7 @@ abbrev pub with_mark : ℕ × ℕ → List (ℕ × ℕ) → List (ℕ × ℕ)
 with_mark m [] = m ∷ []
 with_mark m (k ∷ ks) = if nat_lt k.0 m.0 || ((k.0 == m.0) && nat_lt k.1 m.1) then k ∷ with_mark m ks else m ∷ k ∷ ks
 
+-- these marks put in
 abbrev pub with_marks : List (ℕ × ℕ) → List (ℕ × ℕ) → List (ℕ × ℕ)
 with_marks [] all = all
 with_marks (m ∷ ms) all = with_marks ms (with_mark m all)
@@ -178,9 +196,11 @@ with_marks (m ∷ ms) all = with_marks ms (with_mark m all)
 abbrev pub marks_at : ℕ → Plan → List (ℕ × ℕ)
 marks_at s p = map {A = ObjectState} {B = ℕ × ℕ} (λ st. (st.uid.num, s)) (states_for s p)
 
+-- the store is marked for all that was sent to it
 abbrev pub marks_store : ℕ → Plan → Plan
 marks_store s p = record p { excluded = with_marks (marks_at s p) p.excluded }
 
+-- so are these stores
 abbrev pub marks_stores : List ℕ → Plan → Plan
 marks_stores [] p = p
 marks_stores (s ∷ ss) p = marks_stores ss (marks_store s p)
@@ -190,6 +210,7 @@ abbrev pub votes_left : List ℕ → Plan → CommitStep
 votes_left [] p = begin_prepare (targets_of p) p
 votes_left (n ∷ ns) p = Stays (Voting p (n ∷ ns))
 
+-- a server answered: its changed states are taken, or the commit aborts
 abbrev pub voted_by : ℕ → List ℕ → Plan → VotedReply → Marked
 voted_by from left p (voted.Yes states) = plainly (votes_left (without_number from left) (record p { changed = with_states states p.changed }))
 voted_by from left p (voted.Changed w) = plainly (Aborts (cause.Changed from (differs w)) p)
@@ -199,11 +220,13 @@ abbrev pub stores_left : List ℕ → Plan → Marked
 stores_left [] p = record { step = begin_confirm p.used p; marks = p.excluded }
 stores_left (n ∷ ns) p = plainly (Stays (Preparing p (n ∷ ns)))
 
+-- a store answered: it has prepared, or is marked, or has a later state, by which the commit aborts
 abbrev pub prepared_by : ℕ → List ℕ → Plan → PreparedReply → Marked
 prepared_by from left p prepared.Yes = stores_left (without_number from left) (record p { prepared = with_number from p.prepared })
 prepared_by from left p (prepared.InDoubt x holder) = stores_left (without_number from left) (marks_store from p)
 prepared_by from left p (prepared.Old x v) = plainly (Aborts (cause.Old from x v) p)
 
+-- naming answered: the commit is decided, or aborts
 abbrev pub confirmed_by : Plan → ConfirmedReply → CommitStep
 confirmed_by p confirmed.Yes = Decides (record p { confirmed = true })
 confirmed_by p (confirmed.Conflict holder m) = Aborts (cause.Conflict holder m 1) p
@@ -220,6 +243,7 @@ answered from m r = plainly (Stays m)
 
 -- ---- given up
 
+-- the first of these nodes
 abbrev pub first_of : List ℕ → ℕ
 first_of [] = 0
 first_of (n ∷ ns) = n
@@ -238,14 +262,16 @@ given_up (Confirming p) = plainly (Aborts (cause.Lost 1) p)
 
 -- ---- the decision
 
--- A store prepared, or naming was asked for an exclusion or an inclusion: there is a record.
+-- a list without items
 abbrev pub is_empty : {A : Type 0} → List A → Bool
 is_empty [] = true
 is_empty (a ∷ rest) = false
 
+-- A store prepared, or naming was asked for an exclusion or an inclusion: there is a record.
 abbrev pub has_record : Plan → Bool
 has_record p = not (is_empty p.prepared) || (p.confirmed && not (is_empty p.excluded && is_empty (included_of p)))
 
+-- naming, where it confirmed
 abbrev pub naming_node : Plan → List ℕ
 naming_node p = if p.confirmed then 1 ∷ [] else []
 

@@ -20,6 +20,7 @@ use Rattle.arj_protocol.specs.Naming.{Naming, listed_entry, is_over}
 abbrev pub Grants : Type 0
 Grants = List (ℕ × ℕ)
 
+-- a list of objects, each with a store
 abbrev pub Marks : Type 0
 Marks = List (ℕ × ℕ)
 
@@ -29,10 +30,12 @@ marked x marks = map (λ (m : ℕ × ℕ). m.1) (filter (λ (m : ℕ × ℕ). m.
 
 -- ---- the new entries
 
+-- the list without these stores
 abbrev pub without_stores : List ℕ → List ℕ → List ℕ
 without_stores [] stores = stores
 without_stores (s ∷ ss) stores = without_stores ss (without_store s stores)
 
+-- the list with these stores behind it, each once
 abbrev pub with_stores : List ℕ → List ℕ → List ℕ
 with_stores [] stores = stores
 with_stores (s ∷ ss) stores = with_stores ss (with_store s stores)
@@ -41,11 +44,13 @@ with_stores (s ∷ ss) stores = with_stores ss (with_store s stores)
 abbrev pub stores_after : ℕ → Marks → Marks → Entry → List ℕ
 stores_after x excluded included e = with_stores (marked x included) (without_stores (marked x excluded) e.stores)
 
+-- the same nodes in the same order
 abbrev pub same_nodes : List ℕ → List ℕ → Bool
 same_nodes [] [] = true
 same_nodes (m ∷ ms) (n ∷ ns) = (m == n) && same_nodes ms ns
 same_nodes _ _ = false
 
+-- the new entry of an object: one version above the old one, written by the top, with these stores
 abbrev pub entry_state : ℕ → Uid → ObjectState → List ℕ → ObjectState
 entry_state x top s stores =
     record { uid = entry x; class = class.Entry; version = next_version s.version; writer = top; payload = entry_payload (record { servers = (state_entry s).servers; stores = stores }) }
@@ -54,6 +59,7 @@ entry_state x top s stores =
 abbrev pub entry_by : ℕ → Uid → ObjectState → List ℕ → Option ObjectState
 entry_by x top s stores = if same_nodes stores (state_entry s).stores then None else Some (entry_state x top s stores)
 
+-- the new entry of an object that has one, where it differs
 abbrev pub entry_after : Uid → Marks → Marks → ℕ → Option ObjectState → Option ObjectState
 entry_after top excluded included x None = None
 entry_after top excluded included x (Some s) = entry_by x top s (stores_after x excluded included (state_entry s))
@@ -64,6 +70,7 @@ entries_after top grants excluded included d = filter_map (λ (g : ℕ × ℕ). 
 
 -- ---- the four checks
 
+-- a grant of another incarnation than naming's refuses the Confirm
 abbrev pub other_grant : Naming → ℕ × ℕ → Option ConfirmedReply
 other_grant n g = if g.1 == n.inc then None else Some (confirmed.Changed (what.Inc g.1 n.inc))
 
@@ -76,6 +83,7 @@ is_prepared_with x top s d =
 abbrev pub is_wanted : ℕ → Uid → Pair → ℕ → Bool
 is_wanted x top d s = is_listed s (listed_entry x d).stores || is_prepared_with x top s d
 
+-- some exclusion of the object wants the exclude lock
 abbrev pub wants_lock : Uid → Marks → Pair → ℕ → Bool
 wants_lock top excluded d x = list_any (is_wanted x top d) (marked x excluded)
 
@@ -83,13 +91,16 @@ wants_lock top excluded d x = list_any (is_wanted x top d) (marked x excluded)
 abbrev pub wanted : Uid → Grants → Marks → Pair → List ℕ
 wanted top grants excluded d = filter (wants_lock top excluded d) (map (λ (g : ℕ × ℕ). g.0) grants)
 
+-- the first row that conflicts with the exclude lock on an entry that is there
 abbrev pub conflict_in : ℕ → Path → Option Named → Option Row
 conflict_in x p None = None
 conflict_in x p (Some o) = conflict_on x p mode.Exclude o
 
+-- an exclude lock that can't be granted refuses the Confirm
 abbrev pub refused_exclude : Path → Naming → ℕ → Option ConfirmedReply
 refused_exclude p n x = option_map (λ r. confirmed.Conflict (last_uid r.holder) r.mode) (conflict_in x p (at_number x n.objects))
 
+-- an included store that is listed already refuses it
 abbrev pub is_there : Pair → ℕ × ℕ → Option ConfirmedReply
 is_there d m = if is_listed m.1 (listed_entry m.0 d).stores then Some (confirmed.Listed m.0 m.1) else None
 
@@ -113,6 +124,7 @@ checked p grants excluded included d n =
 
 -- ---- after the checks
 
+-- the exclude lock on an entry that is there is granted, with its lines
 abbrev pub lock_in : ℕ → Path → Naming → Option Named → Did Naming
 lock_in x p n None = record { part = n; outs = [] }
 lock_in x p n (Some o) = record { part = record n { objects = put_number x (locked x p mode.Exclude o) n.objects }; outs = lock_lines x p mode.Exclude o }
@@ -125,6 +137,7 @@ lock_all (x ∷ xs) p n =
     let t = lock_all xs p d.part in
     record { part = t.part; outs = d.outs ++ t.outs }
 
+-- the top is confirmed in this incarnation
 abbrev pub confirms : Uid → Naming → Naming
 confirms top n = record n { confirmed = with_uid top n.confirmed }
 
@@ -144,6 +157,7 @@ abbrev pub confirm_entries : Uid → List ObjectState → Pair → Did Naming �
 confirm_entries top [] d t = record { part = confirms top t.part; outs = t.outs; reply = Some confirmed.Yes }
 confirm_entries top (s ∷ ss) d t = prepared_by top (s ∷ ss) t (prepare_answer top (s ∷ ss) d)
 
+-- a Confirm that is new: refused by the first check that fails, or its locks are granted and its entries prepared
 abbrev pub confirm_new : Path → Grants → Marks → Marks → Pair → Naming → Option ConfirmedReply → Served Naming ConfirmedReply
 confirm_new p grants excluded included d n (Some r) = reply n r
 confirm_new p grants excluded included d n None =
@@ -180,9 +194,11 @@ abbrev pub rows_back : Uid → ObjectState → Option (Uid × ObjectState) → L
 rows_back u held None = []
 rows_back u held (Some p) = row_for u (p.0 ∷ []) 1 (mode_back (state_entry p.1).stores (state_entry held).stores) ∷ []
 
+-- an entry after a restart: nobody is bound, and who has it prepared holds its lock
 abbrev pub named_back : Pair → Uid × ObjectState → ℕ × Named
 named_back d e = (e.0.num, unnamed (rows_back e.0 e.1 (pending_of e.0 d.pend)))
 
+-- the lines of the locks that are given back
 abbrev pub back_lines : Named → List Effect
 back_lines o = map (λ r. Say (body.Granted 1 (last_uid r.holder) r.object r.mode)) o.rows
 
@@ -190,5 +206,6 @@ back_lines o = map (λ r. Say (body.Granted 1 (last_uid r.holder) r.object r.mod
 abbrev pub recovered_naming : ℕ → Pair → Naming
 recovered_naming inc d = record { inc = inc; count = 0; objects = map (named_back d) d.held; confirmed = map (λ (p : Uid × List ObjectState). p.0) d.pend; told = [] }
 
+-- these lines, object by object
 abbrev pub recovered_lines : Naming → List Effect
 recovered_lines n = flat_map (λ (e : ℕ × Named). back_lines e.1) n.objects

@@ -14,6 +14,7 @@ use Rattle.arj_protocol.specs.Commit.{Machine, Used, Plan, least_of}
 
 -- ---- what there is of an action
 
+-- What an action does: nothing, a call or an include, or its commit.
 pub data Now : Type 0 where
   Idle : Now
   Calling : Steps → Now
@@ -69,6 +70,7 @@ pub record Root : Type 0 where
   pub keeping : List (ℕ × Keeping)
   pub states : List (ℕ × ObjectState)
 
+-- A coordinator: the actions of its incarnation, their labels, what each is at, what each root has, and the commits that aren't acknowledged by all.
 pub record Coord : Type 0 where
   pub tree : Tree
   pub labels : List (Label × ℕ)
@@ -76,9 +78,11 @@ pub record Coord : Type 0 where
   pub roots : List (ℕ × Root)
   pub telling : List (Uid × Intent)
 
+-- a root that did nothing yet
 abbrev pub no_root : Root
 no_root = record { went = []; said = []; joined = []; grants = []; keeping = []; states = [] }
 
+-- the coordinator of a node that comes up in this incarnation
 abbrev pub new_coord : ℕ → ℕ → Coord
 new_coord node inc = record { tree = new_tree node inc; labels = []; doings = []; roots = []; telling = [] }
 
@@ -88,9 +92,11 @@ new_coord node inc = record { tree = new_tree node inc; labels = []; doings = []
 abbrev pub number_of : Label → Coord → Option ℕ
 number_of l c = lookup (is_at (label_cmp l)) c.labels
 
+-- the label is that of the action with this number
 abbrev pub with_label : Label → ℕ → Coord → Coord
 with_label l k c = record c { labels = insert_entry label_cmp c.labels l k }
 
+-- the Uid of the action with this number
 abbrev pub uid_at : ℕ → Coord → Uid
 uid_at k c = record { node = c.tree.node; inc = c.tree.inc; num = k }
 
@@ -98,13 +104,16 @@ uid_at k c = record { node = c.tree.node; inc = c.tree.inc; num = k }
 abbrev pub doing_of : Uid → Coord → Option Doing
 doing_of u c = if is_own u c.tree then at_place u.num c.doings else None
 
+-- the action is at this now
 abbrev pub set_doing : Uid → Doing → Coord → Coord
 set_doing u d c = record c { doings = set_place u.num d c.doings }
 
+-- what the action is at is changed, where it is there
 abbrev pub change_doing : (Doing → Doing) → Uid → Coord → Option Doing → Coord
 change_doing f u c None = c
 change_doing f u c (Some d) = set_doing u (f d) c
 
+-- what the action is at is changed
 abbrev pub on_doing : Uid → (Doing → Doing) → Coord → Coord
 on_doing u f c = change_doing f u c (doing_of u c)
 
@@ -112,39 +121,50 @@ on_doing u f c = change_doing f u c (doing_of u c)
 abbrev pub root_at : Uid → Coord → Root
 root_at root c = unwrap_or (at_number root.num c.roots) no_root
 
+-- what the root has is changed
 abbrev pub on_root : Uid → (Root → Root) → Coord → Coord
 on_root root f c = record c { roots = put_number root.num (f (root_at root c)) c.roots }
 
+-- nothing is kept of an object
 abbrev pub no_keeping : Keeping
 no_keeping = record { kept = None; spoiled = false; avoid = unbound }
 
+-- what the root keeps of an object
 abbrev pub keeping_of : ℕ → Root → Keeping
 keeping_of x r = unwrap_or (at_number x r.keeping) no_keeping
 
+-- the root keeps this of the object
 abbrev pub with_keeping : ℕ → Keeping → Root → Root
 with_keeping x k r = record r { keeping = put_number x k r.keeping }
 
+-- the binding that the root keeps of an object, with what is known of it
 abbrev pub kept_of : ℕ → Root → Option Known
 kept_of x r = let k = keeping_of x r in k.kept
 
 -- ---- noting what was done and heard, each once
 
+-- both are true or both false
 abbrev pub same_flag : Bool → Bool → Bool
 same_flag true b = b
 same_flag false b = not b
 
+-- the same action and node, and both an Invoke or both not
 abbrev pub same_went : Went → Went → Bool
 same_went w v = uid_eq (last_uid w.path) (last_uid v.path) && ((w.node == v.node) && same_flag w.invoke v.invoke)
 
+-- it is noted once that the node was sent this
 abbrev pub with_went : Went → Root → Root
 with_went w r = if list_any (same_went w) r.went then r else record r { went = r.went ++ w ∷ [] }
 
+-- the same action called the same object
 abbrev pub same_said : Said → Said → Bool
 same_said s t = uid_eq (last_uid s.path) (last_uid t.path) && (s.x == t.x)
 
+-- it is noted once that the call was answered
 abbrev pub with_said : Said → Root → Root
 with_said s r = if list_any (same_said s) r.said then r else record r { said = r.said ++ s ∷ [] }
 
+-- the same action included the same store of the same object
 abbrev pub same_join : Joined → Joined → Bool
 same_join i j = uid_eq (last_uid i.path) (last_uid j.path) && ((i.x == j.x) && (i.store == j.store))
 
@@ -157,9 +177,11 @@ abbrev pub joined_with : Joined → List Joined → List Joined
 joined_with j [] = j ∷ []
 joined_with j (i ∷ rest) = if same_join j i then record i { loaded = later_state i.loaded j.loaded } ∷ rest else i ∷ joined_with j rest
 
+-- the include was answered
 abbrev pub with_join : Joined → Root → Root
 with_join j r = record r { joined = joined_with j r.joined }
 
+-- the lock that this top was granted on the entry of this object
 abbrev pub is_grant_of : Uid → ℕ → Grant → Bool
 is_grant_of top x g = uid_eq g.top top && (g.x == x)
 
@@ -168,12 +190,14 @@ abbrev pub named_last : Option Binding → Option Binding → Option Binding
 named_last None old = old
 named_last (Some b) old = Some b
 
+-- a further grant to the same top on the same entry keeps the least incarnation, and the binding that was named last
 abbrev pub granted_with : Grant → List Grant → List Grant
 granted_with g [] = g ∷ []
 granted_with g (h ∷ hs) =
     if is_grant_of g.top g.x h then record h { least = min h.least g.least; named = named_last g.named h.named } ∷ hs
     else h ∷ granted_with g hs
 
+-- the root was granted this
 abbrev pub with_grant : Grant → Root → Root
 with_grant g r = record r { grants = granted_with g r.grants }
 
@@ -183,6 +207,7 @@ with_grant g r = record r { grants = granted_with g r.grants }
 abbrev pub survives : Uid → List Uid → Coord → Bool
 survives top path c = is_on path top && is_merged top path c.tree
 
+-- an action that is there is a constituent
 abbrev pub is_constituent_branch : Option Branch → Bool
 is_constituent_branch None = false
 is_constituent_branch (Some b) = is_constituent b.kind
@@ -196,6 +221,7 @@ abbrev pub second_uid : List Uid → Option Uid
 second_uid (root ∷ top ∷ rest) = Some top
 second_uid _ = None
 
+-- the top is a committed constituent, and the path survives in it
 abbrev pub retained_in : List Uid → Coord → Option Uid → Bool
 retained_in path c None = false
 retained_in path c (Some top) = is_kept_top top c && survives top path c
@@ -214,24 +240,30 @@ retains x r c = list_any (λ (s : Said). (s.x == x) && is_retained s.path c) r.s
 
 -- ---- free of the kept binding
 
+-- a call, and no include
 abbrev pub is_call : Goal → Bool
 is_call (Run op) = true
 is_call (Include s) = false
 
+-- it waits in a call on the object
 abbrev pub calls_on : ℕ → Now → Bool
 calls_on x (Calling s) = (s.x == x) && is_call s.goal
 calls_on x _ = false
 
+-- an action whose doing is known waits in a call on the object
 abbrev pub calls_now : ℕ → Option Doing → Bool
 calls_now x None = false
 calls_now x (Some d) = calls_on x d.now
 
+-- an action other than this one waits in a call on the object
 abbrev pub branch_calls : ℕ → Uid → Coord → Branch → Bool
 branch_calls x but c b = not (uid_eq (actor b.path) but) && calls_now x (doing_of (actor b.path) c)
 
+-- the answered calls of a root
 abbrev pub said_of : Uid → Coord → List Said
 said_of root c = let r = root_at root c in r.said
 
+-- the action is one of the root
 abbrev pub of_root : Uid → Branch → Bool
 of_root root b = uid_eq (root_of b.path) root
 
@@ -247,6 +279,7 @@ is_free root but x c =
 
 -- ---- the nodes that were sent something
 
+-- the nodes that were sent these, each once, in order of their numbers
 abbrev pub nodes_of : List Went → List ℕ
 nodes_of ws = number_set (map (λ (w : Went). w.node) ws)
 
@@ -258,14 +291,17 @@ nodes_sent u r = nodes_of (filter (λ (w : Went). is_on w.path u) r.went)
 abbrev pub is_invoked_by : Uid → Coord → Went → Bool
 is_invoked_by u c w = w.invoke && survives u w.path c
 
+-- the servers that are told of the end of a nested action or top: those that were sent an Invoke of it, or of what was merged into it
 abbrev pub servers_told : Uid → Root → Coord → List ℕ
 servers_told u r c = nodes_of (filter (is_invoked_by u c) r.went)
 
 -- ---- what a commit uses
 
+-- the calls that the commit of this top is about: those that survive in it, and those that its serializing action retains
 abbrev pub said_in : Uid → Root → Coord → List Said
 said_in top r c = filter (λ (s : Said). counts top s.path c) r.said
 
+-- the includes that the commit of this top is about
 abbrev pub joined_in : Uid → Root → Coord → List Joined
 joined_in top r c = filter (λ (j : Joined). counts top j.path c) r.joined
 
@@ -273,6 +309,7 @@ joined_in top r c = filter (λ (j : Joined). counts top j.path c) r.joined
 abbrev pub joins_on : ℕ → Uid → Root → Coord → List Joined
 joins_on x top r c = filter (λ (j : Joined). (j.x == x) && survives top j.path c) r.joined
 
+-- the objects that the commit of this top is about, by number
 abbrev pub objects_in : Uid → Root → Coord → List ℕ
 objects_in top r c = number_set (map (λ (s : Said). s.x) (said_in top r c) ++ map (λ (j : Joined). j.x) (joined_in top r c))
 
@@ -285,9 +322,11 @@ top_uses top x r c =
 abbrev pub counts_grant : Uid → ℕ → Root → Coord → Grant → Bool
 counts_grant top x r c g = (g.x == x) && (uid_eq g.top top || (is_kept_top g.top c && top_uses g.top x r c))
 
+-- the least incarnation of naming of the grants that count
 abbrev pub least_grant : Uid → ℕ → Root → Coord → ℕ
 least_grant top x r c = least_of (map (λ (g : Grant). g.least) (filter (counts_grant top x r c) r.grants))
 
+-- of the states that the includes loaded the latest one
 abbrev pub latest_of : Option ObjectState → List Joined → Option ObjectState
 latest_of found [] = found
 latest_of None (j ∷ js) = latest_of (Some j.loaded) js
@@ -299,9 +338,11 @@ or_kept_state None kept = None
 or_kept_state (Some s) None = Some s
 or_kept_state (Some s) (Some t) = Some (later_state s t)
 
+-- the state that is sent to included stores where the object wasn't changed: the latest that was loaded, or that the serializing action keeps
 abbrev pub loaded_for : ℕ → Uid → Root → Coord → Option ObjectState
 loaded_for x top r c = or_kept_state (latest_of None (joins_on x top r c)) (at_number x r.states)
 
+-- what the commit is about of one object, with what is known of its binding
 abbrev pub used_with : ℕ → Bool → Uid → Root → Coord → Known → Used
 used_with x called top r c k = record {
   x = x;
@@ -315,6 +356,7 @@ used_with x called top r c k = record {
   loaded = loaded_for x top r c;
 }
 
+-- of an object that was only included no binding is known
 abbrev pub nothing_known : Known
 nothing_known = record { binding = unbound; server = 0; inc = None; grant = 0; stores = []; recorded = false; loaded = None }
 
@@ -323,12 +365,15 @@ abbrev pub known_for : Bool → ℕ → Root → Known
 known_for false x r = nothing_known
 known_for true x r = unwrap_or (kept_of x r) nothing_known
 
+-- a call on the object counts for this top
 abbrev pub is_called : ℕ → Uid → Root → Coord → Bool
 is_called x top r c = list_any (λ (s : Said). s.x == x) (said_in top r c)
 
+-- what the commit is about of one object
 abbrev pub used_of : Uid → Root → Coord → ℕ → Used
 used_of top r c x = let called = is_called x top r c in used_with x called top r c (known_for called x r)
 
+-- the plan of a top's commit, before any answer
 abbrev pub plan_for : Path → ℕ → Root → Coord → Plan
 plan_for p req r c = record {
   path = p;

@@ -23,6 +23,7 @@ pub record Base : Type 0 where
   pub version : ℕ
   pub writer : Uid
 
+-- The copy of an object at its server: the binding under which it is active, its own value, the overlays, the deepest first, and the locks.
 pub record Copy : Type 0 where
   pub binding : Binding
   pub base : Base
@@ -38,6 +39,7 @@ abbrev pub current : Base → List Over → Value
 current base [] = base.value
 current base (e ∷ es) = e.value
 
+-- the overlay is the action's
 abbrev pub is_of : Uid → Over → Bool
 is_of u e = uid_eq (last_uid e.holder) u
 
@@ -56,6 +58,7 @@ folded u (e ∷ es) = if is_of u e then written (front e.holder) (min e.tops (le
 abbrev pub undone : Uid → List Over → List Over
 undone u es = filter (λ e. not (is_on e.holder u)) es
 
+-- the action's overlay
 abbrev pub over_of : Uid → List Over → Option Over
 over_of u es = find (is_of u) es
 
@@ -67,6 +70,7 @@ is_top_over e = nat_le (length e.holder) e.tops
 abbrev pub raised : Uid → Value → Base → Base
 raised u v base = record { value = v; version = next_version base.version; writer = u }
 
+-- a top's overlay is settled
 abbrev pub settled : Uid → Over → Copy → Copy
 settled u e c = record c { base = raised u e.value c.base; stack = filter (λ o. not (is_of u o)) c.stack }
 
@@ -100,6 +104,7 @@ is_granted x act m rows = list_any (λ r. is_row_of x act r && nat_le (mode_code
 abbrev pub rows_asked : Row → List Row → List Row
 rows_asked new rows = if is_granted new.object (last_uid new.holder) new.mode rows then rows else grant_row new rows
 
+-- the line of a lock that is granted, where the action's mode rises
 abbrev pub grant_lines : ℕ → Row → List Row → List Effect
 grant_lines n new rows =
     if is_granted new.object (last_uid new.holder) new.mode rows then []
@@ -122,6 +127,7 @@ abbrev pub ask_copy : ℕ → Path → ℕ → Op → Copy → Option Row → Se
 ask_copy n p x op c (Some r) = record { part = c; outs = []; reply = Some (invoked.Conflict (last_uid r.holder) r.mode) }
 ask_copy n p x op c None = run_copy n p x op c
 
+-- an operation is asked of the copy
 abbrev pub invoke_copy : ℕ → Path → ℕ → Op → Copy → Served Copy InvokedReply
 invoke_copy n p x op c = ask_copy n p x op c (first_conflict (uids_of p) (object x) (op_mode op) c.rows)
 

@@ -21,6 +21,7 @@ pub data Work : Type 0 where
   PutIntent : Uid → Intent → Work
   RemoveIntent : Uid → Work
 
+-- An effect of a step: a line, a message to a node, or work on the disk.
 pub data Effect : Type 0 where
   Say : Body → Effect
   Send : ℕ → Message → Effect
@@ -37,12 +38,15 @@ pub record Did (S : Type 0) : Type 0 where
   pub part : S
   pub outs : List Effect
 
+-- the part is as it was, and gives no answer
 abbrev pub void : {S R : Type 0} → S → Served S R
 void s = record { part = s; outs = []; reply = None }
 
+-- the part is as it was, and answers
 abbrev pub reply : {S R : Type 0} → S → R → Served S R
 reply s r = record { part = s; outs = []; reply = Some r }
 
+-- the part is as it was
 abbrev pub did_nothing : {S : Type 0} → S → Did S
 did_nothing s = record { part = s; outs = [] }
 
@@ -53,23 +57,28 @@ pub record Pair : Type 0 where
   pub held : List (Uid × ObjectState)
   pub pend : List (Uid × List ObjectState)
 
+-- A node's disk: its incarnation, states of objects, entries (at node 1), and the intentions records of its commits.
 pub record Disk : Type 0 where
   pub inc : ℕ
   pub store : Pair
   pub names : Pair
   pub intents : List (Uid × Intent)
 
+-- the pair of a role
 abbrev pub pair_of : Role → Disk → Pair
 pair_of role.Store d = d.store
 pair_of role.Names d = d.names
 
+-- the pair of a role is changed
 abbrev pub with_pair : Role → (Pair → Pair) → Disk → Disk
 with_pair role.Store f d = record d { store = f d.store }
 with_pair role.Names f d = record d { names = f d.names }
 
+-- the committed state
 abbrev pub held_at : Uid → Pair → Option ObjectState
 held_at u d = at_uid u d.held
 
+-- the action has something prepared
 abbrev pub is_prepared : Uid → Pair → Bool
 is_prepared act d = is_some (at_uid act d.pend)
 
@@ -91,15 +100,19 @@ abbrev pub moved_some : (Uid → Bool) → List ObjectState → List (Uid × Obj
 moved_some which [] held = held
 moved_some which (s ∷ ss) held = moved_some which ss (if which s.uid then put_uid s.uid s held else held)
 
+-- what the action has prepared
 abbrev pub new_states : Uid → Pair → List ObjectState
 new_states act d = unwrap_or (at_uid act d.pend) []
 
+-- the action has these states prepared
 abbrev pub pair_prepared : Uid → List ObjectState → Pair → Pair
 pair_prepared act states d = record d { pend = put_uid act states d.pend }
 
+-- what the action has prepared is committed
 abbrev pub pair_committed : Uid → Pair → Pair
 pair_committed act d = record { held = moved (new_states act d) d.held; pend = without_uid act d.pend }
 
+-- what the action has prepared is gone
 abbrev pub pair_aborted : Uid → Pair → Pair
 pair_aborted act d = record d { pend = without_uid act d.pend }
 
@@ -123,10 +136,12 @@ pub data Stop : Type 0 where
   After : Stop
   InPart : (Uid → Bool) → Stop
 
+-- a commit was done for these objects alone; any other work wasn't done
 abbrev pub in_part : (Uid → Bool) → Work → Disk → Disk
 in_part which (Commit r act) d = with_pair r (pair_in_part which act) d
 in_part which _ d = d
 
+-- the disk after work on which a stop fell
 abbrev pub stopped : Stop → Work → Disk → Disk
 stopped Before w d = d
 stopped After w d = worked w d
@@ -134,12 +149,14 @@ stopped (InPart which) w d = in_part which w d
 
 -- ---- what a store answers to a prepare
 
+-- Ready, or why a store doesn't prepare: it committed a state by this action; it has a later one; another action has the object prepared.
 pub data Prep : Type 0 where
   Ready : Prep
   Already : Uid → Prep
   Old : Uid → ℕ → Prep
   InDoubt : Uid → Uid → Prep
 
+-- the same state: Uid, class, version, writer and value
 abbrev pub state_eq : ObjectState → ObjectState → Bool
 state_eq s t =
     uid_eq s.uid t.uid && ((class_code_of s.class == class_code_of t.class) && ((s.version == t.version) && (uid_eq s.writer t.writer && bytes_eq s.payload t.payload)))
@@ -148,6 +165,7 @@ state_eq s t =
 abbrev pub is_old : ObjectState → ObjectState → Bool
 is_old s held = nat_lt s.version held.version || ((s.version == held.version) && not (state_eq s held))
 
+-- another action that has the object prepared refuses the state
 abbrev pub by_holder : ObjectState → Option Uid → Option Prep
 by_holder s None = None
 by_holder s (Some holder) = Some (InDoubt s.uid holder)
@@ -159,6 +177,7 @@ refusal_of act s (Some held) holder =
     if uid_eq held.writer act then Some (Already s.uid)
     else (if is_old s held then Some (Old s.uid held.version) else by_holder s holder)
 
+-- the refusal of one state by this pair
 abbrev pub refusal_in : Uid → Pair → ObjectState → Option Prep
 refusal_in act d s = refusal_of act s (held_at s.uid d) (holder_of s.uid d)
 

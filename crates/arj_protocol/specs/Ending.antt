@@ -23,12 +23,15 @@ abbrev pub say_for : (Label → Body) → Option Doing → List Effect
 say_for f None = []
 say_for f (Some d) = Say (f d.label) ∷ []
 
+-- a line about an action by its label, where the action is known
 abbrev pub says : Uid → (Label → Body) → Coord → List Effect
 says u f c = say_for f (doing_of u c)
 
+-- the message that tells a node of ends, and whether it is to acknowledge them
 abbrev pub tell : Uid → Bool → List (Uid × End) → ℕ → Effect
 tell root ack ends n = Send n (message.Told (record { root = root; ack = ack; ends = ends }))
 
+-- so each of these nodes is told
 abbrev pub tell_all : Uid → Bool → List (Uid × End) → List ℕ → List Effect
 tell_all root ack ends nodes = map (tell root ack ends) nodes
 
@@ -41,6 +44,7 @@ up_to u (e ∷ es) = if uid_eq e.0 u then e ∷ [] else e ∷ up_to u es
 abbrev pub is_member_of : Uid → ℕ → Uid × Intent → Bool
 is_member_of root n e = uid_eq e.1.root root && (not (uid_eq e.0 root) && has e.1.nodes n)
 
+-- a node isn't told of the root's end while such a record lists it
 abbrev pub is_deferred : Uid → List (Uid × Intent) → ℕ → Bool
 is_deferred root intents n = list_any (is_member_of root n) intents
 
@@ -52,15 +56,18 @@ tolds_by u kind.Nested p intents c = tell_all (root_of p) false (up_to u (ends_o
 tolds_by u kind.Serial p intents c = tell_all u false ((u, ending.Abort) ∷ []) (filter (λ n. not (is_deferred u intents n)) (nodes_sent u (root_at u c)))
 tolds_by u _ p intents c = tell_all (root_of p) false ((u, ending.Abort) ∷ []) (nodes_sent u (root_at (root_of p) c))
 
+-- the messages that tell of the end of an action that is there
 abbrev pub tolds_of_branch : Uid → List (Uid × Intent) → Coord → Option Branch → List Effect
 tolds_of_branch u intents c None = []
 tolds_of_branch u intents c (Some b) = tolds_by u b.kind b.path intents c
 
+-- the messages that tell of an action's end
 abbrev pub tolds_of : List (Uid × Intent) → Coord → Uid → List Effect
 tolds_of intents c u = tolds_of_branch u intents c (branch_of u c.tree)
 
 -- ---- ends without a commit machine
 
+-- the action has ended so, and waits for nothing
 abbrev pub ended : Uid → End → Coord → Coord
 ended u e c = on_doing u (λ (d : Doing). record d { now = Idle }) (record c { tree = ended_at u e c.tree })
 
@@ -68,6 +75,7 @@ ended u e c = on_doing u (λ (d : Doing). record d { now = Idle }) (record c { t
 abbrev pub ends_with : Uid → End → (Label → Body) → List (Uid × Intent) → Coord → Did Coord
 ends_with u e f intents c = let t = ended u e c in record { part = t; outs = says u f c ++ tolds_of intents t u }
 
+-- the action is aborted, with the cause in its line
 abbrev pub aborts_with : Uid → Cause → List (Uid × Intent) → Coord → Did Coord
 aborts_with u why intents c = ends_with u ending.Abort (λ l. body.Aborted l why) intents c
 
@@ -92,9 +100,11 @@ abbrev pub decided_told : Uid → Uid → Plan → ℕ → Effect
 decided_told root u p n =
     if has (participants p) n then tell root (has_record p) ((u, ending.Commit) ∷ []) n else tell root false ((u, ending.Abort) ∷ []) n
 
+-- the record of a decision, where it has one
 abbrev pub record_work : Uid → Plan → List Effect
 record_work u p = if has_record p then Do (PutIntent u (record { root = root_of p.path; nodes = participants p })) ∷ [] else []
 
+-- the acknowledgements of a decision with a record are awaited
 abbrev pub awaits : Uid → Plan → Coord → Coord
 awaits u p c = if has_record p then record c { telling = put_uid u (record { root = root_of p.path; nodes = participants p }) c.telling } else c
 
@@ -102,10 +112,12 @@ awaits u p c = if has_record p then record c { telling = put_uid u (record { roo
 abbrev pub list_after : Plan → ℕ → Known → Known
 list_after p x k = record k { stores = with_stores (marked x (included_of p)) (without_stores (marked x p.excluded) k.stores) }
 
+-- so it is of what is known of a binding, where one is kept
 abbrev pub kept_after : Plan → ℕ → Option Known → Option Known
 kept_after p x None = None
 kept_after p x (Some k) = Some (list_after p x k)
 
+-- so it is of what the root keeps of an object
 abbrev pub keeping_after : Plan → ℕ → Keeping → Keeping
 keeping_after p x k = record k { kept = kept_after p x k.kept }
 
@@ -114,9 +126,11 @@ abbrev pub states_after : List ObjectState → List (ℕ × ObjectState) → Lis
 states_after [] states = states
 states_after (s ∷ ss) states = states_after ss (put_number s.uid.num s states)
 
+-- what the root keeps after the decision: its lists of stores, and the states that were prepared
 abbrev pub root_after : Plan → Root → Root
 root_after p r = record r { keeping = each (keeping_after p) r.keeping; states = states_after p.changed r.states }
 
+-- the coordinator after the decision
 abbrev pub decided : Uid → Plan → Coord → Coord
 decided u p c =
     awaits u p (on_root (root_of p.path) (root_after p) (on_doing u (λ (d : Doing). record d { took = participants p }) (ended u ending.Commit c)))
@@ -130,6 +144,7 @@ decide p c = record {
 
 -- ---- acknowledgements
 
+-- an action that is there has ended
 abbrev pub is_over : Option Branch → Bool
 is_over None = false
 is_over (Some b) = is_some b.ended
@@ -153,6 +168,7 @@ acked_left u i intents c [] = record {
 }
 acked_left u i intents c (n ∷ ns) = record { part = record c { telling = put_uid u (record i { nodes = n ∷ ns }) c.telling }; outs = []; reply = Some tt }
 
+-- a node that the record lists acknowledged; of any other the message is void
 abbrev pub acked_by : ℕ → Uid → List (Uid × Intent) → Coord → Option Intent → Served Coord (Unit {0})
 acked_by from u intents c None = record { part = c; outs = []; reply = None }
 acked_by from u intents c (Some i) =
@@ -169,6 +185,7 @@ abbrev pub root_or_self : Uid → Option Branch → Uid
 root_or_self u None = u
 root_or_self u (Some b) = root_of b.path
 
+-- the node took part in the action's commit
 abbrev pub took_part : ℕ → Option Doing → Bool
 took_part n None = false
 took_part n (Some d) = has d.took n
@@ -177,6 +194,7 @@ took_part n (Some d) = has d.took n
 abbrev pub is_kept_commit : ℕ → Uid → Coord → Bool
 is_kept_commit from u c = is_kept_top u c && (is_open (root_or_self u (branch_of u c.tree)) c.tree && took_part from (doing_of u c))
 
+-- a kept constituent's commit is told, and else an abort
 abbrev pub answer_decided : ℕ → Uid → Coord → List Effect
 answer_decided from u c =
     if is_kept_commit from u c then tell (root_or_self u (branch_of u c.tree)) false ((u, ending.Commit) ∷ []) from ∷ []

@@ -36,13 +36,16 @@ pub record FitsPath (h : Holders) (p : Path) : Type 0 where
   pub actor_is : IsPathOf h (actor p) (uids_of p) (tops_of p)
   pub top_is : IsPathOf h (top_of p) (top_path p) (tops_of p)
 
+-- what a told says is of actions
 abbrev pub FitsOther : Message → Type 0
 FitsOther (message.Told m) = AreOfActions m.ends
 FitsOther _ = ⊤
 
+-- a request is by a path that fits
 abbrev pub FitsHead : Holders → Head → Type 0
 FitsHead h hd = FitsPath h hd.path
 
+-- a request fits by its path and its ends, any other message by what it tells
 abbrev pub FitsAsked : Holders → Message → Option (Head × Ask) → Type 0
 FitsAsked h m None = FitsOther m
 FitsAsked h m (Some a) = FitsHead h a.0 × AreOfActions (ends_in a.1)
@@ -56,14 +59,17 @@ abbrev pub FitRounds : Holders → ℕ → ℕ → Ran → Type 0
 FitRounds h n zero r = ⊤
 FitRounds h n (suc k) r = AllByRecursion (Fits h) r.queue × FitRounds h n k (next_round n r)
 
+-- so each message that the handling of one leads to
 abbrev pub FitsHandled : Holders → ℕ → Disk → Handled → Type 0
 FitsHandled h n d (Void outs) = ⊤
 FitsHandled h n d (Took v outs) = FitRounds h n most_rounds (ran n v outs d)
 
+-- so a frame with a message, and each that it leads to
 abbrev pub FitsFrame : Holders → Node → Parts → ℕ → Option Message → Type 0
 FitsFrame h n t from None = ⊤
 FitsFrame h n t from (Some m) = Fits h m × FitsHandled h n.number n.disk (taken n.number n.disk t from m)
 
+-- so each message that what the coordinator did leads to
 abbrev pub FitsDid : Holders → Node → Parts → Coord → List Effect → Type 0
 FitsDid h n t c outs = FitRounds h n.number most_rounds (ran n.number (with_coord t c) outs n.disk)
 

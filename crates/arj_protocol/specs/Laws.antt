@@ -34,10 +34,12 @@ abbrev pub effects_until : ℕ → Node → Step → Option Arm → List Effect
 effects_until k n s None = s.outs
 effects_until k n s (Some a) = if nat_lt (count_works s.halting) a.works then s.outs else halted_outs k (cut (a.works - 1) a.how s.halting n.disk)
 
+-- what a node that is there does with an input
 abbrev pub effects_of_node : ℕ → Input → World → Option Node → List Effect
 effects_of_node k i w None = []
 effects_of_node k i w (Some n) = effects_until k n (step w.header n i) (at_number k w.arms)
 
+-- what the node of this number does with an input
 abbrev pub effects_of : ℕ → Input → World → List Effect
 effects_of k i w = effects_of_node k i w (at_place k w.nodes)
 
@@ -61,6 +63,7 @@ pub record Holders : Type 0 where
   pub path : Uid → List Uid
   pub tops : Uid → ℕ
 
+-- the same part of a node
 abbrev pub same_part : Part → Part → Bool
 same_part part.Naming part.Naming = true
 same_part part.Server part.Server = true
@@ -88,6 +91,7 @@ rows_after h n p o (Say b ∷ es) rows = rows_after h n p o es (rows_by h n p o 
 rows_after h n p o (Send to m ∷ es) rows = rows_after h n p o es rows
 rows_after h n p o (Do w ∷ es) rows = rows_after h n p o es rows
 
+-- the locks of a copy that is there
 abbrev pub rows_in_copy : Option Copy → List Row
 rows_in_copy None = []
 rows_in_copy (Some c) = c.rows
@@ -96,6 +100,7 @@ rows_in_copy (Some c) = c.rows
 abbrev pub server_rows : ℕ → Server → List Row
 server_rows x s = rows_in_copy (at_number x s.objects)
 
+-- the locks of an entry that naming has
 abbrev pub rows_in_named : Option Named → List Row
 rows_in_named None = []
 rows_in_named (Some o) = o.rows
@@ -108,6 +113,7 @@ naming_rows x n = rows_in_named (at_number x n.objects)
 abbrev pub ServerTable : Holders → ℕ → ℕ → Server → List Effect → Server → Type 0
 ServerTable h n x s outs t = server_rows x t ≡ rows_after h n part.Server (object x) outs (server_rows x s)
 
+-- so it is of naming's locks on the entry of object x
 abbrev pub NamingTable : Holders → ℕ → Naming → List Effect → Naming → Type 0
 NamingTable h x n outs t = naming_rows x t ≡ rows_after h 1 part.Naming (entry x) outs (naming_rows x n)
 
@@ -143,6 +149,7 @@ pub record UnknownToServer (u : Uid) (s : Server) : Type 0 where
   pub kept : at_uid u s.kept ≡ None
   pub voted : is_on s.voted u ≡ false
 
+-- naming knows nothing of the action
 pub record UnknownToNaming (u : Uid) (n : Naming) : Type 0 where
   pub objects : AllByRecursion (λ (e : ℕ × Named). UnknownToNamed u e.1) n.objects
   pub confirmed : is_on n.confirmed u ≡ false
@@ -154,6 +161,7 @@ pub record OnlyEnds (s t : Server) : Type 0 where
   pub kept : t.kept ≡ s.kept
   pub voted : t.voted ≡ s.voted
 
+-- Nothing but the set of actions whose end naming was told is changed.
 pub record OnlyTold (n t : Naming) : Type 0 where
   pub inc : t.inc ≡ n.inc
   pub count : t.count ≡ n.count
@@ -166,14 +174,17 @@ pub record OnlyTold (n t : Naming) : Type 0 where
 abbrev pub LeavesCopy : ℕ → Server → Server → Type 0
 LeavesCopy x s t = at_number x t.objects ≡ at_number x s.objects
 
+-- so is the object's part of naming
 abbrev pub LeavesNamed : ℕ → Naming → Naming → Type 0
 LeavesNamed x n m = at_number x m.objects ≡ at_number x n.objects
 
+-- and where there is naming before there is after
 abbrev pub LeavesNaming : ℕ → Option Naming → Option Naming → Type 0
 LeavesNaming x None None = ⊤
 LeavesNaming x (Some n) (Some m) = LeavesNamed x n m
 LeavesNaming x _ _ = ⊥
 
+-- the object is at both parts as it was
 pub record LeavesParts (x : ℕ) (t v : Parts) : Type 0 where
   pub server : LeavesCopy x t.server v.server
   pub naming : LeavesNaming x t.naming v.naming
@@ -183,6 +194,7 @@ abbrev pub LeavesObject : ℕ → Parts → Handled → Type 0
 LeavesObject x t (Void outs) = ⊤
 LeavesObject x t (Took v outs) = LeavesParts x t v
 
+-- a grant on the object is named
 abbrev pub names_grant : ℕ → List (ℕ × ℕ) → Bool
 names_grant x grants = list_any (λ (g : ℕ × ℕ). g.0 == x) grants
 
@@ -203,9 +215,11 @@ other_speaks (message.Told m) = true
 other_speaks (message.Hello m) = true
 other_speaks _ = false
 
+-- a request speaks of the objects that it names, any other message as above
 abbrev pub asked_speaks : ℕ → Message → Option (Head × Ask) → Bool
 asked_speaks x m None = other_speaks m
 asked_speaks x m (Some a) = ask_speaks x a.1
 
+-- the message speaks of the object
 abbrev pub speaks : ℕ → Message → Bool
 speaks x m = asked_speaks x m (asks m)

@@ -17,6 +17,7 @@ use Rattle.arj_protocol.specs.Copy.{holds}
 use Rattle.arj_protocol.specs.Named.{Named, Counted, bind_named, note_named, end_named, hello_named}
 use Rattle.arj_protocol.specs.Server.{row_top}
 
+-- Naming's memory: its incarnation, the count of bindings that it made, its objects, the tops that it confirmed, and the ends that it was told.
 pub record Naming : Type 0 where
   pub inc : ℕ
   pub count : ℕ
@@ -29,6 +30,7 @@ abbrev pub entry_of : Option ObjectState → Entry
 entry_of None = record { servers = []; stores = [] }
 entry_of (Some s) = state_entry s
 
+-- the committed entry of an object, which lists nobody where there is none
 abbrev pub listed_entry : ℕ → Pair → Entry
 listed_entry x d = entry_of (held_at (entry x) d)
 
@@ -43,12 +45,14 @@ on_counted x f n (Some o) =
     let r = f (record { named = o; count = n.count }) in
     record { part = record n { count = r.part.count; objects = put_number x r.part.named n.objects }; outs = r.outs; reply = r.reply }
 
+-- a call on one object that makes no binding, put back
 abbrev pub on_named : {R : Type 0} → ℕ → (Named → Served Named R) → Naming → Option Named → Served Naming R
 on_named x f n None = void n
 on_named x f n (Some o) =
     let r = f o in
     record { part = record n { objects = put_number x r.part n.objects }; outs = r.outs; reply = r.reply }
 
+-- a Bind is void where the path has ended, or naming hasn't the object
 abbrev pub bind : Path → ℕ → Bool → Binding → Pair → Naming → Served Naming BoundReply
 bind p x include avoid d n =
     if is_over p n then void n
@@ -63,6 +67,7 @@ note p x b i g n =
 
 -- ---- told
 
+-- the action, or one below it, holds a lock on an entry
 abbrev pub has_locks : Uid → Naming → Bool
 has_locks u n = list_any (λ (e : ℕ × Named). holds u e.1.rows) n.objects
 
@@ -80,6 +85,7 @@ end_entries u ending.Abort = Do (Abort role.Names u) ∷ Say (body.Done 1 u role
 abbrev pub loses : Uid → Uid → Row → Bool
 loses u act r = is_held_by act r && is_on r.holder u
 
+-- the other one holds a row that the end of the action drops
 abbrev pub loses_row : Uid → Uid → Naming → Bool
 loses_row u act n = list_any (λ (e : ℕ × Named). list_any (loses u act) e.1.rows) n.objects
 
@@ -87,19 +93,24 @@ loses_row u act n = list_any (λ (e : ℕ × Named). list_any (loses u act) e.1.
 abbrev pub orphans : Uid → Pair → Naming → List Uid
 orphans u d n = filter (λ act. not (uid_eq act u) && loses_row u act n) (map (λ (p : Uid × List ObjectState). p.0) d.pend)
 
+-- what such others have prepared is aborted with the action
 abbrev pub end_orphans : Uid → End → Pair → Naming → List Effect
 end_orphans u ending.Commit d n = []
 end_orphans u ending.Abort d n = flat_map (λ act. end_entries act ending.Abort) (orphans u d n)
 
+-- the line that naming was told of an end, where it drops or passes a lock
 abbrev pub end_lines : Uid → End → Naming → List Effect
 end_lines u e n = if has_locks u n then Say (body.Told 1 u e part.Naming) ∷ [] else []
 
+-- locks pass on or go, and the end is known from now on
 abbrev pub end_locks : Uid → End → Naming → Naming
 end_locks u e n = record n { objects = each (λ x. end_named u e) n.objects; confirmed = drop_uid u n.confirmed; told = with_uid u n.told }
 
+-- the entries that the action has prepared end
 abbrev pub own_entries : Uid → End → Pair → List Effect
 own_entries u e d = if is_prepared u d then end_entries u e else []
 
+-- an end that is new
 abbrev pub told_new : Uid → End → Pair → Naming → Did Naming
 told_new u e d n = record { part = end_locks u e n; outs = end_orphans u e d n ++ end_lines u e n }
 
@@ -111,6 +122,7 @@ told u e d n =
 
 -- ---- hello
 
+-- a node is up again: its live bindings of earlier incarnations are dropped
 abbrev pub hello : ℕ → ℕ → Naming → Naming
 hello node inc n = record n { objects = each (λ x. hello_named node inc) n.objects }
 

@@ -42,15 +42,19 @@ abbrev pub sends_answer : ℕ → Head → Parts → List Effect → Option Repl
 sends_answer from h t outs None = Void []
 sends_answer from h t outs (Some r) = Took t (outs ++ Send from (response (asked_by h) r) ∷ [])
 
+-- a part's call for a request, as what the node makes of the message
 abbrev pub served : {S R : Type 0} → ℕ → Head → (S → Parts) → (R → Reply) → Served S R → Handled
 served from h put say r = sends_answer from h (put r.part) r.outs (option_map say r.reply)
 
+-- the server part is this now
 abbrev pub with_server : Parts → Server → Parts
 with_server t s = record t { server = s }
 
+-- the naming part is this now
 abbrev pub with_naming : Parts → Naming → Parts
 with_naming t n = record t { naming = Some n }
 
+-- the coordinator is this now
 abbrev pub with_coord : Parts → Coord → Parts
 with_coord t c = record t { coord = c }
 
@@ -64,6 +68,7 @@ abbrev pub load_held : ℕ → Head → Parts → Option ObjectState → Handled
 load_held from h t None = Void (Do Look ∷ [])
 load_held from h t (Some s) = sends_answer from h t (Do Look ∷ []) (Some (Reply.Loaded (loaded.State s)))
 
+-- a Load is answered by the holder that is in doubt, or by the committed state
 abbrev pub load_by : ℕ → Pair → ℕ → Head → Parts → Option Uid → Handled
 load_by x d from h t (Some holder) = sends_answer from h t [] (Some (Reply.Loaded (loaded.InDoubt holder)))
 load_by x d from h t None = load_held from h t (held_at (object x) d)
@@ -100,13 +105,16 @@ abbrev pub end_states : ℕ → Uid → End → List Effect
 end_states n u ending.Commit = Do (Commit role.Store u) ∷ Say (body.Done n u role.Store ending.Commit) ∷ []
 end_states n u ending.Abort = Do (Abort role.Store u) ∷ Say (body.Done n u role.Store ending.Abort) ∷ []
 
+-- a store ends what it has prepared of the action, if anything
 abbrev pub store_told : ℕ → Uid → End → Pair → List Effect
 store_told n u e d = if is_prepared u d then end_states n u e else []
 
+-- naming takes the end of an action, at node 1
 abbrev pub naming_told : Uid → End → Pair → Option Naming → Did (Option Naming)
 naming_told u e d None = did_nothing None
 naming_told u e d (Some n) = let t = naming.told u e d n in record { part = Some t.part; outs = t.outs }
 
+-- the acknowledgement, where it is asked for
 abbrev pub ack_told : ℕ → Uid → Bool → List Effect
 ack_told from u ack = if ack then Send from (message.Acked (record { act = u })) ∷ [] else []
 
@@ -124,9 +132,11 @@ handle_ends n d t from ack ends (Some e) = handle_told n d t from ack ends e.0 e
 
 -- ---- who is asked about
 
+-- the actions that have something prepared in this pair
 abbrev pub prepared_actions : Pair → List Uid
 prepared_actions d = map (λ (p : Uid × List ObjectState). p.0) d.pend
 
+-- the actions that hold locks at naming, at node 1
 abbrev pub locks_of : Option Naming → List Uid
 locks_of None = []
 locks_of (Some n) = naming_holders n
@@ -135,12 +145,15 @@ locks_of (Some n) = naming_holders n
 abbrev pub holders : Disk → Parts → List Uid
 holders d t = uid_set (server_holders t.server ++ locks_of t.naming ++ prepared_actions d.store ++ prepared_actions d.names)
 
+-- the question to the node of the action how it ended
 abbrev pub query_about : Uid → Effect
 query_about u = Send u.node (message.Query (record { act = u }))
 
+-- an action of an earlier incarnation of the node
 abbrev pub is_earlier : ℕ → ℕ → Uid → Bool
 is_earlier node inc u = (u.node == node) && nat_lt u.inc inc
 
+-- naming hears that the node is up again, at node 1
 abbrev pub naming_hello : ℕ → ℕ → Option Naming → Option Naming
 naming_hello node inc None = None
 naming_hello node inc (Some n) = Some (naming.hello node inc n)
@@ -156,9 +169,11 @@ abbrev pub by_reply : Parts → List Effect → Option (Unit {0}) → Handled
 by_reply t outs None = Void []
 by_reply t outs (Some u) = Took t outs
 
+-- what the coordinator made of a message, void or not
 abbrev pub coord_heard : Parts → Served Coord (Unit {0}) → Handled
 coord_heard t r = by_reply (with_coord t r.part) r.outs r.reply
 
+-- messages that are neither requests nor answers
 abbrev pub handle_other : ℕ → Disk → Parts → ℕ → Message → Handled
 handle_other n d t from (message.Told m) = handle_ends n d t from m.ack m.ends (last_end m.ends)
 handle_other n d t from (message.Acked m) = coord_heard t (acked from m.act d.intents t.coord)
@@ -166,14 +181,17 @@ handle_other n d t from (message.Query m) = Took t (answer_query from m.act d.in
 handle_other n d t from (message.Hello m) = handle_hello d t m.node m.inc
 handle_other n d t from m = Void []
 
+-- an answer goes to the coordinator
 abbrev pub handle_answer : ℕ → Disk → Parts → ℕ → Message → Option (Asked × Reply) → Handled
 handle_answer n d t from m None = handle_other n d t from m
 handle_answer n d t from m (Some a) = coord_heard t (heard from a.0 a.1 d.intents t.coord)
 
+-- a request is served
 abbrev pub handle_ask : ℕ → Disk → Parts → ℕ → Message → Option (Head × Ask) → Handled
 handle_ask n d t from m None = handle_answer n d t from m (answers m)
 handle_ask n d t from m (Some a) = serve n d t from a.0 a.1
 
+-- what a node makes of a message, whatever it says
 abbrev pub handle : ℕ → Disk → Parts → ℕ → Message → Handled
 handle n d t from m = handle_ask n d t from m (asks m)
 
@@ -211,18 +229,22 @@ abbrev pub is_loaded_in : ObjectState → Now → Bool
 is_loaded_in st (Calling s) = uid_eq st.uid (object s.x)
 is_loaded_in st _ = true
 
+-- an action whose doing is known takes the state as that of its object
 abbrev pub is_loaded_for : ObjectState → Option Doing → Bool
 is_loaded_for st None = true
 is_loaded_for st (Some d) = is_loaded_in st d.now
 
+-- an answer can be meant: a loaded state is of the object for which it waits
 abbrev pub reply_is_meant : Coord → Asked → Reply → Bool
 reply_is_meant c a (Reply.Loaded (loaded.State st)) = is_loaded_for st (doing_of a.act c)
 reply_is_meant c a _ = true
 
+-- a request can be meant, and what is no request too
 abbrev pub asked_is_meant : Server → Option (Head × Ask) → Bool
 asked_is_meant s None = true
 asked_is_meant s (Some a) = ask_is_meant s a.1
 
+-- an answer can be meant, and what is no answer too
 abbrev pub answer_is_meant : Coord → Option (Asked × Reply) → Bool
 answer_is_meant c None = true
 answer_is_meant c (Some a) = reply_is_meant c a.0 a.1
@@ -248,9 +270,11 @@ pub record Ran : Type 0 where
   pub outs : List Effect
   pub queue : List Message
 
+-- the effect was done before
 abbrev pub first_done : Effect → Ran → Ran
 first_done e r = record r { outs = e ∷ r.outs }
 
+-- the message waits before the others
 abbrev pub first_queued : Message → Ran → Ran
 first_queued m r = record r { queue = m ∷ r.queue }
 
@@ -261,6 +285,7 @@ ran n t (Say b ∷ es) d = first_done (Say b) (ran n t es d)
 ran n t (Do w ∷ es) d = first_done (Do w) (ran n t es (worked w d))
 ran n t (Send to m ∷ es) d = let r = ran n t es d in if to == n then first_queued m r else first_done (Send to m) r
 
+-- what a message led to, done on the disk and queued
 abbrev pub ran_handled : ℕ → Here → Handled → Ran
 ran_handled n h (Void outs) = ran n h.parts outs h.disk
 ran_handled n h (Took t outs) = ran n t outs h.disk
@@ -273,6 +298,7 @@ handle_all n (m ∷ ms) h =
     let t = handle_all n ms r.here in
     record { here = t.here; outs = r.outs ++ t.outs; queue = r.queue ++ t.queue }
 
+-- all messages that wait are handled; what they lead to waits for the next round
 abbrev pub next_round : ℕ → Ran → Ran
 next_round n r =
     let t = handle_all n r.queue r.here in
@@ -284,6 +310,7 @@ abbrev pub rounds : ℕ → ℕ → Ran → Ran
 rounds n zero r = r
 rounds n (suc k) r = elim r.queue [ [] ↦ r | m ∷ ms ↦ rounds n k (next_round n r) ]
 
+-- as many rounds are there at most
 abbrev pub most_rounds : ℕ
 most_rounds = 24
 

@@ -21,9 +21,11 @@ uid_number u = as_one u.node (as_one u.inc u.num)
 abbrev pub binding_number : Binding → ℕ
 binding_number b = b.inc * 4294967296 + b.count
 
+-- the same binding
 abbrev pub binding_eq : Binding → Binding → Bool
 binding_eq b c = binding_number b == binding_number c
 
+-- the binding was made earlier
 abbrev pub binding_less : Binding → Binding → Bool
 binding_less b c = nat_lt (binding_number b) (binding_number c)
 
@@ -35,6 +37,7 @@ unbound = record { inc = 0; count = 0 }
 abbrev pub lesser_binding : Binding → Binding → Binding
 lesser_binding b c = if binding_less c b then c else b
 
+-- of two bindings the later one
 abbrev pub greater_binding : Binding → Binding → Binding
 greater_binding b c = if binding_less c b then b else c
 
@@ -44,9 +47,11 @@ next_version v = min (v + 1) 18446744073709551615
 
 -- ---- maps by number
 
+-- what the map has under a number
 abbrev pub at_number : {X : Type 0} → ℕ → List (ℕ × X) → Option X
 at_number k m = lookup (is_at (nat_cmp k)) m
 
+-- the map has this under a number
 abbrev pub put_number : {X : Type 0} → ℕ → X → List (ℕ × X) → List (ℕ × X)
 put_number k v m = insert_entry nat_cmp m k v
 
@@ -56,18 +61,23 @@ each {X} f m = map {A = ℕ × X} {B = ℕ × X} (λ e. (e.0, f e.0 e.1)) m
 
 -- ---- maps and sets by Uid
 
+-- what the map has under a Uid
 abbrev pub at_uid : {X : Type 0} → Uid → List (Uid × X) → Option X
 at_uid u m = lookup (is_at (uid_order u)) m
 
+-- the map has this under a Uid
 abbrev pub put_uid : {X : Type 0} → Uid → X → List (Uid × X) → List (Uid × X)
 put_uid u v m = insert_entry uid_order m u v
 
+-- the map has nothing under the Uid
 abbrev pub without_uid : {X : Type 0} → Uid → List (Uid × X) → List (Uid × X)
 without_uid u m = remove_entry (is_at (uid_order u)) m
 
+-- the Uid is in the set, in its order
 abbrev pub with_uid : Uid → List Uid → List Uid
 with_uid u us = insert_key uid_order us u
 
+-- the Uid isn't in the set
 abbrev pub drop_uid : Uid → List Uid → List Uid
 drop_uid u us = filter (λ w. not (uid_eq w u)) us
 
@@ -78,9 +88,11 @@ uid_set (u ∷ us) = with_uid u (uid_set us)
 
 -- ---- sets of numbers, as of nodes
 
+-- the number is in the list
 abbrev pub has : List ℕ → ℕ → Bool
 has ns n = list_any (λ m. m == n) ns
 
+-- the number is in the set, in its order
 abbrev pub with_number : ℕ → List ℕ → List ℕ
 with_number n ns = insert_key nat_cmp ns n
 
@@ -89,5 +101,6 @@ abbrev pub number_set : List ℕ → List ℕ
 number_set [] = []
 number_set (n ∷ ns) = with_number n (number_set ns)
 
+-- the number isn't in the list
 abbrev pub without_number : ℕ → List ℕ → List ℕ
 without_number n ns = filter (λ m. not (m == n)) ns

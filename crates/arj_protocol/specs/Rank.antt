@@ -9,6 +9,7 @@ abbrev pub told_rank : Bool → ℕ
 told_rank true = 18
 told_rank false = 20
 
+-- how far on in the protocol a message stands
 abbrev pub rank : Message → ℕ
 rank (message.Hello m) = 0
 rank (message.Query m) = 1

@@ -7,25 +7,30 @@ use Rattle.arj_protocol.specs.Words.part
 use Rattle.arj_protocol.specs.Words.role
 use Rattle.arj_protocol.specs.Effect.{Effect, Say, Send, Do, Work, Look, Prepare, Commit, Abort, PutIntent, RemoveIntent}
 
--- the Uid is that of an object, or of an entry
+-- the Uid is that of an object
 abbrev pub is_object : Uid → Bool
 is_object u = (u.node == 0) && (u.inc == 0)
 
+-- the Uid is that of an entry
 abbrev pub is_entry : Uid → Bool
 is_entry u = (u.node == 0) && (u.inc == 1)
 
+-- the server part
 abbrev pub is_server : Part → Bool
 is_server part.Server = true
 is_server part.Naming = false
 
+-- the naming part
 abbrev pub is_naming : Part → Bool
 is_naming part.Naming = true
 is_naming part.Server = false
 
+-- the role of naming's entries
 abbrev pub is_names : Role → Bool
 is_names role.Names = true
 is_names role.Store = false
 
+-- the role of the store's states
 abbrev pub is_store : Role → Bool
 is_store role.Store = true
 is_store role.Names = false
@@ -37,6 +42,7 @@ is_server_line n (body.Active m x b) = m == n
 is_server_line n (body.Told m u e p) = (m == n) && is_server p
 is_server_line n _ = false
 
+-- an effect of a server
 abbrev pub is_server_effect : ℕ → Effect → Bool
 is_server_effect n (Say b) = is_server_line n b
 is_server_effect n (Send to m) = false
@@ -52,6 +58,7 @@ is_naming_line (body.Prepared m u r) = (m == 1) && is_names r
 is_naming_line (body.Done m u r e) = (m == 1) && is_names r
 is_naming_line _ = false
 
+-- work on entries
 abbrev pub is_names_work : Work → Bool
 is_names_work Look = true
 is_names_work (Prepare r u states) = is_names r
@@ -59,6 +66,7 @@ is_names_work (Commit r u) = is_names r
 is_names_work (Abort r u) = is_names r
 is_names_work _ = false
 
+-- an effect of naming
 abbrev pub is_naming_effect : Effect → Bool
 is_naming_effect (Say b) = is_naming_line b
 is_naming_effect (Send to m) = false
@@ -86,11 +94,13 @@ is_coord_line (body.GaveUp l n) = true
 is_coord_line (body.Excluded l x s) = true
 is_coord_line _ = false
 
+-- work on intentions records
 abbrev pub is_intent_work : Work → Bool
 is_intent_work (PutIntent u i) = true
 is_intent_work (RemoveIntent u) = true
 is_intent_work _ = false
 
+-- an effect of a coordinator
 abbrev pub is_coord_effect : Effect → Bool
 is_coord_effect (Say b) = is_coord_line b
 is_coord_effect (Send to m) = true

@@ -19,6 +19,7 @@ pub record Kept : Type 0 where
   pub req : ℕ
   pub answer : InvokedReply
 
+-- A server's memory: its incarnation, its copies by object, each action's last request, the ends that it was told, and the tops that it voted for.
 pub record Server : Type 0 where
   pub inc : ℕ
   pub objects : List (ℕ × Copy)
@@ -30,6 +31,7 @@ pub record Server : Type 0 where
 abbrev pub new_server : ℕ → Server
 new_server inc = record { inc = inc; objects = []; kept = []; ends = []; voted = [] }
 
+-- the server was told of the action's end
 abbrev pub is_told : Uid → Server → Bool
 is_told u s = is_some (at_uid u s.ends)
 
@@ -37,6 +39,7 @@ is_told u s = is_some (at_uid u s.ends)
 abbrev pub has_ended : Path → Server → Bool
 has_ended p s = list_any (λ u. is_told u s) (uids_of p)
 
+-- the binding of a copy, 0.0 where there is none
 abbrev pub binding_of : Option Copy → Binding
 binding_of None = unbound
 binding_of (Some c) = c.binding
@@ -47,6 +50,7 @@ active_binding x s = binding_of (at_number x s.objects)
 
 -- ---- activate
 
+-- the copy is active under this binding, with a line
 abbrev pub took_copy : ℕ → ℕ → Binding → ObjectState → Server → Served Server ℕ
 took_copy n x b st s = record {
   part = record s { objects = put_number x (taken_copy b st) s.objects };
@@ -62,9 +66,11 @@ activate n p b st s =
 
 -- ---- what differs from a request
 
+-- the incarnations differ
 abbrev pub other_inc : ℕ → ℕ → Option What
 other_inc had now = if had == now then None else Some (what.Inc had now)
 
+-- the bindings differ
 abbrev pub other_binding : Binding → Binding → Option What
 other_binding had now = if binding_eq had now then None else Some (what.Bind had now)
 
@@ -83,6 +89,7 @@ changed_by i x b s = either (other_inc i s.inc) (changed_copy b (at_number x s.o
 abbrev pub is_top : Uid → Server → Bool
 is_top u s = list_any (λ (e : ℕ × Copy). is_top_in u e.1.rows) s.objects
 
+-- the action, or one below it, holds a lock at the server
 abbrev pub has_locks : Uid → Server → Bool
 has_locks u s = list_any (λ (e : ℕ × Copy). holds u e.1.rows) s.objects
 
@@ -91,9 +98,11 @@ abbrev pub taken_end : Uid → End → Server → End
 taken_end u ending.Abort s = ending.Abort
 taken_end u ending.Commit s = if is_top u s && not (is_on s.voted u) then ending.Abort else ending.Commit
 
+-- the line that the server was told of an end, where it drops or passes a lock
 abbrev pub end_lines : ℕ → Uid → End → Server → List Effect
 end_lines n u e s = if has_locks u s then Say (body.Told n u e part.Server) ∷ [] else []
 
+-- an end that is new: locks and overlays pass on or go, and the answer kept for the action is forgotten
 abbrev pub end_new : ℕ → Uid → End → Server → Did Server
 end_new n u e s = record {
   part = record s { objects = each (λ x. end_copy u e) s.objects; kept = without_uid u s.kept; ends = put_uid u e s.ends; voted = drop_uid u s.voted };
@@ -128,6 +137,7 @@ abbrev pub on_copy : ℕ → (Copy → Served Copy InvokedReply) → Server → 
 on_copy x f s None = reply s (invoked.Changed (what.Bind unbound unbound))
 on_copy x f s (Some c) = let r = f c in record { part = record s { objects = put_number x r.part s.objects }; outs = r.outs; reply = r.reply }
 
+-- the answer is kept with its request
 abbrev pub kept_after : Head → Served Server InvokedReply → Served Server InvokedReply
 kept_after h r = record { part = keeps (actor h.path) h.req r.reply r.part; outs = r.outs; reply = r.reply }
 
@@ -147,10 +157,12 @@ abbrev pub invoke_kept : ℕ → Head → ℕ → List (Uid × End) → Op → S
 invoke_kept n h x ends op s None = invoke_new n h x ends op s
 invoke_kept n h x ends op s (Some k) = if k.req == h.req then reply s k.answer else invoke_new n h x ends op s
 
+-- what differs is answered; else the request is run, or answered by what was kept
 abbrev pub invoke_now : ℕ → Head → ℕ → List (Uid × End) → Op → Server → Option What → Served Server InvokedReply
 invoke_now n h x ends op s (Some w) = reply s (invoked.Changed w)
 invoke_now n h x ends op s None = invoke_kept n h x ends op s (at_uid (actor h.path) s.kept)
 
+-- a later request of the action was run
 abbrev pub is_below : ℕ → Option Kept → Bool
 is_below req None = false
 is_below req (Some k) = nat_lt req k.req
@@ -172,12 +184,14 @@ first_unbound (t ∷ ts) s = either (changed_copy t.1 (at_number t.0 s.objects))
 abbrev pub changed_states : Uid → Server → List ObjectState
 changed_states top s = filter_map (λ (e : ℕ × Copy). changed_state top e.0 e.1) s.objects
 
+-- the ends that are new are applied, and the states that the top changed are given
 abbrev pub vote_yes : ℕ → Uid → List (Uid × End) → Server → Served Server VotedReply
 vote_yes n top ends s =
     let d = apply_ends n ends s in
     let t = d.part in
     record { part = record t { voted = with_uid top t.voted }; outs = d.outs; reply = Some (voted.Yes (changed_states top t)) }
 
+-- what differs is answered; else the vote is Yes
 abbrev pub vote_now : ℕ → Uid → List (Uid × End) → Server → Option What → Served Server VotedReply
 vote_now n top ends s (Some w) = reply s (voted.Changed w)
 vote_now n top ends s None = vote_yes n top ends s
@@ -192,5 +206,6 @@ vote n p i ties ends s = if has_ended p s then void s else vote_now n (actor p) 
 abbrev pub row_top : Row → Uid
 row_top r = top_uid r.tops r.holder
 
+-- the tops of all who hold locks on objects
 abbrev pub server_holders : Server → List Uid
 server_holders s = flat_map (λ (e : ℕ × Copy). map row_top e.1.rows) s.objects

@@ -12,9 +12,11 @@ use Rattle.arj_protocol.specs.Ask.{actor}
 abbrev pub most_actions : ℕ
 most_actions = 64
 
+-- as many objects may a root use
 abbrev pub most_objects : ℕ
 most_objects = 16
 
+-- as many actions may a path have
 abbrev pub longest_path : ℕ
 longest_path = 16
 
@@ -31,12 +33,14 @@ pub record Family : Type 0 where
   pub actions : ℕ
   pub objects : List ℕ
 
+-- The actions of a node in one incarnation, and what each root has, by the number of the root.
 pub record Tree : Type 0 where
   pub node : ℕ
   pub inc : ℕ
   pub branches : List Branch
   pub families : List (ℕ × Family)
 
+-- no action was begun
 abbrev pub new_tree : ℕ → ℕ → Tree
 new_tree node inc = record { node = node; inc = inc; branches = []; families = [] }
 
@@ -58,20 +62,25 @@ is_own u t = (u.node == t.node) && (u.inc == t.inc)
 abbrev pub branch_of : Uid → Tree → Option Branch
 branch_of u t = if is_own u t then at_place u.num t.branches else None
 
+-- an action that is there and hasn't ended
 abbrev pub is_open_branch : Option Branch → Bool
 is_open_branch None = false
 is_open_branch (Some b) = not (is_some b.ended)
 
+-- the action is one of this incarnation and hasn't ended
 abbrev pub is_open : Uid → Tree → Bool
 is_open u t = is_open_branch (branch_of u t)
 
+-- an action that is there can't commit any more
 abbrev pub is_doomed_branch : Option Branch → Bool
 is_doomed_branch None = false
 is_doomed_branch (Some b) = b.doomed
 
+-- the action can't commit any more
 abbrev pub is_doomed : Uid → Tree → Bool
 is_doomed u t = is_doomed_branch (branch_of u t)
 
+-- it ended so
 abbrev pub has_end : End → Option End → Bool
 has_end ending.Abort (Some ending.Abort) = true
 has_end ending.Commit (Some ending.Commit) = true
@@ -82,24 +91,31 @@ abbrev pub ended_so : End → Option Branch → Bool
 ended_so e None = false
 ended_so e (Some b) = has_end e b.ended
 
+-- the action was committed
 abbrev pub is_committed : Uid → Tree → Bool
 is_committed u t = ended_so ending.Commit (branch_of u t)
 
+-- the action was aborted
 abbrev pub is_aborted : Uid → Tree → Bool
 is_aborted u t = ended_so ending.Abort (branch_of u t)
 
+-- the root of a path: its first action
 abbrev pub root_of : Path → Uid
 root_of p = first_uid (uids_of p)
 
+-- a root that has nothing yet
 abbrev pub no_family : Family
 no_family = record { ends = []; actions = 0; objects = [] }
 
+-- what the root has
 abbrev pub family_of : Uid → Tree → Family
 family_of root t = unwrap_or (at_number root.num t.families) no_family
 
+-- the root has this now
 abbrev pub with_family : Uid → Family → Tree → Tree
 with_family root f t = record t { families = put_number root.num f t.families }
 
+-- the ends that are listed at the root
 abbrev pub ends_of : Uid → Tree → List (Uid × End)
 ends_of root t = let f = family_of root t in f.ends
 
@@ -115,6 +131,7 @@ path_in kind.Nested p u = path_of (uids_of p ++ u ∷ []) (tops_of p)
 path_in kind.Constituent p u = path_of (uids_of p ++ u ∷ []) 2
 path_in _ p u = path_of (u ∷ []) 1
 
+-- the path of a new action: one that begins in no other is its own root
 abbrev pub path_below : Kind → Option Branch → Uid → Path
 path_below k None u = path_of (u ∷ []) 1
 path_below k (Some b) u = path_in k b.path u
@@ -123,9 +140,11 @@ path_below k (Some b) u = path_in k b.path u
 abbrev pub counted : Path → Tree → Tree
 counted p t = with_family (root_of p) (let f = family_of (root_of p) t in record f { actions = f.actions + 1 }) t
 
+-- an action with this path is begun
 abbrev pub begun_by : Kind → Path → Tree → Tree
 begun_by k p t = counted p (record t { branches = t.branches ++ record { path = p; kind = k; ended = None; doomed = false } ∷ [] })
 
+-- an action of this kind is begun
 abbrev pub begun : Kind → Option Branch → Tree → Tree
 begun k parent t = begun_by k (path_below k parent (next_uid t)) t
 
@@ -137,17 +156,21 @@ listed_end u e p t =
     if nat_le (length (uids_of p)) 1 then t
     else with_family (root_of p) (let f = family_of (root_of p) t in record f { ends = f.ends ++ (u, e) ∷ [] }) t
 
+-- the action, where it is there, ended so
 abbrev pub ended_branch : Uid → End → Tree → Option Branch → Tree
 ended_branch u e t None = t
 ended_branch u e t (Some b) = listed_end u e b.path (record t { branches = set_place u.num (record b { ended = Some e }) t.branches })
 
+-- the action ended so
 abbrev pub ended_at : Uid → End → Tree → Tree
 ended_at u e t = ended_branch u e t (branch_of u t)
 
+-- the action, where it is there, can't commit any more
 abbrev pub doomed_branch : Uid → Tree → Option Branch → Tree
 doomed_branch u t None = t
 doomed_branch u t (Some b) = record t { branches = set_place u.num (record b { doomed = true }) t.branches }
 
+-- the action can't commit any more
 abbrev pub doomed_at : Uid → Tree → Tree
 doomed_at u t = doomed_branch u t (branch_of u t)
 
@@ -161,6 +184,7 @@ uses_object p x t = with_family (root_of p) (let f = family_of (root_of p) t in 
 abbrev pub is_below : Uid → Branch → Bool
 is_below u b = is_on (uids_of b.path) u && not (uid_eq (actor b.path) u)
 
+-- an open descendant
 abbrev pub is_open_below : Uid → Branch → Bool
 is_open_below u b = is_below u b && not (is_some b.ended)
 
@@ -169,9 +193,11 @@ abbrev pub latest_first : List Branch → List Uid → List Uid
 latest_first [] found = found
 latest_first (b ∷ bs) found = latest_first bs (actor b.path ∷ found)
 
+-- the open descendants of an action, the one begun last first
 abbrev pub open_below : Uid → Tree → List Uid
 open_below u t = latest_first (filter (is_open_below u) t.branches) []
 
+-- the action that stands right above is this one
 abbrev pub is_parent : Uid → Option Uid → Bool
 is_parent u None = false
 is_parent u (Some p) = uid_eq p u
@@ -180,24 +206,30 @@ is_parent u (Some p) = uid_eq p u
 abbrev pub has_open_child : Uid → Tree → Bool
 has_open_child u t = list_any (λ b. is_parent u (before_last (uids_of b.path)) && not (is_some b.ended)) t.branches
 
+-- a serializing action
 abbrev pub is_serial : Kind → Bool
 is_serial kind.Serial = true
 is_serial _ = false
 
+-- a constituent
 abbrev pub is_constituent : Kind → Bool
 is_constituent kind.Constituent = true
 is_constituent _ = false
 
+-- a nested action
 abbrev pub is_nested : Kind → Bool
 is_nested kind.Nested = true
 is_nested _ = false
 
+-- its path is as long as a path may be
 abbrev pub is_too_deep : Branch → Bool
 is_too_deep b = nat_le longest_path (length (uids_of b.path))
 
+-- its root has as many actions as it may
 abbrev pub has_many_actions : Branch → Tree → Bool
 has_many_actions b t = let f = family_of (root_of b.path) t in nat_le most_actions f.actions
 
+-- the object would be one more than its root may use
 abbrev pub has_many_objects : Branch → ℕ → Tree → Bool
 has_many_objects b x t = let f = family_of (root_of b.path) t in not (has f.objects x) && nat_le most_objects (length f.objects)
 

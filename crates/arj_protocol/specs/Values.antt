@@ -28,6 +28,7 @@ value_in class.Account bytes = value.Account (number_in bytes)
 value_in class.Queue bytes = value.Queue (numbers_in bytes)
 value_in class.Table bytes = value.Table (in_pairs (numbers_in bytes))
 
+-- the value of a state
 abbrev pub state_value : ObjectState → Value
 state_value s = value_in s.class s.payload
 
@@ -36,9 +37,11 @@ abbrev pub stores_in : List ℕ → List ℕ
 stores_in [] = []
 stores_in (n ∷ bytes) = take n bytes
 
+-- the entry that a payload spells
 abbrev pub entry_in : List ℕ → Entry
 entry_in [] = record { servers = []; stores = [] }
 entry_in (n ∷ bytes) = record { servers = take n bytes; stores = stores_in (drop n bytes) }
 
+-- the entry of a state
 abbrev pub state_entry : ObjectState → Entry
 state_entry s = entry_in s.payload

@@ -21,6 +21,7 @@ use Rattle.arj_protocol.specs.Step as input
 abbrev pub most_labels : ℕ
 most_labels = 4096
 
+-- as many frames are sent in a run at most
 abbrev pub most_frames : ℕ
 most_frames = 100000
 
@@ -67,6 +68,7 @@ sends n (Send to m ∷ es) = new_frame n to (Some m) ∷ sends n es
 sends n (Say b ∷ es) = sends n es
 sends n (Do w ∷ es) = sends n es
 
+-- the line of a frame with this number, where it is within the limit
 abbrev pub sent_line : ℕ → ℕ → ℕ → FrameKind → List Body
 sent_line k from to what = if nat_le k most_frames then body.Sent k from to what ∷ [] else []
 
@@ -77,6 +79,7 @@ bodies n k (Say b ∷ es) = b ∷ bodies n k es
 bodies n k (Send to m ∷ es) = sent_line (k + 1) n to (frame_kind m) ++ bodies n (k + 1) es
 bodies n k (Do w ∷ es) = bodies n k es
 
+-- lines of this event
 abbrev pub numbered : ℕ → List Body → List Line
 numbered k bs = map (λ b. record { event = k; body = b }) bs
 
@@ -84,6 +87,7 @@ numbered k bs = map (λ b. record { event = k; body = b }) bs
 abbrev pub frames_with : List Frame → List Frame → List Frame
 frames_with frames new = frames ++ take (most_frames - length frames) new
 
+-- with the new frames there are more than a run may have
 abbrev pub overflows : List Frame → List Frame → Bool
 overflows frames new = nat_lt most_frames (length frames + length new)
 
@@ -101,10 +105,12 @@ says bs w = record w { lines = w.lines ++ numbered w.event bs }
 
 -- ---- stops
 
+-- an effect on the disk
 abbrev pub is_work : Effect → Bool
 is_work (Do w) = true
 is_work _ = false
 
+-- how many effects are on the disk
 abbrev pub count_works : List Effect → ℕ
 count_works es = length (filter is_work es)
 
@@ -113,6 +119,7 @@ pub record Cut : Type 0 where
   pub outs : List Effect
   pub disk : Disk
 
+-- the effect was done before
 abbrev pub behind_effect : Effect → Cut → Cut
 behind_effect e c = record c { outs = e ∷ c.outs }
 
@@ -126,9 +133,11 @@ cut k how (Send to m ∷ es) d = behind_effect (Send to m) (cut k how es d)
 
 -- ---- a step of one node
 
+-- the node of this number is that one now
 abbrev pub set_node : ℕ → Node → World → World
 set_node k n w = record w { nodes = set_place k n w.nodes }
 
+-- a step that went through: what it put out, and the node after it
 abbrev pub done_step : ℕ → Step → World → World
 done_step k s w = put k s.outs (set_node k s.after w)
 
@@ -136,12 +145,15 @@ done_step k s w = put k s.outs (set_node k s.after w)
 abbrev pub halted_outs : ℕ → Cut → List Effect
 halted_outs k c = c.outs ++ Say (body.Halted k) ∷ []
 
+-- the node stopped: what it put out is sent and said, and it is down
 abbrev pub halted_at : ℕ → Node → Cut → World → World
 halted_at k n c w = put k (halted_outs k c) (set_node k (record n { disk = c.disk; live = None }) w)
 
+-- no stop is armed at this node any more
 abbrev pub disarmed : ℕ → World → World
 disarmed n w = record w { arms = filter (λ (a : ℕ × Arm). not (a.0 == n)) w.arms }
 
+-- this stop is armed at the node, in place of one that was
 abbrev pub armed : ℕ → Arm → World → World
 armed n a w = record w { arms = put_number n a w.arms }
 
@@ -151,10 +163,12 @@ step_armed k n s w a =
     if nat_lt (count_works s.halting) a.works then done_step k s (armed k (record a { works = a.works - count_works s.halting }) w)
     else halted_at k n (cut (a.works - 1) a.how s.halting n.disk) (disarmed k w)
 
+-- the step goes through where no stop is armed, and else until the stop
 abbrev pub step_with : ℕ → Node → Step → World → Option Arm → World
 step_with k n s w None = done_step k s w
 step_with k n s w (Some a) = step_armed k n s w a
 
+-- a node that is there takes the input
 abbrev pub step_node : ℕ → Input → World → Option Node → World
 step_node k i w None = w
 step_node k i w (Some n) = step_with k n (step w.header n i) w (at_number k w.arms)
@@ -165,29 +179,37 @@ steps k i w = step_node k i w (at_place k w.nodes)
 
 -- ---- frames
 
+-- the frame was delivered
 abbrev pub as_delivered : Frame → Frame
 as_delivered f = record f { delivered = true }
 
+-- the frame was lost
 abbrev pub as_lost : Frame → Frame
 as_lost f = record f { lost = true }
 
+-- the frame of this number is changed
 abbrev pub change_frame : ℕ → (Frame → Frame) → Frame → World → World
 change_frame k f x w = record w { frames = set_place k (f x) w.frames }
 
+-- a frame that is there is delivered: its node takes it
 abbrev pub deliver_frame : ℕ → World → Option Frame → World
 deliver_frame k w None = w
 deliver_frame k w (Some f) = steps f.to (input.Frame k f.from f.message) (change_frame k as_delivered f w)
 
+-- the frame of this number is delivered, also when it was delivered or lost before
 abbrev pub deliver : ℕ → World → World
 deliver k w = deliver_frame k w (at_place k w.frames)
 
+-- a frame that is there is lost, with a line
 abbrev pub lose_frame : ℕ → World → Option Frame → World
 lose_frame k w None = w
 lose_frame k w (Some f) = says (body.Dropped k ∷ []) (change_frame k as_lost f w)
 
+-- the frame of this number is lost
 abbrev pub lose : ℕ → World → World
 lose k w = lose_frame k w (at_place k w.frames)
 
+-- neither delivered nor lost
 abbrev pub is_open_frame : Frame → Bool
 is_open_frame f = not (f.delivered || f.lost)
 
@@ -196,6 +218,7 @@ abbrev pub lowest_from : ℕ → List Frame → Option ℕ
 lowest_from k [] = None
 lowest_from k (f ∷ fs) = if is_open_frame f then Some k else lowest_from (k + 1) fs
 
+-- the frame that a settle delivers next: none where one didn't fit
 abbrev pub lowest : World → Option ℕ
 lowest w = if w.full then None else lowest_from 1 w.frames
 
@@ -210,65 +233,82 @@ settle w = settle_for most_frames w
 
 -- ---- quiesce
 
+-- a node that is there and runs
 abbrev pub is_up : Option Node → Bool
 is_up None = false
 is_up (Some n) = is_some n.live
 
+-- the node of this number runs
 abbrev pub is_up_at : ℕ → World → Bool
 is_up_at n w = is_up (at_place n w.nodes)
 
+-- a node that is up takes a tick, unless a frame didn't fit
 abbrev pub tick_up : ℕ → World → World
 tick_up n w = if w.full || not (is_up_at n w) then w else steps n input.Tick w
 
+-- these nodes take a tick, one after another
 abbrev pub tick_all : List ℕ → World → World
 tick_all [] w = w
 tick_all (n ∷ ns) w = tick_all ns (tick_up n w)
 
+-- every node is up and idle
 abbrev pub is_quiet : World → Bool
 is_quiet w = list_all is_idle w.nodes
 
+-- the numbers of the world's nodes
 abbrev pub node_numbers : World → List ℕ
 node_numbers w = numbers_to w.header.nodes
 
+-- the line that says whether the world is quiet, unless a frame didn't fit
 abbrev pub quiet_line : World → World
 quiet_line w = if w.full then w else says (body.Quiet (is_quiet w) ∷ []) w
 
+-- all frames are delivered, every node that is up ticks once, all frames are delivered again, and a line says whether it is quiet
 abbrev pub quiesce : World → World
 quiesce w = quiet_line (settle (tick_all (node_numbers w) (settle w)))
 
 -- ---- show
 
+-- a node that is up says what it holds of the object
 abbrev pub show_up : ℕ → ℕ → World → World
 show_up x n w = if is_up_at n w then steps n (input.Show x) w else w
 
+-- so do these nodes, one after another
 abbrev pub show_all : ℕ → List ℕ → World → World
 show_all x [] w = w
 show_all x (n ∷ ns) w = show_all x ns (show_up x n w)
 
 -- ---- junk
 
+-- a frame from nobody that holds no message is sent, where there is room
 abbrev pub junk_fits : ℕ → World → Bool → World
 junk_fits n w true = says (body.Sent (length w.frames + 1) 0 n frame.Junk ∷ []) (record w { frames = w.frames ++ new_frame 0 n None ∷ [] })
 junk_fits n w false = record w { full = true }
 
+-- such a frame is sent to the node
 abbrev pub junk : ℕ → World → World
 junk n w = junk_fits n w (nat_lt (length w.frames) most_frames)
 
 -- ---- refusals
 
+-- the number of a node
 abbrev pub is_node : ℕ → World → Bool
 is_node n w = nat_le 1 n && nat_le n w.header.nodes
 
+-- the node of a label, and whether its action is serializing, where it was given
 abbrev pub labelled : Label → World → Option Labelled
 labelled l w = lookup (is_at (label_cmp l)) w.labels
 
+-- the label was given
 abbrev pub is_given : Label → World → Bool
 is_given l w = is_some (labelled l w)
 
+-- the number that an event names a frame by: the last one's is the count of frames
 abbrev pub frame_number : FrameNo → World → ℕ
 frame_number (frame_no.Number k) w = k
 frame_number frame_no.Last w = length w.frames
 
+-- a frame has this number
 abbrev pub is_frame : FrameNo → World → Bool
 is_frame k w = is_some (at_place (frame_number k w) w.frames)
 
@@ -301,13 +341,16 @@ reasons (event.Show x) w = (13, not (is_some (class_at x w.header))) ∷ []
 
 -- ---- events
 
+-- the node of what is known of a label, and 0 of one that wasn't given
 abbrev pub node_in : Option Labelled → ℕ
 node_in None = 0
 node_in (Some g) = g.node
 
+-- the node of a label
 abbrev pub node_of : Label → World → ℕ
 node_of l w = node_in (labelled l w)
 
+-- the kind of an action that begins in an action of this label
 abbrev pub kind_in : Option Labelled → Kind
 kind_in None = kind.Nested
 kind_in (Some g) = if g.serial then kind.Constituent else kind.Nested
@@ -323,6 +366,7 @@ pub record Giving : Type 0 where
   pub parent : Option Label
   pub node : ℕ
 
+-- what an event gives a label to: only those that begin an action
 abbrev pub giving : Event → World → Option Giving
 giving (event.Begin l n) w = Some (record { label = l; kind = kind.Top; parent = None; node = n })
 giving (event.Serial l n) w = Some (record { label = l; kind = kind.Serial; parent = None; node = n })
@@ -330,10 +374,12 @@ giving (event.BeginIn l p) w = Some (record { label = l; kind = kind_below p w; 
 giving (event.Top l p) w = Some (record { label = l; kind = kind.Independent; parent = Some p; node = node_of p w })
 giving _ w = None
 
+-- a serializing action
 abbrev pub is_serial_kind : Kind → Bool
 is_serial_kind kind.Serial = true
 is_serial_kind _ = false
 
+-- the label is that of the new action from now on
 abbrev pub gives_label : Giving → World → World
 gives_label g w = record w { labels = insert_entry label_cmp w.labels g.label (record { node = g.node; serial = is_serial_kind g.kind }) }
 
@@ -342,15 +388,18 @@ abbrev pub labels_unless : Giving → World → Option ℕ → World
 labels_unless g w None = gives_label g w
 labels_unless g w (Some c) = w
 
+-- the refusal that a node which is there finds at the input
 abbrev pub refused_at : Input → World → Option Node → Option ℕ
 refused_at i w None = None
 refused_at i w (Some n) = refusal w.header i n
 
+-- the node begins the action, and the label is given, unless the node refuses
 abbrev pub begins : Giving → World → World
 begins g w =
     let i = input.Begin g.label g.kind g.parent in
     steps g.node i (labels_unless g w (refused_at i w (at_place g.node w.nodes)))
 
+-- an action begins where the event begins one
 abbrev pub begins_any : Event → World → Option Giving → World
 begins_any e w None = w
 begins_any e w (Some g) = begins g w
@@ -378,6 +427,7 @@ happens e a w = begins_any e w (giving e w)
 abbrev pub limited : World → World
 limited w = if w.full then says (body.Limit which.Frames ∷ []) (record w { over = true }) else w
 
+-- one more event was run
 abbrev pub counted : World → World
 counted w = record w { event = w.event + 1 }
 
@@ -385,13 +435,16 @@ counted w = record w { event = w.event + 1 }
 abbrev pub no_labels : World → World
 no_labels w = says (body.Limit which.Labels ∷ []) (record w { over = true })
 
+-- the event gives a label, and all were given
 abbrev pub lacks_labels : Option Giving → World → Bool
 lacks_labels None w = false
 lacks_labels (Some g) w = nat_le most_labels (length w.labels)
 
+-- an event that the world doesn't refuse is run, where a label is left if it gives one
 abbrev pub run_accepted : Event → Arm → World → World
 run_accepted e a w = if lacks_labels (giving e w) w then no_labels w else limited (happens e a (counted w))
 
+-- a refused event writes its refusal alone
 abbrev pub run_unless : Event → Arm → World → Option ℕ → World
 run_unless e a w (Some c) = says (body.Refused c ∷ []) (counted w)
 run_unless e a w None = run_accepted e a w
@@ -401,9 +454,11 @@ pub record Asked : Type 0 where
   pub event : Event
   pub arm : Arm
 
+-- an event after the run has ended does nothing; the world refuses by the first condition that holds, and else it is run
 abbrev pub run_event : Asked → World → World
 run_event e w = if w.over then w else run_unless e.event e.arm w (first_reason (reasons e.event w))
 
+-- one event after another
 abbrev pub run_all : List Asked → World → World
 run_all [] w = w
 run_all (e ∷ es) w = run_all es (run_event e w)
