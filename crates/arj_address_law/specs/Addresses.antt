@@ -24,6 +24,7 @@ use Rattle.arj_address_law.specs.Binds.{BindsAreKnown}
 
 -- ---- numbers, Uids and entries
 
+-- each of these numbers is one of them
 abbrev pub AreOf : (ℕ → Type 0) → List ℕ → Type 0
 AreOf G ns = AllByRecursion G ns
 
@@ -31,6 +32,7 @@ AreOf G ns = AllByRecursion G ns
 abbrev pub UidsOf : (ℕ → Type 0) → List Uid → Type 0
 UidsOf G us = AllByRecursion (λ (u : Uid). G u.node) us
 
+-- the Uids of a path are of such nodes
 abbrev pub PathOf : (ℕ → Type 0) → Path → Type 0
 PathOf G p = UidsOf G (uids_of p)
 
@@ -58,16 +60,20 @@ HasEntry d x = is_some (held_at (entry x) d) ≡ true
 abbrev pub RowOf : (ℕ → Type 0) → Row → Type 0
 RowOf G r = UidsOf G r.holder × (r.tops - 1 < length r.holder)
 
+-- so it is of all rows
 abbrev pub RowsOf : (ℕ → Type 0) → List Row → Type 0
 RowsOf G rows = AllByRecursion (RowOf G) rows
 
+-- so it is of the rows of all copies
 abbrev pub CopiesOf : (ℕ → Type 0) → List (ℕ × Copy) → Type 0
 CopiesOf G objects = AllByRecursion (λ (e : ℕ × Copy). RowsOf G (let c = e.1 in c.rows)) objects
 
+-- the server of a live binding is such a node
 abbrev pub LiveOf : (ℕ → Type 0) → Option Live → Type 0
 LiveOf G None = ⊤
 LiveOf G (Some l) = G l.server
 
+-- the server that was bound last is such a node
 abbrev pub TurnOf : (ℕ → Type 0) → Option ℕ → Type 0
 TurnOf G None = ⊤
 TurnOf G (Some n) = G n
@@ -83,6 +89,7 @@ pub record NamedOf (G : ℕ → Type 0) (o : Named) : Type 0 where
 abbrev pub NamingOf : (ℕ → Type 0) → Pair → Naming → Type 0
 NamingOf G d n = AllByRecursion (λ (e : ℕ × Named). HasEntry d e.0 × NamedOf G e.1) n.objects
 
+-- so it is of naming, where it is there
 abbrev pub NamesOf : (ℕ → Type 0) → Pair → Option Naming → Type 0
 NamesOf G d None = ⊤
 NamesOf G d (Some n) = NamingOf G d n
@@ -98,33 +105,40 @@ pub record DiskOf (G : ℕ → Type 0) (d : Disk) : Type 0 where
 
 -- ---- messages
 
+-- the stores that a Confirm includes are such nodes
 abbrev pub AskOf : (ℕ → Type 0) → Ask → Type 0
 AskOf G (ask.Confirm grants excluded included) = AllByRecursion (λ (m : ℕ × ℕ). G m.1) included
 AskOf G _ = ⊤
 
+-- so it is of a request and of its path
 abbrev pub AskedOf : (ℕ → Type 0) → Option (Head × Ask) → Type 0
 AskedOf G None = ⊤
 AskedOf G (Some a) = PathOf G (let h = a.0 in h.path) × AskOf G a.1
 
+-- an answer to a Bind names such servers and stores
 abbrev pub BoundOf : (ℕ → Type 0) → BoundReply → Type 0
 BoundOf G (bound.Live b server i g stores) = G server × AreOf G stores
 BoundOf G (bound.Make b server g stores) = G server × AreOf G stores
 BoundOf G (bound.Write g stores) = AreOf G stores
 BoundOf G (bound.Conflict holder m) = ⊤
 
+-- so it is of any answer
 abbrev pub ReplyOf : (ℕ → Type 0) → Reply → Type 0
 ReplyOf G (Reply.Bound r) = BoundOf G r
 ReplyOf G _ = ⊤
 
+-- so it is of a message that is an answer
 abbrev pub AnsweredOf : (ℕ → Type 0) → Option (Asked × Reply) → Type 0
 AnsweredOf G None = ⊤
 AnsweredOf G (Some a) = ReplyOf G a.1
 
+-- a message names such nodes
 abbrev pub MessageOf : (ℕ → Type 0) → Message → Type 0
 MessageOf G m = AskedOf G (asks m) × AnsweredOf G (answers m)
 
 -- ---- effects
 
+-- work names such nodes
 abbrev pub WorkOf : (ℕ → Type 0) → Work → Type 0
 WorkOf G (Prepare role.Store u states) = G u.node
 WorkOf G (Prepare role.Names u states) = G u.node × AllByRecursion (StateOf G) states
@@ -137,14 +151,17 @@ EffectOf G (Send to m) = G to × MessageOf G m
 EffectOf G (Say b) = ⊤
 EffectOf G (Do w) = WorkOf G w
 
+-- so it is of all effects
 abbrev pub AllOf : (ℕ → Type 0) → List Effect → Type 0
 AllOf G outs = AllByRecursion (EffectOf G) outs
 
 -- ---- coordinators
 
+-- what is known of a binding names such a server, and such stores
 abbrev pub KnownOf : (ℕ → Type 0) → Known → Type 0
 KnownOf G k = G k.server × AreOf G k.stores
 
+-- so it is of what is kept, if anything
 abbrev pub KeptOf : (ℕ → Type 0) → Option Known → Type 0
 KeptOf G None = ⊤
 KeptOf G (Some k) = KnownOf G k
@@ -154,6 +171,7 @@ abbrev pub KnownFor : (ℕ → Type 0) → Goal → Known → Type 0
 KnownFor G (Run o) k = KnownOf G k
 KnownFor G (Include s) k = AreOf G k.stores
 
+-- the step in which a call waits names such nodes
 abbrev pub AtOf : (ℕ → Type 0) → Goal → At → Type 0
 AtOf G g (AtBind avoid) = ⊤
 AtOf G g (AtLoad k s rest) = KnownFor G g k × G s × AreOf G rest
@@ -161,6 +179,7 @@ AtOf G g (AtActivate k st) = KnownOf G k
 AtOf G g (AtNote k i) = KnownOf G k
 AtOf G g (AtInvoke k i) = KnownOf G k
 
+-- the store of an include is such a node
 abbrev pub GoalOf : (ℕ → Type 0) → Goal → Type 0
 GoalOf G (Run o) = ⊤
 GoalOf G (Include s) = G s
@@ -175,6 +194,7 @@ abbrev pub EndOf : (ℕ → Type 0) → Goal → CallEnd → Type 0
 EndOf G g (Included st) = StoreOf G g
 EndOf G g _ = ⊤
 
+-- so it is of the step that a call goes on to
 abbrev pub StepOf : (ℕ → Type 0) → Goal → CallStep → Type 0
 StepOf G g (On at) = AtOf G g at
 StepOf G g (Ended e) = EndOf G g e
@@ -183,6 +203,7 @@ StepOf G g (Ended e) = EndOf G g e
 abbrev pub MovedOf : (ℕ → Type 0) → Goal → Moved → Type 0
 MovedOf G g m = StepOf G g m.step × KeptOf G m.kept
 
+-- a call or an include under way names such nodes
 pub record StepsOf (G : ℕ → Type 0) (s : Steps) : Type 0 where
   pub path : PathOf G s.path
   pub at : AtOf G s.goal s.at
@@ -192,25 +213,30 @@ pub record StepsOf (G : ℕ → Type 0) (s : Steps) : Type 0 where
 abbrev pub UsedOf : (ℕ → Type 0) → Used → Type 0
 UsedOf G u = (u.called ≡ true → G u.server) × AreOf G u.stores × AreOf G u.joins
 
+-- a plan names such nodes
 pub record PlanOf (G : ℕ → Type 0) (p : Plan) : Type 0 where
   pub path : PathOf G p.path
   pub used : AllByRecursion (UsedOf G) p.used
   pub sent : AreOf G p.sent
   pub prepared : AreOf G p.prepared
 
+-- so it is of the plan of a commit, and of the nodes that haven't answered
 abbrev pub MachineOf : (ℕ → Type 0) → Machine → Type 0
 MachineOf G m = PlanOf G (plan_of m) × AreOf G (left_of m)
 
+-- so it is of what an action is at
 abbrev pub NowOf : (ℕ → Type 0) → Now → Type 0
 NowOf G Idle = ⊤
 NowOf G (Calling s) = StepsOf G s
 NowOf G (Committing m) = MachineOf G m
 
+-- what a root has names such nodes
 pub record RootOf (G : ℕ → Type 0) (r : Root) : Type 0 where
   pub went : AllByRecursion (λ (w : Went). G w.node) r.went
   pub joined : AllByRecursion (λ (j : Joined). G j.store) r.joined
   pub keeping : AllByRecursion (λ (e : ℕ × Keeping). KeptOf G (let k = e.1 in k.kept)) r.keeping
 
+-- a coordinator is at such a node and names such nodes
 pub record CoordOf (G : ℕ → Type 0) (c : Coord) : Type 0 where
   pub node : G (let t = c.tree in t.node)
   pub paths : AllByRecursion (λ (b : Branch). PathOf G b.path) (let t = c.tree in t.branches)
@@ -232,6 +258,7 @@ pub record PartsOf (G : ℕ → Type 0) (d : Disk) (t : Parts) : Type 0 where
 abbrev pub LineOf : (ℕ → Type 0) → ObjectLine → Type 0
 LineOf G o = AreOf G o.servers × AreOf G o.stores × (1 ≤ length o.servers)
 
+-- so it is of a node's memory, where it is up
 abbrev pub UpOf : (ℕ → Type 0) → Disk → Option Parts → Type 0
 UpOf G d None = ⊤
 UpOf G d (Some t) = PartsOf G d t
@@ -240,6 +267,7 @@ UpOf G d (Some t) = PartsOf G d t
 abbrev pub NodeOf : (ℕ → Type 0) → Node → Type 0
 NodeOf G n = G n.number × DiskOf G n.disk × UpOf G n.disk n.live
 
+-- a message is from such a node and to one, and names such nodes
 abbrev pub PostOf : (ℕ → Type 0) → Post → Type 0
 PostOf G p = G p.from × G p.to × MessageOf G p.message
 

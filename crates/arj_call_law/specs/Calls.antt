@@ -21,10 +21,12 @@ abbrev pub call_in : Head → Ask → Option Call
 call_in h (ask.Invoke x b i ends op) = Some (record { head = h; x = x; binding = b; inc = i; op = op })
 call_in h _ = None
 
+-- so it is of what a message asks
 abbrev pub call_by : Option (Head × Ask) → Option Call
 call_by None = None
 call_by (Some a) = call_in a.0 a.1
 
+-- the call that a message is, if it is one
 abbrev pub call_of : Message → Option Call
 call_of m = call_by (asks m)
 
@@ -39,6 +41,7 @@ abbrev pub is_refusal : InvokedReply → Bool
 is_refusal (invoked.Answered a) = false
 is_refusal _ = true
 
+-- so it is of an answer of any kind
 abbrev pub refuses : Reply → Bool
 refuses (Reply.Invoked r) = is_refusal r
 refuses _ = false
@@ -48,6 +51,7 @@ abbrev pub refused_by : Option (Asked × Reply) → Option Asked
 refused_by None = None
 refused_by (Some a) = if refuses a.1 then Some a.0 else None
 
+-- the request that a message refuses, if it does
 abbrev pub refusal_of : Message → Option Asked
 refusal_of m = refused_by (answers m)
 

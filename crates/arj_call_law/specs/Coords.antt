@@ -52,6 +52,7 @@ pub record IsWaiting (c : Coord) (to : ℕ) (k : Call) : Type 0 where
 abbrev pub IsTie : Option Known → Known → Type 0
 IsTie kept k = (k.server ≡ 0) ⊎ ((old : Known) × (kept ≡ Some old) × (binding_number old.binding ≡ binding_number k.binding) × (old.server ≡ k.server))
 
+-- so it is of the step in which a call waits
 abbrev pub IsTiedAt : Option Known → At → Type 0
 IsTiedAt kept (AtBind avoid) = ⊤
 IsTiedAt kept (AtLoad k s rest) = IsTie kept k
@@ -67,6 +68,7 @@ IsTied c s = is_call s.goal ≡ true → IsTiedAt (kept_of s.x (root_at (root_of
 abbrev pub IsDoomed : Tree → Uid → Type 0
 IsDoomed t u = (b : Branch) × (branch_of u t ≡ Some b) × (b.doomed ≡ true) × (b.ended ≢ Some ending.Commit)
 
+-- the action, where it is in the tree, can still commit
 abbrev pub IsFree : Tree → Uid → Type 0
 IsFree t u = (b : Branch) → branch_of u t ≡ Some b → b.doomed ≡ false
 

@@ -15,6 +15,7 @@ use Rattle.arj_view_law.specs.Seen.{In, Post, Seen}
 abbrev pub Gifts : Type 0
 Gifts = List (ℕ × ℕ)
 
+-- each of these bindings was made before that of this number
 abbrev pub AreBelow : ℕ → Gifts → Type 0
 AreBelow top given = AllByRecursion (λ (g : ℕ × ℕ). g.0 < top) given
 
@@ -63,6 +64,7 @@ pub record PassesAll (reach : Reach) (M : Seen) : Type 0 where
   pub zero : IsPastZero reach
   pub nodes : (j : ℕ) (n : Node) → M.nodes j ≡ Some n → Passes reach j (let d = n.disk in d.inc) n.live
 
+-- What was sent and what nodes have in memory names only servers of bindings that reached them.
 pub record IsLived (home : Homes) (reach : Reach) (M : Seen) : Type 0 where
   pub sent : (p : Post) → In p M.sent → NamesPost home reach M.sent p
   pub nodes : (j : ℕ) (n : Node) → M.nodes j ≡ Some n → (t : Parts) → n.live ≡ Some t → HasServers home reach t
@@ -80,6 +82,7 @@ pub record LivesWith (given : Gifts) (M : Seen) : Type 0 where
   pub places : (j : ℕ) (n : Node) → M.nodes j ≡ Some n → HasGiven given j n
   pub lived : (home : Homes) (reach : Reach) → IsHome given home → PassesAll reach M → IsLived home reach M
 
+-- there are such bindings with their servers
 abbrev pub LivesRun : Seen → Type 0
 LivesRun M = (given : Gifts) × LivesWith given M
 

@@ -60,6 +60,7 @@ VotesAreUsed k t M = (from : ℕ) (m : Message) (a : Asked) (states : List Objec
 abbrev pub ChangesAreCalled : Parts → Type 0
 ChangesAreCalled t = (u : Uid) (d : Doing) (q : Machine) → doing_of u t.coord ≡ Some d → d.now ≡ Committing q → (s : ObjectState) → list.In s (let p = plan_of q in p.changed) → top_uses u (let w = s.uid in w.num) (root_at (let p = plan_of q in root_of p.path) t.coord) t.coord ≡ true
 
+-- so it is at each node that is up
 abbrev pub AllChangesAreCalled : Seen → Type 0
 AllChangesAreCalled M = (k : ℕ) (n : Node) (t : Parts) → M.nodes k ≡ Some n → n.live ≡ Some t → ChangesAreCalled t
 

@@ -56,6 +56,7 @@ pub record IsRefusal (sent : List Post) (n : ℕ) (m : Node) (a : Asked) : Type 
   pub same : asked_by call.head ≡ a
   pub past : Since call.inc (IsPast call) m
 
+-- so it is of all who were refused
 abbrev pub AreRefusals : List Post → ℕ → Node → Type 0
 AreRefusals sent n m = (a : Asked) → IsRefused sent n a → IsRefusal sent n m a
 

@@ -23,14 +23,17 @@ abbrev pub states_voted : Asked → VotedReply → Option (Asked × List ObjectS
 states_voted a (voted.Yes states) = Some (a, states)
 states_voted a (voted.Changed w) = None
 
+-- so it is of an answer of any kind
 abbrev pub vote_in : Asked → Reply → Option (Asked × List ObjectState)
 vote_in a (Reply.Voted r) = states_voted a r
 vote_in a _ = None
 
+-- so it is of what a message answers
 abbrev pub vote_by : Option (Asked × Reply) → Option (Asked × List ObjectState)
 vote_by None = None
 vote_by (Some a) = vote_in a.0 a.1
 
+-- what a message votes, if it is such an answer
 abbrev pub vote_of : Message → Option (Asked × List ObjectState)
 vote_of m = vote_by (answers m)
 

@@ -14,6 +14,7 @@ abbrev pub count_open : ℕ → List Branch → ℕ
 count_open k [] = 0
 count_open k (b ∷ bs) = (if is_open_in k b then 1 else 0) + count_open k bs
 
+-- how many actions of the root of this number are open
 abbrev pub open_in : ℕ → Tree → ℕ
 open_in k t = count_open k t.branches
 
@@ -21,12 +22,15 @@ open_in k t = count_open k t.branches
 abbrev pub family_at : ℕ → Tree → Family
 family_at k t = unwrap_or (at_number k t.families) no_family
 
+-- the ends that are listed at the root of this number
 abbrev pub ends_at : ℕ → Tree → List (Uid × End)
 ends_at k t = let f = family_at k t in f.ends
 
+-- how many actions the root of this number has
 abbrev pub actions_at : ℕ → Tree → ℕ
 actions_at k t = let f = family_at k t in f.actions
 
+-- the objects that the root of this number uses
 abbrev pub objects_at : ℕ → Tree → List ℕ
 objects_at k t = let f = family_at k t in f.objects
 

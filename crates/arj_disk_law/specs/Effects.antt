@@ -6,6 +6,7 @@ use Rattle.arj_disk_law.specs.Messages.{Message, Prepare, Prepared, Confirm, Con
 use Rattle.arj_disk_law.specs.State.{State, Packed, Plan, Hold, Done, Idle, Preparing, Confirming, Gone, naming, is_gone, decided, undecided, target, state_for, hold, list_after, entry_after, last, Known, Below, Listed, IsExcused}
 use Rattle.arj_disk_law.specs.Words.{has, In, put, put2}
 
+-- an effect of a node, as far as one object and its entry go
 pub data Effect : Type 0 where
   -- coordinators: a top's commit sends its prepares, a Yes is taken, the prepare step ends, the record is renamed into
   -- place, the decision's line is written, the record is removed; a commit that needs no record; and the coordinator has no

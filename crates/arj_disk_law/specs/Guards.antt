@@ -73,6 +73,7 @@ pub record MayAgree (A : Office) (t : ℕ) : Type 0 where
   pub writes : is_some (A.world.disk.plan t).writes ≡ true
   pub same : bytes_eq (new_list A.world.disk t) A.world.disk.entry.content ≡ true
 
+-- A Confirm may pass that changes nothing of the entry: its top wrote nothing, no store took a state of it, and it includes none that is listed.
 pub record MayPass (A : Office) (t : ℕ) : Type 0 where
   pub confirm : MayConfirm A t
   pub present : HasPart (A.world.disk.plan t) → HasPresent A.world.disk A.names t
@@ -169,6 +170,7 @@ is_only_of f (DropEntry h) = true
 is_only_of f (Forget r h) = true
 is_only_of f (Send m) = tells_only_of f m
 
+-- so it is of all effects
 abbrev pub AreOnlyOf : (Note → Bool) → List Effect → Type 0
 AreOnlyOf f [] = ⊤
 AreOnlyOf f (e ∷ es) = (is_only_of f e ≡ true) × AreOnlyOf f es

@@ -22,6 +22,7 @@ pub record IsFirst (S : State) : Type 0 where
   pub held : (s : ℕ) → has s S.entry.content ≡ true → S.held s ≡ Some S.first
   pub no_other : (s : ℕ) (g : Packed) → S.held s ≡ Some g → S.first ≡ g
 
+-- what a format leaves is whole
 abbrev pub FirstIsWhole : Type 0
 FirstIsWhole = (S : State) → IsFirst S → Whole (record { disk = S; sent = [] })
 
@@ -39,6 +40,7 @@ pub record IsClean (S : State) : Type 0 where
 abbrev pub IsExcludedInTime : State → ℕ → ℕ → Type 0
 IsExcludedInTime S t s = (S.held s ≡ Some (last S)) ⊎ ((h : Hold) × (S.pend s ≡ Some h) × (h.top ≡ t) × (h.new ≡ last S)) ⊎ IsExcused S t s
 
+-- so it is of the latest top that wrote, and of each store that the entry lists
 abbrev pub AreExcludedInTime : State → Type 0
 AreExcludedInTime S = (t s : ℕ) → is_latest S t ≡ true → is_some (S.plan t).writes ≡ true → has s S.entry.content ≡ true → IsExcludedInTime S t s
 
@@ -78,6 +80,7 @@ pub record BasedIn (first : Packed) (tops : List Done) (w : Packed) : Type 0 whe
   pub known : KnownIn first tops base
   pub above : w.version ≡ base.version + 1
 
+-- so it is of the decided tops of a state
 abbrev pub IsBased : State → Packed → Type 0
 IsBased S w = BasedIn S.first S.tops w
 

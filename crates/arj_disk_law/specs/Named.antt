@@ -64,6 +64,7 @@ pub record IsLeaving (root : ℕ → ℕ) (done : ℕ → Bool) (prepared : Opti
   pub of_root : root by_entry.top ≡ r
   pub lacks : has s by_entry.new.content ≡ false
 
+-- so it is of each listed store
 abbrev pub IsWide : State → ℕ → List ℕ → Type 0
 IsWide S r l = (s : ℕ) → Listed S s → (has s l ≡ true) ⊎ IsLeaving S.root (decided S) S.entry_pend r s
 

@@ -25,6 +25,7 @@ pub record IsFirstNames (N : Names) : Type 0 where
   pub kept : (h : ℕ) → N.kept h ≡ None
   pub answers : N.answers ≡ []
 
+-- so what a format leaves holds together
 abbrev pub FirstIsNamed : Type 0
 FirstIsNamed = (S : State) (N : Names) → IsFirst S → IsForest S → IsFirstNames N → Named (record { world = record { disk = S; sent = [] }; names = N })
 
@@ -78,9 +79,11 @@ OldNeedsRestart A = (t s : ℕ) (g : Packed) → undecided A.world.disk t ≡ tr
 abbrev pub HoldsWrite : Office → ℕ → Type 0
 HoldsWrite A t = (A.world.disk.serial t ≡ false) × (is_idle (A.world.disk.stage t) ≡ true) × HasRow A.names t 2
 
+-- while a top holds the write lock no act changes the entry
 abbrev pub EntryStays : Type 0
 EntryStays = (A : Office) (a : Act) (t : ℕ) → May A a → Named A → HoldsWrite A t → (acted A a).world.disk.entry ≡ A.world.disk.entry
 
+-- who holds the write lock loads the last state from a listed store with nothing prepared, and no confirmed top's outcome is open
 abbrev pub LoadsTheLast : Office → Type 0
 LoadsTheLast A = (t s : ℕ) (g : Packed) → HoldsWrite A t → has s A.world.disk.entry.content ≡ true → A.world.disk.pend s ≡ None → A.world.disk.held s ≡ Some g
     → (g ≡ last A.world.disk) × ((z : ℕ) → A.world.disk.conf z ≡ true → undecided A.world.disk z ≡ true → ⊥)

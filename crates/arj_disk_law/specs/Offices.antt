@@ -9,6 +9,7 @@ use Rattle.arj_disk_law.specs.Several.{Several, view, Common, BeginAll, TakeAll,
 use Rattle.arj_disk_law.specs.State.{Packed}
 use Rattle.arj_disk_law.specs.Words.{put}
 
+-- The disks of several objects, and naming's memory of them.
 pub record Offices : Type 0 where
   pub several : Several
   pub inc : ℕ
@@ -39,6 +40,7 @@ pub data Local : Type 0 where
   KeepOne : ℕ → ℕ → ℕ → List ℕ → Local
   AnswerOne : ℕ → ℕ → ℕ → List ℕ → Packed → Local
 
+-- such an act as that of one object
 abbrev pub act_of : Local → Act
 act_of (ReadOne t) = Read t
 act_of (WriteOne t b) = Write t b
@@ -59,6 +61,7 @@ pub data Deed : Type 0 where
   EndSerialAll : ℕ → Deed
   RestartAll : (ℕ → Bool) → Deed
 
+-- who is confirmed after an effect
 abbrev pub confd_all : (ℕ → Bool) → Common → ℕ → Bool
 confd_all confd (BeginAll t plans) = confd
 confd_all confd (TakeAll t s) = confd
@@ -79,6 +82,7 @@ confd_all confd (DropEntries t) = confd
 confd_all confd (ForgetEntries r t) = confd
 confd_all confd (SendAll m) = confd
 
+-- what roots keep of each object after an effect
 abbrev pub kept_all : Several → (ℕ → ℕ → Option Kept) → Common → ℕ → ℕ → Option Kept
 kept_all M kept (BeginAll t plans) = kept
 kept_all M kept (TakeAll t s) = kept
@@ -104,6 +108,7 @@ abbrev pub chosen : Bool → Names → Names → Names
 chosen true new old = new
 chosen false new old = old
 
+-- the names of each object after a local act on one
 abbrev pub local_names : Offices → ℕ → Local → ℕ → Names
 local_names O y l x = chosen (x == y) (acted (office x O) (act_of l)).names (office x O).names
 
@@ -113,9 +118,11 @@ retained_names O t keeps x =
     let N = record (office x O).names { kept = lists_after (view x O.several).disk t (O.kept x) } in
     chosen (keeps x) (retained (view x O.several).disk t N) N
 
+-- the names of each object after a decision without a record, with what is retained
 abbrev pub bare_names : Offices → ℕ → (ℕ → Bool) → ℕ → Names
 bare_names O t keeps x = chosen (keeps x) (retained (view x O.several).disk t (office x O).names) (office x O).names
 
+-- all of it after a deed
 abbrev pub done_all : Offices → Deed → Offices
 done_all O (EffectAll e) = record O { several = changed_all O.several e; confd = confd_all O.confd e; kept = kept_all O.several O.kept e }
 done_all O (CommitAll t keeps) = record O { several = changed_all O.several (DecideAll t); had = λ x. (retained_names O t keeps x).had; kept = λ x. (retained_names O t keeps x).kept }
@@ -154,6 +161,7 @@ acts_seen x O (EndTopAll t commits) = EndTop t commits ∷ []
 acts_seen x O (EndSerialAll r) = EndSerial r ∷ []
 acts_seen x O (RestartAll yes_again) = Restart yes_again ∷ []
 
+-- a deed fits each object where its effect does
 abbrev pub FitsAll : ℕ → Offices → Deed → Type 0
 FitsAll x O (EffectAll e) = Fits x O.several e
 FitsAll x O (CommitAll t keeps) = ⊤

@@ -4,6 +4,7 @@ use Rattle.arj_disk_law.specs.Effects.{World, Whole}
 use Rattle.arj_disk_law.specs.State.{State, Packed, Done, target, entry_after, last_in, last, last_entry}
 use Rattle.arj_disk_law.specs.Words.{has}
 
+-- the decided top counts
 abbrev pub counts_of : Done → Bool
 counts_of d = d.counts
 
@@ -18,6 +19,7 @@ pub record IsIdle (first : Packed) (d : Done) (ds : List Done) : Type 0 where
   pub none : (s : ℕ) → has s d.plan.joins ≡ true → d.got s ≡ false
   pub unlisted : (s : ℕ) → has s (entry_by_all first ds).content ≡ true → target d.plan s ≡ false
 
+-- so it is of each top of the order
 abbrev pub AreIdleInPlace : Packed → List Done → Type 0
 AreIdleInPlace first [] = ⊤
 AreIdleInPlace first (d ∷ ds) = (d.counts ≡ false → IsIdle first d ds) × AreIdleInPlace first ds
@@ -28,5 +30,6 @@ pub record IsByOrder (S : State) (order : List Done) : Type 0 where
   pub entry : entry_by_all S.first_entry order ≡ last_entry S
   pub state : last_in S.first order ≡ last S
 
+-- by such an order the last state and entry are those of the machine
 abbrev pub OrdersAgree : Type 0
 OrdersAgree = (W : World) (order : List Done) → Whole W → filter counts_of order ≡ filter counts_of W.disk.tops → AreIdleInPlace W.disk.first_entry order → IsByOrder W.disk order

@@ -11,12 +11,15 @@ use Rattle.arj_disk_law.specs.Words.{has}
 abbrev pub zero_state : Packed
 zero_state = record { version = 0; writer = 0; content = 0 ∷ [] }
 
+-- its entry lists both
 abbrev pub zero_entry : Packed
 zero_entry = record { version = 0; writer = 0; content = 2 ∷ 3 ∷ [] }
 
+-- a plan that changes nothing
 abbrev pub no_plan : Plan
 no_plan = record { writes = None; list = []; joins = []; loaded = zero_state }
 
+-- the machine before anything happened
 abbrev pub first_state : State
 first_state = record {
   first = zero_state;
@@ -39,6 +42,7 @@ first_state = record {
   light = λ t. false;
 }
 
+-- naming's half then
 abbrev pub first_names : Names
 first_names = record {
   inc = 1;
@@ -53,6 +57,7 @@ first_names = record {
   answers = [];
 }
 
+-- both
 abbrev pub first_office : Office
 first_office = record { world = record { disk = first_state; sent = [] }; names = first_names }
 
@@ -60,6 +65,7 @@ first_office = record { world = record { disk = first_state; sent = [] }; names 
 abbrev pub state_by : ℕ → ℕ → Packed
 state_by version top = record { version = version; writer = top; content = version ∷ [] }
 
+-- the plan of a top that writes a state, for a list of stores
 abbrev pub writing : Packed → List ℕ → Plan
 writing w list = record { writes = Some w; list = list; joins = []; loaded = zero_state }
 
@@ -67,12 +73,15 @@ writing w list = record { writes = Some w; list = list; joins = []; loaded = zer
 abbrev pub hold_of_five : Hold
 hold_of_five = record { top = 5; new = state_by 1 5 }
 
+-- what the top 5 has prepared at the naming node
 abbrev pub entry_of_five : Hold
 entry_of_five = record { top = 5; new = record { version = 1; writer = 5; content = 2 ∷ [] } }
 
+-- what the top 6 has prepared there
 abbrev pub entry_of_six : Hold
 entry_of_six = record { top = 6; new = record { version = 2; writer = 6; content = 2 ∷ 3 ∷ [] } }
 
+-- the plan of a top that includes a store, with the state that it loaded
 abbrev pub joining : Packed → ℕ → Plan
 joining g s = record { writes = None; list = []; joins = s ∷ []; loaded = g }
 
@@ -152,12 +161,15 @@ in_doubt = end_of first_office excluding
 abbrev pub recorded : Office
 recorded = end_of in_doubt (Do (Intend 5 (1 ∷ 2 ∷ [])) ∷ [])
 
+-- the run in which a top excludes the store 3
 abbrev pub without_three : Office
 without_three = end_of in_doubt excluded
 
+-- and then includes it again
 abbrev pub with_three : Office
 with_three = end_of without_three including
 
+-- the run of the first constituent of a serializing action
 abbrev pub first_constituent : Office
 first_constituent = end_of serial_office serializing
 

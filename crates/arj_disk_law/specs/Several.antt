@@ -39,6 +39,7 @@ pub record Several : Type 0 where
 abbrev pub masked : Plan → (ℕ → Bool) → ℕ → Bool
 masked p f s = target p s && f s
 
+-- a decision as one object sees it
 abbrev pub seen_done : ℕ → Decision → Done
 seen_done x d = record { top = d.top; plan = d.plans x; got = masked (d.plans x) d.got; counts = not (d.light x) }
 
@@ -72,6 +73,7 @@ view x M = record {
 pub data Part : Type 0 where
   Agrees Passes Enters : Part
 
+-- What is done for all objects at once: a commit begins, takes a Yes, ends its prepare step, puts its record, is decided, or lets its record go; and what stores and ends do.
 pub data Common : Type 0 where
   BeginAll : ℕ → (ℕ → Plan) → Common
   TakeAll : ℕ → ℕ → Common
@@ -92,6 +94,7 @@ pub data Common : Type 0 where
   ForgetEntries : ℕ → ℕ → Common
   SendAll : Message → Common
 
+-- the hold is this top's
 abbrev pub is_of : Option Hold → ℕ → Bool
 is_of None t = false
 is_of (Some h) t = h.top == t
@@ -117,6 +120,7 @@ is_seen x M (ToldAbort t m) = true
 is_seen x M (Acked t m) = true
 is_seen x M (ToldSerial r m) = true
 
+-- how a confirmation is an effect of one object
 abbrev pub seen_part : ℕ → Part → Effect
 seen_part t Agrees = Agree t
 seen_part t Passes = Pass t
@@ -149,16 +153,19 @@ conf_by Agrees S t = marked S t S.conf
 conf_by Passes S t = S.conf
 conf_by Enters S t = marked S t S.conf
 
+-- what a confirmation makes of who is confirmed without a part
 abbrev pub light_by : Part → State → ℕ → ℕ → Bool
 light_by Agrees S t = S.light
 light_by Passes S t = marked S t S.light
 light_by Enters S t = S.light
 
+-- what it makes of the prepared entry
 abbrev pub entry_by : Part → State → ℕ → Option Hold
 entry_by Agrees S t = S.entry_pend
 entry_by Passes S t = S.entry_pend
 entry_by Enters S t = Some (entry_hold S t)
 
+-- all objects after an effect
 abbrev pub changed_all : Several → Common → Several
 changed_all M (BeginAll t plans) = record M { stage = put t Preparing M.stage; plan = λ x. put t (plans x) (M.plan x); begun = put t true M.begun }
 changed_all M (TakeAll t s) = record M { got = put2 t s true M.got }

@@ -44,6 +44,7 @@ IsPlain lines u = (a : Act) × Contains (let B = book lines in B.acts) a × (a.u
 abbrev pub IsDoneBy : (List Line → Uid → Type 0) → machine.World → List Line → Uid → Type 0
 IsDoneBy Idle W lines u = (decided W.disk (uid_number u) ≡ true) ⊎ (W.disk.bare (uid_number u) ≡ true) ⊎ Idle lines u ⊎ IsPlain lines u
 
+-- so it is of each top that the journal says to be decided
 abbrev pub AreDone : (List Line → Uid → Type 0) → machine.World → Seen → Type 0
 AreDone Idle W M = (u : Uid) → is_decided (book M.lines) u ≡ true → IsDoneBy Idle W M.lines u
 

@@ -45,6 +45,7 @@ PassesListed x tops S T d None = (y v s : ℕ) → v < (d.inc + 1) * 4294967296 
 PassesListed x tops S T d (Some t) = (n : Naming) → t.naming ≡ Some n → (y v s : ℕ) → v ≤ binding_number (record { inc = n.inc; count = n.count })
     → (y ≡ x → (u : Uid) → IsCurrent x tops S n u v → has (let e = listed_entry x d.names in e.stores) s ≡ true) → T.listed y v s ≡ true
 
+-- so it is at node 1, up or down
 abbrev pub PassesLists : ℕ → Kinds → State → Tests → Seen → Type 0
 PassesLists x tops S T M = (n : Node) → M.nodes 1 ≡ Some n → PassesListed x tops S T n.disk n.live
 

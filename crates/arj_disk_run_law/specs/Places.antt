@@ -21,6 +21,7 @@ use Rattle.arj_disk_run_law.specs.Sound.{AreSound, IsOwnVote}
 abbrev pub IsBegun : List Action → Uid → Type 0
 IsBegun acts u = (a : Action) × Contains acts a × (act_of a ≡ u)
 
+-- so it is of each action that has something prepared
 abbrev pub AreBegunIn : List Action → Pair → Type 0
 AreBegunIn acts p = AllByRecursion (λ (e : Uid × List ObjectState). IsBegun acts e.0) p.pend
 
@@ -51,9 +52,11 @@ abbrev pub AreKeyed : List (ℕ × Copy) → Type 0
 AreKeyed [] = ⊤
 AreKeyed (e ∷ es) = AllByRecursion (λ (f : ℕ × Copy). e.0 < f.0) es × AreKeyed es
 
+-- so it is of each row on an entry
 abbrev pub AreEntryRows : List Action → List (ℕ × Named) → Type 0
 AreEntryRows acts objects = AllByRecursion (λ (e : ℕ × Named). (r : Row) → Contains (let o = e.1 in o.rows) r → IsEntryRow acts r) objects
 
+-- so it is of naming, where it is there
 abbrev pub AreNamesRows : List Action → Option Naming → Type 0
 AreNamesRows acts None = ⊤
 AreNamesRows acts (Some n) = AreEntryRows acts n.objects
@@ -84,6 +87,7 @@ abbrev pub IsAboutBegun : List Action → ℕ → Option Uid → Type 0
 IsAboutBegun acts to None = ⊤
 IsAboutBegun acts to (Some u) = (to ≡ u.node) × IsBegun acts u
 
+-- whom a message asks about was begun
 abbrev pub AsksBegun : List Action → ℕ → Message → Type 0
 AsksBegun acts to m = IsAboutBegun acts to (asked_about m)
 

@@ -47,5 +47,6 @@ pub record IsRecorded (acts : List Action) (n : Node) : Type 0 where
   pub disk : AreRooted acts (let d = n.disk in d.intents)
   pub live : (t : Parts) → n.live ≡ Some t → HaveRecords (let d = n.disk in d.intents) t.coord.telling × AreSorted t.coord.telling
 
+-- so it is at each node
 abbrev pub AreRecorded : List Action → Seen → Type 0
 AreRecorded acts M = (k : ℕ) (n : Node) → M.nodes k ≡ Some n → IsRecorded acts n

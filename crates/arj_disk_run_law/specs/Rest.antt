@@ -59,6 +59,7 @@ answers_commit a c = is_committing (doing_of a.act c)
 abbrev pub IsCountedWith : (Seen → Bool) → Seen → Type 0
 IsCountedWith test M = (AreGoodCounted M × IsKept M) × (test M ≡ true)
 
+-- and what is known in every run of a script
 abbrev pub IsKnownWith : (Seen → Bool) → Seen → Type 0
 IsKnownWith test M = IsCountedWith test M × KnowsScript M
 

@@ -45,6 +45,7 @@ pub record AgreesOn (x : ℕ) (last : Packed) (M : Seen) : Type 0 where
   pub changer : (n : Node) (a b : Uid) (st su : ObjectState) → M.nodes 1 ≡ Some n → HasPrepared a (entry x) st n.disk.names → HasPrepared b (entry x) su n.disk.names → a ≡ b
   pub rises : (m : Node) (s : ℕ) (a : Uid) (st su : ObjectState) → M.nodes s ≡ Some m → held_at (object x) m.disk.store ≡ Some st → HasPrepared a (object x) su m.disk.store → Below (packed st) (packed su)
 
+-- there is such a last state
 abbrev pub CopiesAgree : ℕ → Seen → Type 0
 CopiesAgree x M = (last : Packed) × AgreesOn x last M
 

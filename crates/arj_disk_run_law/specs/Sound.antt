@@ -35,6 +35,7 @@ abbrev pub states_in : VotedReply → Option (List ObjectState)
 states_in (voted.Yes states) = Some states
 states_in (voted.Changed w) = None
 
+-- so it is of an answer of any kind
 abbrev pub voted_of : Reply → Option (List ObjectState)
 voted_of (Reply.Voted r) = states_in r
 voted_of _ = None
@@ -45,6 +46,7 @@ pub record AreOwnStates (top : Uid) (states : List ObjectState) : Type 0 where
   pub once : AreOneEach states
   pub writer : (s : ObjectState) → Among s states → s.writer ≡ top
 
+-- so it is of the states of a vote, where the answer is one
 abbrev pub AreOwnIn : Uid → Option (List ObjectState) → Type 0
 AreOwnIn top None = ⊤
 AreOwnIn top (Some states) = AreOwnStates top states
@@ -54,6 +56,7 @@ abbrev pub IsOwnAnswer : Option (Asked × Reply) → Type 0
 IsOwnAnswer None = ⊤
 IsOwnAnswer (Some a) = AreOwnIn (let q = a.0 in q.act) (voted_of a.1)
 
+-- so it is of what a message answers
 abbrev pub IsOwnVote : Message → Type 0
 IsOwnVote m = IsOwnAnswer (answers m)
 
@@ -81,6 +84,7 @@ pub record IsSound (m : commit.Machine) : Type 0 where
   pub more : List commit.Used
   pub uses : (let p = commit.plan_of m in p.used) ≡ used ∷ more
 
+-- so it is of what an action is at
 abbrev pub IsSoundNow : Now → Type 0
 IsSoundNow (Committing m) = IsSound m
 IsSoundNow _ = ⊤

@@ -33,24 +33,29 @@ OwnOf P x st = Own P st × ((let u = st.uid in u.num) ≡ x)
 
 -- ---- messages
 
+-- the states of a request fit: of an Activate as loaded ones, of a Prepare as those of stores
 abbrev pub AskIsSo : Fits → Ask → Type 0
 AskIsSo F (ask.Activate b st) = Own F.loaded st
 AskIsSo F (ask.Prepare states) = AllByRecursion (Own F.kept) states
 AskIsSo F _ = ⊤
 
+-- so it is of a request, where the message is one
 abbrev pub AskedIsSo : Fits → Option (Head × Ask) → Type 0
 AskedIsSo F None = ⊤
 AskedIsSo F (Some a) = AskIsSo F a.1
 
+-- the states of an answer fit: of a Load as loaded ones, of a vote as voted ones
 abbrev pub ReplyIsSo : Fits → Reply → Type 0
 ReplyIsSo F (Reply.Loaded (loaded.State st)) = Own F.loaded st
 ReplyIsSo F (Reply.Voted (voted.Yes states)) = AllByRecursion (Own F.voted) states
 ReplyIsSo F _ = ⊤
 
+-- so it is of an answer, where the message is one
 abbrev pub AnsweredIsSo : Fits → Option (Asked × Reply) → Type 0
 AnsweredIsSo F None = ⊤
 AnsweredIsSo F (Some a) = ReplyIsSo F a.1
 
+-- the states of a message fit
 abbrev pub MessageIsSo : Fits → Message → Type 0
 MessageIsSo F m = AskedIsSo F (asks m) × AnsweredIsSo F (answers m)
 
@@ -66,6 +71,7 @@ abbrev pub EndIsSo : Fits → ℕ → CallEnd → Type 0
 EndIsSo F x (Included st) = OwnOf F.loaded x st
 EndIsSo F x _ = ⊤
 
+-- so it is of the step that a call goes on to
 abbrev pub StepIsSo : Fits → ℕ → CallStep → Type 0
 StepIsSo F x (On at) = AtIsSo F x at
 StepIsSo F x (Ended e) = EndIsSo F x e
@@ -75,6 +81,7 @@ pub record PlanIsSo (F : Fits) (p : Plan) : Type 0 where
   pub used : AllByRecursion (λ (u : Used). IfSome u.loaded (OwnOf F.kept u.x)) p.used
   pub changed : AllByRecursion (Own F.voted) p.changed
 
+-- so it is of what an action is at
 abbrev pub NowIsSo : Fits → Now → Type 0
 NowIsSo F Idle = ⊤
 NowIsSo F (Calling s) = AtIsSo F s.x s.at
@@ -85,6 +92,7 @@ pub record RootIsSo (F : Fits) (r : Root) : Type 0 where
   pub joined : AllByRecursion (λ (j : Joined). OwnOf F.kept j.x j.loaded) r.joined
   pub states : AllByRecursion (λ (e : ℕ × ObjectState). OwnOf F.kept e.0 e.1) r.states
 
+-- The states that a coordinator has fit.
 pub record CoordIsSo (F : Fits) (c : Coord) : Type 0 where
   pub works : (u : Uid) (d : Doing) → doing_of u c ≡ Some d → NowIsSo F d.now
   pub roots : AllByRecursion (λ (e : ℕ × Root). RootIsSo F e.1) c.roots
@@ -102,5 +110,6 @@ Says F (Send to m) = MessageIsSo F m
 Says F (Say b) = ⊤
 Says F (Do w) = PreparesNone w
 
+-- so it is of all effects
 abbrev pub AllSay : Fits → List Effect → Type 0
 AllSay F outs = AllByRecursion (Says F) outs

@@ -37,6 +37,7 @@ fits_of x V = record {
 abbrev pub CopyIsSo : ℕ → (ℕ → Type 0) → ℕ → Copy → Type 0
 CopyIsSo x V y c = y ≡ x → V (let b = c.base in b.version)
 
+-- so it is of all copies
 abbrev pub CopiesAreSo : ℕ → (ℕ → Type 0) → Server → Type 0
 CopiesAreSo x V s = AllByRecursion (λ (e : ℕ × Copy). CopyIsSo x V e.0 e.1) s.objects
 

@@ -76,6 +76,7 @@ abbrev pub DoubtIsMarked : Type 0
 DoubtIsMarked = (x : ℕ) (S : State) (t s : ℕ) (p : commit.Plan) (left : List ℕ) → SeesPreparing x S t p left → order.has left s ≡ true
     → SeesPreparing x S t (marks_store s p) (order.without_number s left)
 
+-- all stores that are given up are marked
 abbrev pub SilentAreMarked : Type 0
 SilentAreMarked = (x : ℕ) (S : State) (t : ℕ) (p : commit.Plan) (left : List ℕ) → SeesPreparing x S t p left → SeesPreparing x S t (marks_stores left p) []
 
@@ -87,5 +88,6 @@ PreparesEnd = (x : ℕ) (W : World) (t : ℕ) (p : commit.Plan) → SeesPreparin
 abbrev pub StoresStayByTop : Type 0
 StoresStayByTop = (x s t : ℕ) (d : Pair) (W V : World) → OnlyTop t W V → SeesStore x s d W.disk → SeesStore x s d V.disk
 
+-- the entry is seen as it was
 abbrev pub EntryStaysByTop : Type 0
 EntryStaysByTop = (x t : ℕ) (d : Pair) (W V : World) → OnlyTop t W V → SeesEntry x d W.disk → SeesEntry x d V.disk

@@ -62,6 +62,7 @@ abbrev pub AgreeingKeeps : Type 0
 AgreeingKeeps = (x : ℕ) (d : Pair) (S : State) (top : Uid) (states : List ObjectState) → SeesEntry x d S → is_prepared top d ≡ false → S.begun (uid_number top) ≡ true → HasNone (entry x) states
     → SeesEntry x (pair_prepared top states d) (changed S (Agree (uid_number top)))
 
+-- a top that has no part in the entry passes
 abbrev pub PassingKeeps : Type 0
 PassingKeeps = (x : ℕ) (d : Pair) (S : State) (top : Uid) (states : List ObjectState) → SeesEntry x d S → is_prepared top d ≡ false → S.begun (uid_number top) ≡ true → HasNone (entry x) states
     → SeesEntry x (pair_prepared top states d) (changed S (Pass (uid_number top)))

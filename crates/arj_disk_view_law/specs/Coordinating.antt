@@ -69,6 +69,7 @@ IsBefore Idle = ⊤
 IsBefore (Committing (commit.Voting p left)) = ⊤
 IsBefore _ = ⊥
 
+-- A top's prepare step begins, or what follows where no store is to be asked.
 abbrev pub TopsPrepare : Type 0
 TopsPrepare = (x : ℕ) (tops : Kinds) (e k : ℕ) (d : Disk) (t : Parts) (act : Uid) (b : Branch) (q : Doing) (p : commit.Plan) (M : Seen) → KnowsCoord tops d.intents t.coord
     → branch_of act t.coord.tree ≡ Some b → b.ended ≡ None → doing_of act t.coord ≡ Some q → IsBefore q.now → tops.is_top (uid_number act) ≡ true → may_note tops.walk (Begins (uid_number act)) ≡ true → KnowsPlan act p → IsUnanswered p → (p.used ≡ [] → UsesNothing p)
@@ -87,6 +88,7 @@ commit_note (commit.Voting p left) t = Begins t
 commit_note (commit.Preparing p left) t = Begins t
 commit_note (commit.Confirming p) t = Decides t
 
+-- so much may be noted where an answer comes
 abbrev pub MayCommit : Option Walk → commit.Machine → ℕ → Type 0
 MayCommit o m t = may_note o (commit_note m t) ≡ true
 
@@ -124,6 +126,7 @@ abbrev pub CallsBegin : Type 0
 CallsBegin = (x : ℕ) (tops : Kinds) (e k : ℕ) (d : Disk) (t : Parts) (act : Uid) (b : Branch) (q : Doing) (y : ℕ) (o : Op) (M : Seen) → KnowsCoord tops d.intents t.coord
     → branch_of act t.coord.tree ≡ Some b → b.ended ≡ None → doing_of act t.coord ≡ Some q → q.now ≡ Idle → (W : World) → SeesDisks x tops W (up k d t M) → DidIsWalked x tops e k d t (call b.path y o t.coord) M
 
+-- an open action that waits for nothing includes a store
 abbrev pub IncludesBegin : Type 0
 IncludesBegin = (x : ℕ) (tops : Kinds) (e k : ℕ) (d : Disk) (t : Parts) (act : Uid) (b : Branch) (q : Doing) (y s : ℕ) (M : Seen) → KnowsCoord tops d.intents t.coord
     → branch_of act t.coord.tree ≡ Some b → b.ended ≡ None → doing_of act t.coord ≡ Some q → q.now ≡ Idle → (W : World) → SeesDisks x tops W (up k d t M) → DidIsWalked x tops e k d t (include b.path y s t.coord) M
@@ -133,6 +136,7 @@ abbrev pub CallsAreHeard : Type 0
 CallsAreHeard = (x : ℕ) (tops : Kinds) (e k : ℕ) (d : Disk) (t : Parts) (from : ℕ) (act : Uid) (q : Doing) (s : Steps) (r : Reply) (M : Seen) → KnowsCoord tops d.intents t.coord
     → doing_of act t.coord ≡ Some q → q.now ≡ Calling s → (W : World) → SeesDisks x tops W (up k d t M) → ClaimsReply x W from act r → DidIsWalked x tops e k d t (heard_call s r t.coord) M
 
+-- a call or an include is given up
 abbrev pub CallsAreGivenUp : Type 0
 CallsAreGivenUp = (x : ℕ) (tops : Kinds) (e k : ℕ) (d : Disk) (t : Parts) (act : Uid) (q : Doing) (s : Steps) (M : Seen) → KnowsCoord tops d.intents t.coord
     → doing_of act t.coord ≡ Some q → q.now ≡ Calling s → (W : World) → SeesDisks x tops W (up k d t M) → DidIsWalked x tops e k d t (gives_up act d.intents t.coord (Calling s)) M
@@ -158,6 +162,7 @@ RestartsAreWalked = (x : ℕ) (tops : Kinds) (e k : ℕ) (hd : Header) (d : Disk
 abbrev pub AreOrphansOf : Kinds → Uid → Disk → Naming → Type 0
 AreOrphansOf tops u d n = AllByRecursion (λ (a : Uid). (tops.root (uid_number a) ≡ uid_number u) × (tops.is_top (uid_number u) ≡ false) × (tops.is_serial (uid_number u) ≡ true)) (orphans u d.names n)
 
+-- naming is told of an end
 abbrev pub NamingIsTold : Type 0
 NamingIsTold = (x : ℕ) (tops : Kinds) (e : ℕ) (d : Disk) (t v : Parts) (n : Naming) (from : ℕ) (ack : Bool) (ends : List (Uid × End)) (u : Uid) (how : End) (outs : List Effect) (M : Seen) → t.naming ≡ Some n → AreOrphansOf tops u d n → (ack ≡ true → may_note tops.walk (Acks (uid_number u)) ≡ true)
     → (W : World) → SeesDisks x tops W (up 1 d t M) → ClaimsLast tops W 1 ack (Some (u, how)) → handle_told 1 d t from ack ends u how ≡ Took v outs → Walks (IsSeenByDisks x tops) e 1 outs (Up (IsSeenByDisks x tops) 1 v) d M

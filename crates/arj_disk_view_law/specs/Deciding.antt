@@ -17,6 +17,7 @@ use Rattle.arj_disk_view_law.specs.Stores.{SeesStore}
 use Rattle.arj_disk_view_law.specs.Entries.{SeesEntry}
 use Rattle.arj_disk_view_law.specs.Asking.{SeesConfirming}
 
+-- the nodes of a record that is there
 abbrev pub nodes_of : Option Intent → Option (List ℕ)
 nodes_of None = None
 nodes_of (Some i) = Some i.nodes
@@ -86,5 +87,6 @@ EndsMayBeTold = (k : ℕ) (W : World) (u : Uid) (m : ℕ) (intents : List (Uid �
 abbrev pub StoresStayCalm : Type 0
 StoresStayCalm = (x s : ℕ) (d : Pair) (W V : World) → IsCalm W V → SeesStore x s d W.disk → SeesStore x s d V.disk
 
+-- the entry is seen as it was
 abbrev pub EntryStaysCalm : Type 0
 EntryStaysCalm = (x : ℕ) (d : Pair) (W V : World) → IsCalm W V → SeesEntry x d W.disk → SeesEntry x d V.disk

@@ -39,6 +39,7 @@ pub record EntryGoes (x : ℕ) (d : Pair) (W : World) : Type 0 where
 abbrev pub EntriesCommit : Type 0
 EntriesCommit = (x : ℕ) (d : Pair) (W : World) (a : Uid) → Bare W.disk → SeesEntry x d W.disk → ClaimsCommit W a naming → is_prepared a d ≡ true → EntryGoes x (pair_committed a d) W
 
+-- stopped in part, an action's entry has moved or hasn't
 abbrev pub EntriesStopInPart : Type 0
 EntriesStopInPart = (x : ℕ) (d : Pair) (W : World) (a : Uid) (which : Uid → Bool) → Bare W.disk → SeesEntry x d W.disk → ClaimsCommit W a naming → is_prepared a d ≡ true → EntryGoes x (pair_in_part which a d) W
 
@@ -54,5 +55,6 @@ EntriesForget = (x : ℕ) (d : Pair) (W : World) (a : Uid) (r : ℕ) → SeesEnt
 abbrev pub StoresStayByEntry : Type 0
 StoresStayByEntry = (x s : ℕ) (d : Pair) (W V : World) → OnlyEntry W V → SeesStore x s d W.disk → SeesStore x s d V.disk
 
+-- the entry is seen as it was
 abbrev pub EntryStaysByStore : Type 0
 EntryStaysByStore = (x s : ℕ) (d : Pair) (W V : World) → OnlyStore s W V → SeesEntry x d W.disk → SeesEntry x d V.disk

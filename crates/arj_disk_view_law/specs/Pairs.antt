@@ -25,6 +25,7 @@ num u = uid_number u
 abbrev pub packed : ObjectState → Packed
 packed s = record { version = s.version; writer = uid_number s.writer; content = s.payload }
 
+-- the entry of a state
 abbrev pub packed_entry : ObjectState → Packed
 packed_entry s = record { version = s.version; writer = uid_number s.writer; content = (state_entry s).stores }
 

@@ -19,6 +19,7 @@ used_at x us = find (λ (u : Used). u.x == x) us
 abbrev pub unloaded : Packed
 unloaded = record { version = 0; writer = 0; content = [] }
 
+-- the state that was loaded, if one was
 abbrev pub loads : Option ObjectState → Packed
 loads None = unloaded
 loads (Some s) = packed s
@@ -28,6 +29,7 @@ abbrev pub plan_by : Option Used → Option ObjectState → disk.Plan
 plan_by None changed = record { writes = None; list = []; joins = []; loaded = unloaded }
 plan_by (Some u) changed = record { writes = option_map packed changed; list = u.stores; joins = u.joins; loaded = loads u.loaded }
 
+-- the machine's plan for an object
 abbrev pub plan_at : ℕ → commit.Plan → disk.Plan
 plan_at x p = plan_by (used_at x p.used) (changed_of x p)
 

@@ -66,6 +66,7 @@ pub record Along (w : Walk) (W : World) : Type 0 where
   pub here : run w.from effects ≡ W
   pub only : AreOnlyOf w.noted effects
 
+-- outside of a walk nothing is asked
 abbrev pub IsAlong : Option Walk → World → Type 0
 IsAlong None W = ⊤
 IsAlong (Some w) W = Along w W
@@ -77,6 +78,7 @@ abbrev pub begins : Uid → Body → Bool
 begins u (body.Began l k v parent) = uid_eq v u
 begins u _ = false
 
+-- so some line of the journal says
 abbrev pub was_begun : Uid → List Line → Bool
 was_begun u lines = list_any (λ (l : Line). begins u l.body) lines
 
@@ -85,11 +87,13 @@ pub record ClaimsConfirm (x : ℕ) (W : World) (t : ℕ) (grants excluded includ
   pub asked : In (mail.Confirm t) W.sent
   pub says : SaysMarks x (W.disk.plan t) (W.disk.got t) grants excluded included
 
+-- what a request claims: a Prepare and a Confirm alone
 abbrev pub ClaimsAsk : ℕ → World → ℕ → Head → Ask → Type 0
 ClaimsAsk x W to h (ask.Prepare states) = ClaimsPrepare x W (actor h.path) to states
 ClaimsAsk x W to h (ask.Confirm grants excluded included) = (actor h.path ≡ top_of h.path) × ClaimsConfirm x W (uid_number (top_of h.path)) grants excluded included
 ClaimsAsk x W to h _ = ⊤
 
+-- what an answer claims: that a state is prepared, that the top is confirmed, that a loaded state was the last one once
 abbrev pub ClaimsReply : ℕ → World → ℕ → Uid → Reply → Type 0
 ClaimsReply x W from u (Reply.Prepared prepared.Yes) = (W.disk.begun (uid_number u) ≡ true) × (target (W.disk.plan (uid_number u)) from ≡ true → In (mail.Prepared (uid_number u) from) W.sent)
 ClaimsReply x W from u (Reply.Confirmed confirmed.Yes) = In (mail.Confirmed (uid_number u)) W.sent
@@ -110,20 +114,24 @@ abbrev pub ClaimsLast : Kinds → World → ℕ → Bool → Option (Uid × End)
 ClaimsLast tops W to ack None = ⊤
 ClaimsLast tops W to ack (Some e) = ClaimsEnd tops W to e × (ack ≡ true → In (mail.ToldCommit (uid_number e.0) to) W.sent)
 
+-- what other messages claim: of ends, of acknowledgements, and that who is asked about was begun
 abbrev pub ClaimsOther : Kinds → World → List Line → ℕ → ℕ → Message → Type 0
 ClaimsOther tops W lines from to (message.Told m) = ClaimsLast tops W to m.ack (last_end m.ends)
 ClaimsOther tops W lines from to (message.Acked m) = In (mail.Acked (uid_number m.act) from) W.sent
 ClaimsOther tops W lines from to (message.Query m) = was_begun m.act lines ≡ true
 ClaimsOther tops W lines from to _ = ⊤
 
+-- what an answer claims, or any other message
 abbrev pub ClaimsAnswered : ℕ → Kinds → World → List Line → ℕ → ℕ → Message → Option (Asked × Reply) → Type 0
 ClaimsAnswered x tops W lines from to m None = ClaimsOther tops W lines from to m
 ClaimsAnswered x tops W lines from to m (Some a) = ClaimsReply x W from a.0.act a.1
 
+-- what a request claims, or any other message
 abbrev pub ClaimsAsked : ℕ → Kinds → World → List Line → ℕ → ℕ → Message → Option (Head × Ask) → Type 0
 ClaimsAsked x tops W lines from to m None = ClaimsAnswered x tops W lines from to m (answers m)
 ClaimsAsked x tops W lines from to m (Some a) = ClaimsAsk x W to a.0 a.1
 
+-- what a message claims of the object
 abbrev pub Claims : ℕ → Kinds → World → List Line → Post → Type 0
 Claims x tops W lines p = ClaimsAsked x tops W lines p.from p.to p.message (asks p.message)
 
@@ -133,6 +141,7 @@ Claims x tops W lines p = ClaimsAsked x tops W lines p.from p.to p.message (asks
 abbrev pub IsFuture : Coord → Uid → Type 0
 IsFuture c u = ((u.inc ≡ c.tree.inc) × (length c.tree.branches < u.num)) ⊎ (c.tree.inc < u.inc)
 
+-- what an action is at is so in the machine: only a commit that prepares or waits for naming is something there
 abbrev pub WorksBy : ℕ → State → ℕ → Now → Type 0
 WorksBy x S t (Committing (Preparing p left)) = SeesPreparing x S t p left
 WorksBy x S t (Committing (Confirming p)) = SeesConfirming x S t p
@@ -173,6 +182,7 @@ pub record IsFixed (tops : Kinds) (S : State) : Type 0 where
 abbrev pub IsKnown : ℕ → World → ObjectState → Type 0
 IsKnown x W st = st.uid ≡ object x → Known W.disk (packed st)
 
+-- so it is of a state that is there
 abbrev pub IsKnownIfThere : ℕ → World → Option ObjectState → Type 0
 IsKnownIfThere x W None = ⊤
 IsKnownIfThere x W (Some st) = IsKnown x W st
@@ -254,6 +264,7 @@ pub record IsLater (W V : World) : Type 0 where
 abbrev pub EffectsAreLater : Type 0
 EffectsAreLater = (W : World) (es : List machine.Effect) → Follows W es → Whole W → IsLater W (run W es)
 
+-- what a message claims stays true
 abbrev pub ClaimsStay : Type 0
 ClaimsStay = (x : ℕ) (tops : Kinds) (W V : World) (lines more : List Line) (p : Post) → Whole W → IsLater W V → Claims x tops W lines p → Claims x tops V (lines ++ more) p
 
@@ -271,6 +282,7 @@ WalksAreFollowed = (x : ℕ) (tops : Kinds) (o : Option Walk) (W : World) (M : S
 abbrev pub StopsAreSeen : Type 0
 StopsAreSeen = (x : ℕ) (tops : Kinds) (e k : ℕ) (d : Disk) (live : Option Parts) (M : Seen) → IsSeenByDisks x tops (at k d live M) → IsSeenByDisks x tops (halted e k d M)
 
+-- lines at which no place looks may be said
 abbrev pub LinesAreSeen : Type 0
 LinesAreSeen = (x : ℕ) (tops : Kinds) (e : ℕ) (bs : List Body) (M : Seen) → IsSeenByDisks x tops M → IsSeenByDisks x tops (said e bs M)
 
@@ -284,6 +296,7 @@ abbrev pub IsLoad : Ask → Type 0
 IsLoad (ask.Load y) = ⊤
 IsLoad _ = ⊥
 
+-- a Prepare
 abbrev pub IsPrepare : Ask → Type 0
 IsPrepare (ask.Prepare states) = ⊤
 IsPrepare _ = ⊥
@@ -335,6 +348,7 @@ pub record WaitsForStore (t : Parts) (from : ℕ) (act : Uid) (p : commit.Plan) 
   pub more : List Used
   pub uses : p.used ≡ used ∷ more
 
+-- A top takes the answer of a store.
 abbrev pub PreparedIsHeard : Type 0
 PreparedIsHeard = (x : ℕ) (tops : Kinds) (e k : ℕ) (d : Disk) (t : Parts) (from : ℕ) (act : Uid) (r : PreparedReply) (p : commit.Plan) (left : List ℕ) (intents : List (Uid × Intent)) (M : Seen)
     → WaitsForStore t from act p left → tops.is_top (uid_number act) ≡ true → may_note tops.walk (Begins (uid_number act)) ≡ true → IsTaken r → (W : World) → SeesDisks x tops W (up k d t M) → ClaimsReply x W from act (Reply.Prepared r)
@@ -372,6 +386,7 @@ pub record IsOneChange (p : commit.Plan) (x : ℕ) (st : ObjectState) : Type 0 w
   pub used : Used
   pub uses : used_at x p.used ≡ Some used
 
+-- so it is of every state that the plan changes
 abbrev pub AreOneChange : commit.Plan → Type 0
 AreOneChange p = (x : ℕ) (st : ObjectState) → Among st p.changed → st.uid ≡ object x → IsOneChange p x st
 

@@ -70,6 +70,7 @@ StoresAnswer = (x s : ℕ) (d : Pair) (W : World) (a : Uid) (states : List Objec
 abbrev pub StoresCommit : Type 0
 StoresCommit = (x s : ℕ) (d : Pair) (W : World) (a : Uid) → Bare W.disk → SeesStore x s d W.disk → ClaimsCommit W a s → is_prepared a d ≡ true → StoreGoes x s (pair_committed a d) W
 
+-- stopped in part, an action's state has moved or hasn't
 abbrev pub StoresStopInPart : Type 0
 StoresStopInPart = (x s : ℕ) (d : Pair) (W : World) (a : Uid) (which : Uid → Bool) → Bare W.disk → SeesStore x s d W.disk → ClaimsCommit W a s → is_prepared a d ≡ true → StoreGoes x s (pair_in_part which a d) W
 

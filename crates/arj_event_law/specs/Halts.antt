@@ -15,10 +15,12 @@ halted_node _ = None
 abbrev pub is_no_halt : Body → Bool
 is_no_halt b = not (is_some (halted_node b))
 
+-- so it is of an effect
 abbrev pub says_no_halt : Effect → Bool
 says_no_halt (Say b) = is_no_halt b
 says_no_halt _ = true
 
+-- a crash
 abbrev pub is_crash : Input → Bool
 is_crash Crash = true
 is_crash _ = false
@@ -32,6 +34,7 @@ abbrev pub is_only : ℕ → Option ℕ → Bool
 is_only k None = true
 is_only k (Some n) = n == k
 
+-- an effect says of no other node that it halted
 abbrev pub says_own_halt : ℕ → Effect → Bool
 says_own_halt k (Say b) = is_only k (halted_node b)
 says_own_halt k _ = true

@@ -136,9 +136,11 @@ pub record IsAnswered (e : Event) (old : World) (over : Bool) (lines : List Line
   pub are : lines ≡ old.lines ++ (before ++ line ∷ after)
   pub answers : Answers e old over line.body
 
+-- the event wrote a line that answers it, where the run goes on
 abbrev pub Writes : Event → World → World → Type 0
 Writes e old new = IsAnswered e old new.over new.lines
 
+-- each event that owes a line writes it
 abbrev pub EventsWriteTheirLines : Type 0
 EventsWriteTheirLines = (e : Asked) (w : World) → IsWhole w → w.over ≡ false → Owes e.event w → Writes e.event w (run_event e w)
 
@@ -146,6 +148,7 @@ EventsWriteTheirLines = (e : Asked) (w : World) → IsWhole w → w.over ≡ fal
 abbrev pub EventsKeepWhole : Type 0
 EventsKeepWhole = (e : Asked) (w : World) → IsWhole w → IsWhole (run_event e w)
 
+-- a world that was formatted is whole
 abbrev pub FormatsAreWhole : Type 0
 FormatsAreWhole = (hd : Header) → IsWhole (format hd)
 

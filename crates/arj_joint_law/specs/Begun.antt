@@ -31,6 +31,7 @@ pub record IsBegunSo (hd : Header) (x : ℕ) (M : Seen) : Type 0 where
 abbrev pub RunsBeginSo : Type 0
 RunsBeginSo = (hd : Header) (x : ℕ) (test : Seen → Bool) → HeaderInForm hd → is_some (object_line hd x) ≡ true → KeepsHeard hd x test → (es : List Asked) → length es ≤ most_events → Holds hd (IsBegunSo hd x) (run_all es (format hd))
 
+-- so it is beside any relation that is kept with the machine's state
 abbrev pub RunsBeginSoBeside : Type 0
 RunsBeginSoBeside = (hd : Header) (x : ℕ) (part : Kinds → Office → Seen → Bool) → HeaderInForm hd → is_some (object_line hd x) ≡ true → KeepsPart hd x (λ W M. IsGood M × KnowsFew M) (λ tops A M. part tops A M ≡ true)
     → (es : List Asked) → length es ≤ most_events → Holds hd (IsBegunSo hd x) (run_all es (format hd))

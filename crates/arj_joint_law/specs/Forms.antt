@@ -59,6 +59,7 @@ pub record Kind : Type 0 where
 abbrev pub stored : Kind → Uid → ObjectState → Type 0
 stored k u st = (u ≡ object u.num) × OfClass k.x k.class u st
 
+-- the states of naming are entries of the object
 abbrev pub listed : Kind → Uid → ObjectState → Type 0
 listed k = OfEntry k.x k.servers
 
@@ -66,10 +67,12 @@ listed k = OfEntry k.x k.servers
 abbrev pub so_of : Kind → Fits
 so_of k = record { loaded = stored k; voted = stored k; kept = stored k }
 
+-- The states on a disk have their forms.
 pub record DiskIsSo (k : Kind) (d : Disk) : Type 0 where
   pub store : PairIsSo (stored k) d.store
   pub names : PairIsSo (listed k) d.names
 
+-- So have the states in memory.
 pub record PartsAreSo (k : Kind) (t : Parts) : Type 0 where
   pub server : AllByRecursion (λ (e : ℕ × Copy). CopyIsSo k.x k.class e.0 e.1) (let s = t.server in s.objects)
   pub coord : CoordIsSo (so_of k) t.coord
@@ -80,18 +83,22 @@ WorkIsSo k (Prepare role.Store u states) = AllByRecursion (Own (stored k)) state
 WorkIsSo k (Prepare role.Names u states) = AllByRecursion (Own (listed k)) states
 WorkIsSo k _ = ⊤
 
+-- so have the states of an effect
 abbrev pub EffectIsSo : Kind → Effect → Type 0
 EffectIsSo k (Send to m) = MessageIsSo (so_of k) m
 EffectIsSo k (Say b) = ⊤
 EffectIsSo k (Do w) = WorkIsSo k w
 
+-- and those of all effects
 abbrev pub AllAreSo : Kind → List Effect → Type 0
 AllAreSo k outs = AllByRecursion (EffectIsSo k) outs
 
+-- so have those of a node's memory, where it is up
 abbrev pub UpIsSo : Kind → Option Parts → Type 0
 UpIsSo k None = ⊤
 UpIsSo k (Some t) = PartsAreSo k t
 
+-- so have those of a node
 abbrev pub NodeIsSo : Kind → Node → Type 0
 NodeIsSo k n = DiskIsSo k n.disk × UpIsSo k n.live
 

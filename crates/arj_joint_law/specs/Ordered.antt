@@ -71,6 +71,7 @@ pub record IsOrderedSo (hd : Header) (x : ℕ) (M : Seen) : Type 0 where
 abbrev pub RunsAreOrdered : Type 0
 RunsAreOrdered = (hd : Header) (x : ℕ) (test : Seen → Bool) → HeaderInForm hd → is_some (object_line hd x) ≡ true → KeepsHeard hd x test → (es : List Asked) → length es ≤ most_events → Holds hd (IsOrderedSo hd x) (run_all es (format hd))
 
+-- so it is beside any relation that is kept with the machine's state
 abbrev pub RunsAreOrderedBeside : Type 0
 RunsAreOrderedBeside = (hd : Header) (x : ℕ) (part : Kinds → Office → Seen → Bool) → HeaderInForm hd → is_some (object_line hd x) ≡ true → KeepsPart hd x (λ W M. IsGood M × KnowsFew M) (λ tops A M. part tops A M ≡ true)
     → (es : List Asked) → length es ≤ most_events → Holds hd (IsOrderedSo hd x) (run_all es (format hd))

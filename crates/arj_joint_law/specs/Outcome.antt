@@ -31,6 +31,7 @@ abbrev pub is_behind_decision : List Line → Body → Bool
 is_behind_decision before (body.Done n u r ending.Commit) = is_said before u
 is_behind_decision before _ = true
 
+-- so it is of all lines
 abbrev pub commits_are_behind : List Line → Bool
 commits_are_behind lines = each_behind is_behind_decision [] lines
 
@@ -42,6 +43,7 @@ is_commit_by role.Store n u (body.Done m v role.Store ending.Commit) = (m == n) 
 is_commit_by role.Names n u (body.Done m v role.Names ending.Commit) = (m == n) && uid_eq v u
 is_commit_by r n u _ = false
 
+-- some line says so
 abbrev pub was_committed_at : List Line → Role → ℕ → Uid → Bool
 was_committed_at lines r n u = list_any (λ (line : Line). is_commit_by r n u line.body) lines
 
@@ -67,10 +69,12 @@ has_halted_since lines n u = list_any (λ m. is_top_of u (top_in m.it) && list_a
 abbrev pub may_abort : List Line → Role → ℕ → Uid → Bool
 may_abort lines r n u = was_committed_at lines r n u || was_excluded lines n u || has_halted_since lines n u
 
+-- so it is of a line that says an abort of an action that is decided
 abbrev pub has_cause_to_abort : List Line → Body → Bool
 has_cause_to_abort before (body.Done n u r ending.Abort) = not (is_said before u) || may_abort before r n u
 has_cause_to_abort before _ = true
 
+-- so it is of all lines
 abbrev pub aborts_have_cause : List Line → Bool
 aborts_have_cause lines = each_behind has_cause_to_abort [] lines
 

@@ -26,6 +26,7 @@ use Rattle.arj_protocol.specs.World.{numbered}
 abbrev pub label : Label
 label = record { len = 1; text = 65 ∷ replicate 15 0; whole = refl; short = omega arith; zeros = refl }
 
+-- its Uid
 abbrev pub its_uid : Uid
 its_uid = record { node = 1; inc = 1; num = 1 }
 
@@ -53,6 +54,7 @@ wrong_abort = before_commit ++ numbered 5 (body.Excluded label 1 3 ∷ body.Comm
 abbrev pub wrong_names_abort : List Line
 wrong_names_abort = before_commit ++ numbered 5 (body.Committed label ∷ body.Done 1 its_uid role.Names ending.Abort ∷ [])
 
+-- a store aborts a decided top behind a halt
 abbrev pub halted_abort : List Line
 halted_abort = before_commit ++ numbered 5 (body.Halted 2 ∷ body.Committed label ∷ done_at 2 ending.Abort ∷ [])
 
@@ -60,6 +62,7 @@ halted_abort = before_commit ++ numbered 5 (body.Halted 2 ∷ body.Committed lab
 abbrev pub wrong_commit : List Line
 wrong_commit = before_commit ++ numbered 5 (done_at 2 ending.Commit ∷ body.Committed label ∷ [])
 
+-- a store commits a top whose record a restart found
 abbrev pub found_commit : List Line
 found_commit = before_commit ++ numbered 5 (body.Halted 1 ∷ body.Up 1 2 ∷ body.Recovered 1 its_uid ∷ done_at 2 ending.Commit ∷ [])
 
@@ -69,6 +72,7 @@ found_commit = before_commit ++ numbered 5 (body.Halted 1 ∷ body.Up 1 2 ∷ bo
 abbrev pub decided_lines : List Line
 decided_lines = before_commit ++ numbered 5 (body.Excluded label 1 3 ∷ body.Committed label ∷ [])
 
+-- a counter at the stores 2 and 3
 abbrev pub header : Header
 header = record { nodes = 3; objects = record { x = 1; value = Counter 0; servers = 1 ∷ []; stores = 2 ∷ 3 ∷ [] } ∷ [] }
 
@@ -76,9 +80,11 @@ header = record { nodes = 3; objects = record { x = 1; value = Counter 0; server
 abbrev pub its_top : Top
 its_top = record { id = 0; root = 0; at = 2 }
 
+-- a state of the counter
 abbrev pub counter_state : ℕ → Uid → ℕ → ObjectState
 counter_state version writer value = record { uid = object 1; class = class.Counter; version = version; writer = writer; payload = replicate 7 0 ++ value ∷ [] }
 
+-- a state of its entry, with these stores
 abbrev pub entry_with : ℕ → Uid → List ℕ → ObjectState
 entry_with version writer stores = record { uid = entry 1; class = class.Entry; version = version; writer = writer; payload = entry_payload (1 ∷ []) stores }
 
@@ -86,18 +92,23 @@ entry_with version writer stores = record { uid = entry 1; class = class.Entry; 
 abbrev pub pair_with : Uid → ObjectState → List (Uid × List ObjectState) → Pair
 pair_with u held pend = record { held = (u, held) ∷ []; pend = pend }
 
+-- a pair with nothing
 abbrev pub empty : Pair
 empty = record { held = []; pend = [] }
 
+-- a node that is down, with these pairs
 abbrev pub node_with : ℕ → Pair → Pair → Node
 node_with n store names = record { number = n; disk = record { inc = 1; store = store; names = names; intents = [] }; live = None }
 
+-- the counter's first state
 abbrev pub first_counter : ObjectState
 first_counter = counter_state 0 nobody 0
 
+-- store 2 has the new state prepared
 abbrev pub store_two : Node
 store_two = node_with 2 (pair_with (object 1) first_counter ((its_uid, counter_state 1 its_uid 5 ∷ []) ∷ [])) empty
 
+-- store 3 holds the first state
 abbrev pub store_three : Node
 store_three = node_with 3 (pair_with (object 1) first_counter []) empty
 
@@ -105,5 +116,6 @@ store_three = node_with 3 (pair_with (object 1) first_counter []) empty
 abbrev pub naming_node : Node
 naming_node = node_with 1 empty (pair_with (entry 1) (entry_with 0 nobody (2 ∷ 3 ∷ [])) ((its_uid, entry_with 1 its_uid (2 ∷ []) ∷ []) ∷ []))
 
+-- the naming node with the old entry and nothing prepared
 abbrev pub naming_late : Node
 naming_late = node_with 1 empty (pair_with (entry 1) (entry_with 0 nobody (2 ∷ 3 ∷ [])) [])

@@ -31,6 +31,7 @@ IncludesAreThere hd lines = (i : Placed Inclusion) → Contains (included lines)
 abbrev pub ListedAreThere : Header → List Line → Type 0
 ListedAreThere hd lines = (x s : ℕ) → is_among (listed hd lines x) s ≡ true → AreThere hd x s
 
+-- where included stores are nodes of the header each store that an object lists is
 abbrev pub IncludesAreListed : Type 0
 IncludesAreListed = (hd : Header) (lines : List Line) → HeaderInForm hd → IncludesAreThere hd lines → ListedAreThere hd lines
 

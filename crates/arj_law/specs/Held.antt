@@ -22,6 +22,7 @@ Tables = ℕ → ℕ → List Row
 abbrev pub root_of_call : List Line → Call → ℕ
 root_of_call lines c = root_of (tops lines) c.top
 
+-- the Uid of that root
 abbrev pub root_uid : List Line → Call → Uid
 root_uid lines c = uid_of_id (acts lines) (root_of_call lines c)
 
@@ -34,6 +35,7 @@ abbrev pub first_of : List Uid → Uid
 first_of [] = nobody
 first_of (u ∷ us) = u
 
+-- the root of a row's holder
 abbrev pub holder_root : Row → Uid
 holder_root row = first_of row.holder
 
@@ -63,6 +65,7 @@ HaveOwnRoots lines c d = (root_of_call lines c == root_of_call lines d) ≡ fals
 abbrev pub GoTogether : Row → Row → Type 0
 GoTogether r s = uid_eq r.object s.object ≡ true → uid_eq (holder_root r) (holder_root s) ≡ false → conflicting r.mode s.mode ≡ false
 
+-- so it is of all rows of all tables
 abbrev pub RowsGoTogether : Tables → Type 0
 RowsGoTogether tables = (n p : ℕ) → AllByRecursion (λ r. AllByRecursion (GoTogether r) (tables n p)) (tables n p)
 

@@ -117,6 +117,7 @@ IsLined k B (Do (PutIntent u i)) = IsCalled B k u
 IsLined k B (Do (PutInc i)) = ⊥
 IsLined k B (Do w) = ⊤
 
+-- the book after an effect
 abbrev pub turned_by : Book → Effect → Book
 turned_by B (Say b) = turned B b
 turned_by B (Send to m) = B
@@ -127,6 +128,7 @@ abbrev pub after : Book → List Effect → Book
 after B [] = B
 after B (e ∷ es) = after (turned_by B e) es
 
+-- so it is of effects, each with the book before it
 abbrev pub AreLined : ℕ → Book → List Effect → Type 0
 AreLined k B [] = ⊤
 AreLined k B (e ∷ es) = IsLined k B e × AreLined k (turned_by B e) es
@@ -147,6 +149,7 @@ abbrev pub IsIdle : Effect → Type 0
 IsIdle (Do w) = ⊥
 IsIdle _ = ⊤
 
+-- so it is of all effects
 abbrev pub AreIdle : List Effect → Type 0
 AreIdle es = AllByRecursion IsIdle es
 
@@ -167,6 +170,7 @@ HasBranch c u = (b : Branch) × (branch_of u c.tree ≡ Some b)
 abbrev pub Counts : ℕ → ℕ → ℕ → Book → Type 0
 Counts k inc count B = AllByRecursion (λ (a : Act). IsCounted k inc count a.uid) B.acts
 
+-- the book counts the actions that a node began in its incarnation: those of its tree, where it is up
 abbrev pub Remembers : Book → ℕ → ℕ → Option Parts → Type 0
 Remembers B k inc None = (count : ℕ) × Counts k inc count B
 Remembers B k inc (Some t) = Counts k inc (length t.coord.tree.branches) B

@@ -49,6 +49,7 @@ IsCaused before (body.Told n u ending.Commit p) = IsCommittedIn before u
 IsCaused before (body.Done n u r ending.Commit) = IsCommittedIn before u
 IsCaused before _ = ⊤
 
+-- so it is of each line of the journal
 abbrev pub CommitsAreCaused : List Line → Type 0
 CommitsAreCaused lines = (before : List Line) (line : Line) (behind : List Line) → lines ≡ before ++ line ∷ behind → IsCaused before line.body
 
@@ -74,6 +75,7 @@ abbrev pub called_of : List Act → Body → Option ℕ
 called_of acts (body.Committing l) = id_in acts (name l)
 called_of acts _ = None
 
+-- the commit calls of a journal, in order
 abbrev pub called : List Line → List (Placed ℕ)
 called lines = read called_of [] 0 lines
 
@@ -83,6 +85,7 @@ answered_of acts (body.Ok l x o r) = id_in acts (name l)
 answered_of acts (body.Includes l x n) = id_in acts (name l)
 answered_of acts _ = None
 
+-- the number of the action whose exclusion a line says
 abbrev pub excluder_of : List Act → Body → Option ℕ
 excluder_of acts (body.Excluded l x n) = id_in acts (name l)
 excluder_of acts _ = None
@@ -92,6 +95,7 @@ excluder_of acts _ = None
 abbrev pub CallsAreTimely : List Line → Type 0
 CallsAreTimely lines = (before : List Line) (line : Line) (behind : List Line) → lines ≡ before ++ line ∷ behind → (id : ℕ) → answered_of (acts before) line.body ≡ Some id → (has_end (ended before) id ≡ false) × (has_end (called before) id ≡ false)
 
+-- each exclusion is said by an action whose commit was called and has no end yet
 abbrev pub ExclusionsAreTimely : List Line → Type 0
 ExclusionsAreTimely lines = (before : List Line) (line : Line) (behind : List Line) → lines ≡ before ++ line ∷ behind → (id : ℕ) → excluder_of (acts before) line.body ≡ Some id → (has_end (ended before) id ≡ false) × (has_end (called before) id ≡ true)
 

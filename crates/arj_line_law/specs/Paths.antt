@@ -23,6 +23,7 @@ AreAlike begun acts = ⊥
 abbrev pub IsAlikeOf : List Action → Seen → Type 0
 IsAlikeOf begun M = IsGoodOf begun M × AreAlike begun (let B = book M.lines in B.acts) × IsWritten M
 
+-- there are such actions
 abbrev pub IsAlike : Seen → Type 0
 IsAlike M = (begun : List Action) × IsAlikeOf begun M
 

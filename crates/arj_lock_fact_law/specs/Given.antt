@@ -10,8 +10,8 @@
 -- The whole world as the machine sees it (`arj_lock_run_law`) gives what messages show, `IsReached`, `IsFresh`, and that no more is decided
 -- than was (`IfDecided`, `IsBacked`).
 -- Whole runs (`arj_lock_whole_law`) give `HasNoneLeft` where an abort comes of an action whose unit is over: who acknowledged an end was told
--- of it in that incarnation, or was asked to vote in earlier ones; with what is taken there of records. `IsConfirming.again`: all Confirms of one top are one (`Parted`), and a Confirm was sent of whom naming
--- confirmed, which the machine confirmed too (`arj_lock_run_law`).
+-- of it in that incarnation, or was asked to vote in earlier ones; with what is taken there of records. `IsConfirming.again`: all Confirms
+-- of one top are one (`Parted`), and a Confirm was sent of whom naming confirmed, which the machine confirmed too (`arj_lock_run_law`).
 use Rattle.std.specs.Prelude.{◌≡◌, ◌≢◌, ℕ, true, false, List, Some, Contains}
 use Rattle.arj_protocol.specs.Words.{Ask, Head, Uid, asks}
 use Rattle.arj_protocol.specs.Words.kind
@@ -63,6 +63,7 @@ ActionsAreTopped = (g : Family) (c : Coord) → IsPlaced g c → AreTopped g.act
 abbrev pub ListedAreUnserial : Type 0
 ListedAreUnserial = (g : Family) (c : Coord) (root : Uid) → IsPlaced g c → KnowsEnds c → AreUnserial c (ends_of root c.tree)
 
+-- so it is of what commits bring
 abbrev pub BroughtAreUnserial : Type 0
 BroughtAreUnserial = (g : Family) (c : Coord) (u : Uid) (d : Doing) (m : Machine) → IsPlaced g c → KnowsEnds c → doing_of u c ≡ Some d → d.now ≡ Committing m → AreUnserial c (let p = plan_of m in p.ends)
 

@@ -39,6 +39,7 @@ IsAbove (bound.Live b server i g stores) = IsLow g b
 IsAbove (bound.Make b server g stores) = IsLow g b
 IsAbove r = ⊤
 
+-- so it is of a binding that was made
 abbrev pub IsMadeAbove : ℕ → Uid × Made → Type 0
 IsMadeAbove inc e = IsLow inc (let m = e.1 in m.binding)
 
@@ -69,9 +70,11 @@ pub record IsRetained (c : Coord) (r : Root) (x n : ℕ) : Type 0 where
   pub retained : is_retained said.path c ≡ true
   pub granted : IsGranted c r x n (last_uid said.path)
 
+-- the top was granted the entry's lock so, or its serializing action retains a call on the object
 abbrev pub HasGrant : Coord → Root → ℕ → ℕ → Uid → Type 0
 HasGrant c r x n w = IsGranted c r x n w ⊎ IsRetained c r x n
 
+-- the step is the Bind
 abbrev pub is_bind : At → Bool
 is_bind (AtBind avoid) = true
 is_bind _ = false
@@ -84,6 +87,7 @@ pub record KnowsGrantsBy (c e : Coord) : Type 0 where
   pub said : (root : Uid) (s : Said) (k : Known) → list.In s (let r = root_at root e in r.said) → kept_of s.x (root_at root e) ≡ Some k → IsSpent c.tree s.path ⊎ HasGrant c (root_at root e) s.x (binding_number k.binding) (last_uid s.path)
   pub steps : (u : Uid) (d : Doing) (s : Steps) (k : Known) → doing_of u e ≡ Some d → d.now ≡ Calling s → is_call s.goal ≡ true → is_bind s.at ≡ false → kept_of s.x (root_at (root_of s.path) e) ≡ Some k → HasGrant c (root_at (root_of s.path) e) s.x (binding_number k.binding) (actor s.path)
 
+-- so it is of all calls of a coordinator
 abbrev pub KnowsGrants : Coord → Type 0
 KnowsGrants c = KnowsGrantsBy c c
 

@@ -56,6 +56,7 @@ pub record HasPart (c : Coord) (u : Uid) (to : ℕ) : Type 0 where
   pub ended : is_some branch.ended ≡ true
   pub took : branch.ended ≡ Some ending.Commit → has doing.took to ≡ true
 
+-- an action asks the node, or the node took part in its commit
 abbrev pub IsPart : Coord → Uid → ℕ → Ask → Type 0
 IsPart c u to a = IsSeeking c u to a ⊎ HasPart c u to
 
@@ -78,6 +79,7 @@ abbrev pub IsLeft : Now → Type 0
 IsLeft (Committing (Voting p left)) = (n : ℕ) → has left n ≡ true → has (servers_of p) n ≡ true
 IsLeft _ = ⊤
 
+-- so it is of each commit under way
 abbrev pub AreLeft : Coord → Type 0
 AreLeft c = (u : Uid) (d : Doing) → doing_of u c ≡ Some d → IsLeft d.now
 

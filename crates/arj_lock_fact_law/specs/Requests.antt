@@ -33,6 +33,7 @@ KnowsRequests sent k c = (p : Post) (h : Head) (a : Ask) → In p sent → p.fro
 abbrev pub AreAsked : Seen → Type 0
 AreAsked M = (j : ℕ) (n : Node) (t : Parts) → M.nodes j ≡ Some n → n.live ≡ Some t → KnowsRequests M.sent j t.coord
 
+-- so it is in what is seen
 abbrev pub RequestsAreKnown : Seen → Type 0
 RequestsAreKnown M = (IsGood M × BindsAreKnown M) × AreAsked M
 

@@ -20,6 +20,7 @@ KnowsStates c = (u : Uid) (d : Doing) (w : Steps) (k : Known) (o : ObjectState) 
 abbrev pub AreStated : Seen → Type 0
 AreStated M = (j : ℕ) (n : Node) (t : Parts) → M.nodes j ≡ Some n → n.live ≡ Some t → KnowsStates t.coord
 
+-- so it is in what is seen
 abbrev pub StatesAreKnown : Seen → Type 0
 StatesAreKnown M = (IsGood M × BindsAreKnown M) × AreStated M
 

@@ -53,9 +53,11 @@ pub record IsUpperNode (N : List Action → Naming → Type 0) (acts : List Acti
   pub names : HavePrepared acts (let d = n.disk in d.names)
   pub live : (t : Parts) (o : Naming) → n.live ≡ Some t → t.naming ≡ Some o → N acts o
 
+-- so it is at each node
 abbrev pub AreUppersOf : (List Action → Naming → Type 0) → List Action → Seen → Type 0
 AreUppersOf N acts M = (k : ℕ) (n : Node) → M.nodes k ≡ Some n → IsUpperNode N acts n
 
+-- of naming that holds what it made
 abbrev pub AreUppers : List Action → Seen → Type 0
 AreUppers acts M = AreUppersOf HoldsUppers acts M
 

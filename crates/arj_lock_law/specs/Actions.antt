@@ -2,6 +2,7 @@
 -- makes up alone. Its children are its top-level actions, and below them stand nested ones.
 use Rattle.std.proofs.Common.{◌≡◌, ◌⊎◌, ℕ, ◌+◌, ◌==◌, List, [], ◌∷◌, Bool, true, false, cond, ◌&&◌, ◌||◌}
 
+-- An action by its path: a root, or what was begun as the n-th child of an action.
 pub data Act : Type 0 where
   Root : ℕ → Act
   Sub : Act → ℕ → Act
@@ -34,6 +35,7 @@ top (Root u) = Root u
 top (Sub (Root u) n) = Sub (Root u) n
 top (Sub (Sub a m) n) = top (Sub a m)
 
+-- a top-level action: a child of a root
 abbrev pub is_top : Act → Bool
 is_top (Root u) = false
 is_top (Sub (Root u) n) = true
@@ -48,6 +50,7 @@ is_action (Sub a n) = true
 abbrev pub at_act : {V : Type 0} → (Act → V) → Act → V → Act → V
 at_act f a v b = cond (same b a) v (f b)
 
+-- a function with another value at one number
 abbrev pub at : {V : Type 0} → (ℕ → V) → ℕ → V → ℕ → V
 at f k v j = cond (j == k) v (f j)
 

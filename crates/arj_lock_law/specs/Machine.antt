@@ -46,12 +46,15 @@ Guard (Included a g p) s = (is_action a ≡ true) × In (Granted (top a) g) s.ne
 abbrev pub with_server : State → ℕ → Server → State
 with_server s n v = record s { server = at s.server n v }
 
+-- one action changes
 abbrev pub with_action : State → Act → Action → State
 with_action s a x = record s { action = at_act s.action a x }
 
+-- naming's part changes
 abbrev pub with_naming : State → Naming → State
 with_naming s n = record s { naming = n }
 
+-- a message is sent
 abbrev pub sending : State → Message → State
 sending s m = record s { net = m ∷ s.net }
 
@@ -67,6 +70,7 @@ after_crash i = record { incarnation = i; active = 0; base = 0; log = []; rows =
 abbrev pub answer_of : State → ℕ → Request → ℕ → Answer
 answer_of s n q g = record { request = q; place = s.now; sees = value_over (s.server n).base (s.server n).log; gives = g }
 
+-- the server after it applied a request that left this value
 abbrev pub applied : Server → Request → ℕ → Server
 applied v q g = record v { log = cond q.write (record { holder = q.act; by = q.act; request = q.number; gives = g } ∷ v.log) v.log; rows = raise v.rows q.act (mode q.write); request = at_act v.request q.act q.number }
 

@@ -2,6 +2,7 @@
 use Rattle.std.proofs.Common.{◌≡◌, ◌≤◌, ◌⊎◌, ℕ, Bool, true, false, cond, max}
 use Rattle.arj_lock_law.specs.Actions.{Act, Sub, on, at_act}
 
+-- the mode of each action
 abbrev pub Rows : Type 0
 Rows = Act → ℕ
 

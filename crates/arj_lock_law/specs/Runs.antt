@@ -22,21 +22,27 @@ pub record Happens (first : ℕ) (calls : List Call) (committed aborted : List A
 abbrev pub first_top : Act
 first_top = Sub (Root 1) 0
 
+-- the top of another plain unit
 abbrev pub second_top : Act
 second_top = Sub (Root 2) 0
 
+-- the first constituent of a serializing action
 abbrev pub first_constituent : Act
 first_constituent = Sub (Root 3) 0
 
+-- its second constituent
 abbrev pub second_constituent : Act
 second_constituent = Sub (Root 3) 1
 
+-- an action nested in the first top
 abbrev pub nested : Act
 nested = Sub first_top 0
 
+-- a call that wrote
 abbrev pub written : Act → ℕ → ℕ → ℕ → Call
 written a line sees gives = record { act = a; write = true; line = line; sees = sees; gives = gives }
 
+-- a call that read
 abbrev pub read : Act → ℕ → ℕ → Call
 read a line sees = record { act = a; write = false; line = line; sees = sees; gives = sees }
 

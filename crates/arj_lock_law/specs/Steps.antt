@@ -65,6 +65,7 @@ pub data Newest (first : ℕ) (Counts : Act → Type 0) (v : ℕ) : List Call �
   newest : (c : Call) {cs : List Call} → c.write ≡ true → Counts c.act → c.gives ≡ v → Newest first Counts v (c ∷ cs)
   older : (c : Call) {cs : List Call} → (c.write ≡ true → Counts c.act → ⊥) → Newest first Counts v cs → Newest first Counts v (c ∷ cs)
 
+-- the value that the newest surviving write among these calls left, or the first value
 abbrev pub IsLast : State → ℕ → List Call → Type 0
 IsLast s v cs = Newest s.initial (Survives s) v cs
 
@@ -105,6 +106,7 @@ IsDrained s v a = (e : Entry) → In e v.log → on e.holder a ≡ true → (s.a
 abbrev pub IsElsewhere : Server → ℕ → ℕ → Type 0
 IsElsewhere v incarnation b = (v.incarnation ≢ incarnation) ⊎ (v.active ≢ b)
 
+-- the binding's copy stands at this server, in the incarnation that was heard
 abbrev pub IsAt : State → ℕ → ℕ → Type 0
 IsAt s n b = ((s.binding b).server ≡ n) × ((s.server n).incarnation ≡ (s.binding b).incarnation) × ((s.server n).active ≡ b)
 

@@ -79,6 +79,7 @@ is_plain (body.Ok l y o r) = false
 is_plain (body.Includes l y n) = false
 is_plain b = true
 
+-- so it is of all lines
 abbrev pub ArePlain : List Body → Type 0
 ArePlain [] = ⊤
 ArePlain (b ∷ bs) = (is_plain b ≡ true) × ArePlain bs

@@ -37,6 +37,7 @@ pub record Spot : Type 0 where
   pub parts : Parts
   pub seen : Seen
 
+-- what is seen, with this node up
 abbrev pub world_at : Spot → Seen
 world_at s = up s.node s.disk s.parts s.seen
 
@@ -100,6 +101,7 @@ pub record IsToldCommit (s : Spot) (u : Uid) : Type 0 where
 
 -- ---- what is known of servers
 
+-- its server
 abbrev pub server_at : Spot → Server
 server_at s = let t = s.parts in t.server
 

@@ -75,6 +75,7 @@ abbrev pub IsSendShown : Case → Spot → State → Effect → Type 0
 IsSendShown c s T (Send to m) = (wide : List Post) → Within (let M = s.seen in M.sent) wide → IsPostSeen c.fixed c.x c.begun wide T (record { from = s.node; to = to; message = m })
 IsSendShown c s T _ = ⊤
 
+-- so it is of all effects
 abbrev pub AreSendsShown : Case → Spot → State → List Effect → Type 0
 AreSendsShown c s T outs = AllByRecursion (IsSendShown c s T) outs
 
@@ -83,6 +84,7 @@ abbrev pub IsSend : Effect → Type 0
 IsSend (Send to m) = ⊤
 IsSend e = ⊥
 
+-- so it is of all effects
 abbrev pub AreSends : List Effect → Type 0
 AreSends outs = AllByRecursion IsSend outs
 
@@ -111,6 +113,7 @@ pub record KnowsCoord (c : Case) (s : Spot) (C : Coord) : Type 0 where
 abbrev pub coord_at : Spot → Coord
 coord_at s = let t = s.parts in t.coord
 
+-- the records on its disk
 abbrev pub records_at : Spot → List (Uid × Intent)
 records_at s = let d = s.disk in d.intents
 
@@ -150,6 +153,7 @@ CallsGo = (c : Case) (s : Spot) (e y : ℕ) (u : Uid) (b : Branch) (d : Doing) (
     → IsSeenIn c (world_at s) → IsWorking c s u b d → d.now ≡ Idle → b.kind ≢ kind.Serial
     → let D = call b.path y o (coord_at s) in KnowsCoord c s D.part → KnowsAsks c D.part → StepGoes c s e D
 
+-- an include begins
 abbrev pub IncludesGo : Type 0
 IncludesGo = (c : Case) (s : Spot) (e y store : ℕ) (u : Uid) (b : Branch) (d : Doing)
     → IsSeenIn c (world_at s) → IsWorking c s u b d → d.now ≡ Idle → b.kind ≢ kind.Serial
@@ -161,11 +165,13 @@ CallAnswersGo = (c : Case) (s : Spot) (e : ℕ) (u : Uid) (b : Branch) (d : Doin
     → IsSeenIn c (world_at s) → IsWorking c s u b d → IsCalling c.x b d w o → ShowsAnswer (let f = c.fixed in f.act) (let f = c.fixed in f.code) w o c.state w.at r
     → let D = heard_call w r (coord_at s) in KnowsCoord c s D.part → KnowsAsks c D.part → StepGoes c s e D
 
+-- an answer to an include of the object is taken
 abbrev pub IncludeAnswersGo : Type 0
 IncludeAnswersGo = (c : Case) (s : Spot) (e store : ℕ) (u : Uid) (b : Branch) (d : Doing) (w : Steps) (r : Reply)
     → IsSeenIn c (world_at s) → IsWorking c s u b d → IsWaiting b d w → w.x ≡ c.x → w.goal ≡ IncludeStore store → ShowsInclude (let f = c.fixed in f.act) (top_of w.path) c.state r
     → let D = heard_call w r (coord_at s) in KnowsCoord c s D.part → KnowsAsks c D.part → StepGoes c s e D
 
+-- an answer about another object is taken
 abbrev pub OtherAnswersGo : Type 0
 OtherAnswersGo = (c : Case) (s : Spot) (e : ℕ) (u : Uid) (b : Branch) (d : Doing) (w : Steps) (r : Reply)
     → IsSeenIn c (world_at s) → IsWorking c s u b d → IsWaiting b d w → w.x ≢ c.x
@@ -177,6 +183,7 @@ LostCallsGo = (c : Case) (s : Spot) (e : ℕ) (u : Uid) (b : Branch) (d : Doing)
     → IsSeenIn c (world_at s) → IsWorking c s u b d → IsCalling c.x b d w o
     → let D = gives_up u (records_at s) (coord_at s) (Calling w) in KnowsCoord c s D.part → KnowsAsks c D.part → StepGoes c s e D
 
+-- an include, or a call on another object, is given up
 abbrev pub OtherLostGo : Type 0
 OtherLostGo = (c : Case) (s : Spot) (e : ℕ) (u : Uid) (b : Branch) (d : Doing) (w : Steps)
     → IsSeenIn c (world_at s) → IsWorking c s u b d → IsWaiting b d w → IsElsewhere c.x w
@@ -219,6 +226,7 @@ LostCommitsGo = (c : Case) (s : Spot) (e : ℕ) (u : Uid) (b : Branch) (d : Doin
 abbrev pub beginning : Kind → Option Branch → Coord → Action
 beginning k above q = record { path = path_below k above (next_uid q.tree); kind = k }
 
+-- the case with an action that begins
 abbrev pub with_action : Action → Case → Case
 with_action a c = record c { begun = a ∷ c.begun }
 

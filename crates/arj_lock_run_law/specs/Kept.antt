@@ -29,6 +29,7 @@ use Rattle.arj_lock_run_law.specs.Sees.{SeesLocks}
 use Rattle.arj_lock_run_law.specs.Tied.{AreTied}
 use Rattle.arj_lock_run_law.specs.World.{is_for_parts}
 
+-- the case of a state
 abbrev pub case_of : Fixed → ℕ → List Action → State → Case
 case_of f x begun S = record { fixed = f; x = x; begun = begun; state = S }
 
@@ -71,6 +72,7 @@ LocksAreKept = (hd : Header) (values : Values) (x : ℕ) (before : Seen → Bool
     → KeepsOf hd (λ begun M. before M ≡ true) (λ begun M. test begun M ≡ true) → ((f : Fixed) → BeginsAs values x f → GivesLocks hd f x (λ begun S M. (before M ≡ true) × (test begun M ≡ true)))
     → Keeps hd (λ M. before M ≡ true) → Keeps hd (λ M. (before M ≡ true) × AreLocksSeen values x (λ begun N. test begun N ≡ true) M)
 
+-- so it is in the run of every script
 abbrev pub RunsKeepLocks : Type 0
 RunsKeepLocks = (hd : Header) (values : Values) (x : ℕ) (before : Seen → Bool) (test : List Action → Seen → Bool)
     → KeepsOf hd (λ begun M. before M ≡ true) (λ begun M. test begun M ≡ true) → ((f : Fixed) → BeginsAs values x f → GivesLocks hd f x (λ begun S M. (before M ≡ true) × (test begun M ≡ true)))

@@ -58,19 +58,23 @@ abbrev pub IsToldSo : View → State → Uid → End → Type 0
 IsToldSo v S u ending.Commit = HasEnded v S u ending.Commit
 IsToldSo v S u ending.Abort = HasEnded v S u ending.Abort ⊎ ((((let a = S.action (Root (root (v.family.act u))) in a.stage) ≡ 3) × (is_action (v.family.act u) ≡ true → is_top (v.family.act u) ≡ true)) ⊎ ((is_top (v.family.act u) ≡ true) × ((let a = S.action (v.family.act u) in a.stage) ≡ 3)))
 
+-- so it is of all ends
 abbrev pub AreToldSo : View → List (Uid × End) → State → Type 0
 AreToldSo v ends S = (u : Uid) (e : End) → Contains {X = Uid × End} ends (u, e) → IsToldSo v S u e
 
 -- ---- any message
 
+-- so it is of a told
 abbrev pub IsOtherSeen : View → State → Message → Type 0
 IsOtherSeen v S (message.Told m) = AreToldSo v m.ends S
 IsOtherSeen v S m = ⊤
 
+-- so it is of an answer, or of any other message
 abbrev pub IsAnsweredSeen : View → List Post → Post → State → Option (Asked × Reply) → Type 0
 IsAnsweredSeen v sent p S None = IsOtherSeen v S p.message
 IsAnsweredSeen v sent p S (Some r) = IsAnswerSeen v sent p r S
 
+-- so it is of a request, or of any other message
 abbrev pub IsAskedSeen : View → List Post → Post → State → Option (Head × Ask) → Type 0
 IsAskedSeen v sent p S None = IsAnsweredSeen v sent p S (answers p.message)
 IsAskedSeen v sent p S (Some q) = IsRequestSeen v q.0 q.1 S

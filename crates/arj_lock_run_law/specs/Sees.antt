@@ -75,6 +75,7 @@ pub record SeesDown (v : View) (S : State) (d : Disk) : Type 0 where
   pub past : ArePast v tree S
   pub records : AreRecordsOf v last d.intents S
 
+-- a node, up or down
 abbrev pub SeesMemory : View → State → Disk → Option Parts → Type 0
 SeesMemory v S d None = SeesDown v S d
 SeesMemory v S d (Some t) = SeesUp v S d t

@@ -35,6 +35,7 @@ VotesAreKept = (hd : Header) (values : Values) (x : ℕ) (before : Seen → Bool
     → KeepsOf hd (λ begun M. before M ≡ true) (λ begun M. test begun M ≡ true) → ((f : Fixed) → BeginsAs values x f → GivesLocks hd f x (λ begun S M. (before M ≡ true) × (test begun M ≡ true))) → ((M : Seen) → before M ≡ true → AllVotesAreUsed M)
     → Keeps hd (λ M. before M ≡ true) → Keeps hd (λ M. (before M ≡ true) × AreLocksVoted values x (λ begun N. test begun N ≡ true) M)
 
+-- so it is in the run of every script
 abbrev pub RunsKeepVotes : Type 0
 RunsKeepVotes = (hd : Header) (values : Values) (x : ℕ) (before : Seen → Bool) (test : List Action → Seen → Bool)
     → KeepsOf hd (λ begun M. before M ≡ true) (λ begun M. test begun M ≡ true) → ((f : Fixed) → BeginsAs values x f → GivesLocks hd f x (λ begun S M. (before M ≡ true) × (test begun M ≡ true))) → ((M : Seen) → before M ≡ true → AllVotesAreUsed M)

@@ -40,6 +40,7 @@ MessagesGo = (c : Case) (s : Spot) (e from : ℕ) (m : Message) (v : Parts) (out
 abbrev pub StopsGo : Type 0
 StopsGo = (c : Case) (s : Spot) (e : ℕ) → IsSeenIn c (world_at s) → HoldsNamingIn c s.node (let t = s.parts in t.naming) → IsSeenSo c (halted e s.node s.disk s.seen)
 
+-- a node that is down is said to have stopped
 abbrev pub DownStays : Type 0
 DownStays = (c : Case) (e k : ℕ) (d : Disk) (M : Seen) → IsSeenIn c (down k d M) → IsSeenSo c (halted e k d M)
 

@@ -139,14 +139,17 @@ abbrev pub OtherCallsBegin : Type 0
 OtherCallsBegin = (act : Acts) (code : Codes) (paths : Paths) (x y : ℕ) (c : Coord) (u : Uid) (b : Branch) (d : Doing) (o : Op) (S : State)
     → IsAtWork act paths c u b d → d.now ≡ Idle → b.kind ≢ kind.Serial → y ≢ x → SeesCoord act code x c S → SeesCoord act code x (let e = call b.path y o c in e.part) S
 
+-- an include begins, of any object
 abbrev pub IncludesBegin : Type 0
 IncludesBegin = (act : Acts) (code : Codes) (paths : Paths) (x y store : ℕ) (c : Coord) (u : Uid) (b : Branch) (d : Doing) (S : State)
     → IsAtWork act paths c u b d → d.now ≡ Idle → b.kind ≢ kind.Serial → SeesCoord act code x c S → SeesCoord act code x (let e = include b.path y store c in e.part) S
 
+-- an answer to it is taken
 abbrev pub OtherAnswersAreTaken : Type 0
 OtherAnswersAreTaken = (act : Acts) (code : Codes) (paths : Paths) (x : ℕ) (c : Coord) (u : Uid) (b : Branch) (d : Doing) (s : Steps) (r : Reply) (S : State)
     → IsAtWork act paths c u b d → IsWaiting b d s → IsElsewhere x s → ((s.x ≡ x) → IsToInclude r) → SeesCoord act code x c S → SeesCoord act code x (let e = heard_call s r c in e.part) S
 
+-- it is given up
 abbrev pub OtherCallsAreGivenUp : Type 0
 OtherCallsAreGivenUp = (act : Acts) (code : Codes) (paths : Paths) (x : ℕ) (c : Coord) (u : Uid) (b : Branch) (d : Doing) (s : Steps) (S : State)
     → IsAtWork act paths c u b d → IsWaiting b d s → IsElsewhere x s → SeesCoord act code x c S → SeesCoord act code x (let e = give_up_call s c in e.part) S

@@ -36,9 +36,11 @@ pub record ChangesOne (m : Act) (new : Action) (S T : State) : Type 0 where
 abbrev pub called_at : ℕ → Action → Action
 called_at p a = record a { stage = 1; place = p }
 
+-- the action after its commit
 abbrev pub committed_at : ℕ → Action → Action
 committed_at p a = record a { stage = 3; done = p }
 
+-- the action after its abort
 abbrev pub aborted : Action → Action
 aborted a = record a { stage = 4 }
 
@@ -53,6 +55,7 @@ moved_by (Asks m) p a = a
 moved_by (Decides q) p a = committed_at p a
 moved_by (Aborts why q) p a = aborted a
 
+-- where the next line may stand after a step of the commit
 abbrev pub now_by : CommitStep → ℕ → ℕ → ℕ
 now_by (Stays m) p now = now
 now_by (Asks m) p now = now

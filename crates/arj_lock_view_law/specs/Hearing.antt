@@ -43,10 +43,12 @@ abbrev pub IsEndShown : Site → Naming → State → Option (Uid × End) → Ty
 IsEndShown a n S None = ⊤
 IsEndShown a n S (Some e) = IsTelling a.view a.owner e.0 e.1 n S
 
+-- so it is of ends that are told
 abbrev pub IsOtherShown : Site → Naming → State → Message → Type 0
 IsOtherShown a n S (message.Told m) = IsEndShown a n S (last_end m.ends)
 IsOtherShown a n S m = ⊤
 
+-- so it is of a request, or of any other message
 abbrev pub IsAskedShown : Site → Naming → State → Message → Option (Head × Ask) → Type 0
 IsAskedShown a n S m None = IsOtherShown a n S m
 IsAskedShown a n S m (Some q) = IsRequestShown a n S q.0 q.1

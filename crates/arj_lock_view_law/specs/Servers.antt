@@ -23,6 +23,7 @@ pub record Wanted : Type 0 where
 abbrev pub Wants : Type 0
 Wants = Uid → ℕ → Option Wanted
 
+-- such a request as one of the machine
 abbrev pub wanted_by : Acts → Uid → ℕ → Wanted → Request
 wanted_by act u number w = record { act = act u; number = number; binding = binding_number w.binding; write = writes w.op }
 
@@ -32,6 +33,7 @@ ShowsInvoked act code u number w S (invoked.Answered a) = (v : Value) × (a ≡ 
 ShowsInvoked act code u number w S (invoked.Conflict h m) = In (machine.Refused (wanted_by act u number w)) S.net
 ShowsInvoked act code u number w S (invoked.Changed d) = In (machine.Changed (binding_number w.binding)) S.net
 
+-- so it is of an answer that is there
 abbrev pub ShowsIfInvoked : Acts → Codes → Uid → ℕ → Wanted → State → Option InvokedReply → Type 0
 ShowsIfInvoked act code u number w S None = ⊤
 ShowsIfInvoked act code u number w S (Some a) = ShowsInvoked act code u number w S a

@@ -50,6 +50,7 @@ voters_left (Voting p left) = left
 voters_left (Preparing p left) = []
 voters_left (Confirming p) = []
 
+-- so it is of the step that waits
 abbrev pub KnowsVotes : Side → Machine → State → Type 0
 KnowsVotes w k S = HasVotes w (plan_of k) (voters_left k) S
 
@@ -68,6 +69,7 @@ pub record IsVoteFor (w : Side) (p : Plan) (from : ℕ) (states : List ObjectSta
   pub given : (q : Used) → IsCalledIn w p q → q.server ≡ from → IsVotedSo w.act w.code w.x w.top (record { binding = q.binding; states = states }) S × HaveOne w.x states
   pub used : (s : ObjectState) → Contains states s → s.uid ≡ object w.x → (q : Used) × IsCalledIn w p q × (q.server ≡ from)
 
+-- so an answer shows it to the step that waits
 abbrev pub ShowsVotes : Side → Machine → ℕ → Reply → State → Type 0
 ShowsVotes w (Voting p left) from (Reply.Voted (voted.Yes states)) S = IsVoteFor w p from states S
 ShowsVotes w k from r S = ⊤

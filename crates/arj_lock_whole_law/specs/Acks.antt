@@ -25,10 +25,12 @@ abbrev pub demanded_if : Bool → List (Uid × End) → Option Uid
 demanded_if true ends = option_map (λ (e : Uid × End). e.0) (last_end ends)
 demanded_if false ends = None
 
+-- whose end a message wants acknowledged
 abbrev pub demanded : Message → Option Uid
 demanded (message.Told m) = demanded_if m.ack m.ends
 demanded _ = None
 
+-- whose end a message acknowledges
 abbrev pub acked_in : Message → Option Uid
 acked_in (message.Acked m) = Some m.act
 acked_in _ = None
@@ -59,6 +61,7 @@ pub record IsVoter (sent : List Post) (u : Uid) (k i : ℕ) : Type 0 where
 
 -- ---- records
 
+-- the record of an action at a node, if it has one
 abbrev pub record_in : Uid → Option Node → Option Intent
 record_in u None = None
 record_in u (Some n) = at_uid u (let d = n.disk in d.intents)
@@ -97,6 +100,7 @@ pub record KnowsAcked (sent : List Post) (k : ℕ) (intents : List (Uid × Inten
   pub acked : (u : Uid) → HasAcked sent u k → (is_told u t.server ≡ true) ⊎ ((i : ℕ) → IsVoter sent u k i → i < (let s = t.server in s.inc))
   pub awaited : (u : Uid) (j i : Intent) (m : ℕ) → at_uid u (let c = t.coord in c.telling) ≡ Some j → at_uid u intents ≡ Some i → has (let z = i in z.nodes) m ≡ true → has (let z = j in z.nodes) m ≡ false → HasAcked sent u m
 
+-- so it is at a node that is up
 abbrev pub KnowsAcks : List Post → ℕ → Node → Type 0
 KnowsAcks sent k n = (t : Parts) → n.live ≡ Some t → KnowsAcked sent k (let d = n.disk in d.intents) t
 

@@ -34,6 +34,7 @@ abbrev pub SayOf : (Body → Type 0) → Effect → Type 0
 SayOf S (Say b) = S b
 SayOf S _ = ⊤
 
+-- so it is of all lines
 abbrev pub LinesOf : (ℕ → Goal → Type 0) → List Line → Type 0
 LinesOf P lines = AllByRecursion (λ (l : Line). SaysOf P l.body) lines
 

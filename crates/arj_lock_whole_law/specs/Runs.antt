@@ -95,5 +95,6 @@ AreRest hd test = (x : ℕ) → HasObject hd x → IsRest hd (first_values hd) x
 abbrev pub RunsAreTied : Type 0
 RunsAreTied = (hd : Header) (test : ℕ → List Action → Seen → Bool) → AreRest hd test → (es : List Asked) → length es ≤ most_events → AreTied (first_values hd) (journal hd es)
 
+-- and so the run is serial
 abbrev pub RunsAreSerial : Type 0
 RunsAreSerial = (hd : Header) (test : ℕ → List Action → Seen → Bool) → AreRest hd test → (es : List Asked) → length es ≤ most_events → IsSerialRun hd es

@@ -29,6 +29,7 @@ abbrev pub PreparesTop : List Action → Option (Head × Ask) → Type 0
 PreparesTop acts (Some (h, ask.Prepare states)) = IsTopAction acts (actor h.path)
 PreparesTop acts _ = ⊤
 
+-- so it is of an effect: what it prepares, asks to prepare, and asks about is of tops
 abbrev pub MeansTop : List Action → Effect → Type 0
 MeansTop acts (Do (Prepare role.Store u states)) = IsTopAction acts u
 MeansTop acts (Send to m) = IsAboutTop acts to (asked_about m) × PreparesTop acts (asks m)

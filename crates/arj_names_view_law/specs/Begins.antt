@@ -36,6 +36,7 @@ pub record IsOpening (x : ℕ) (t : Uid) (c : Coord) (r : Root) (p : Plan) (A : 
   pub based : (w : Packed) → p.writes ≡ Some w → IsBased A.world.disk w
   pub writer : (w : Packed) → p.writes ≡ Some w → (w.writer ≡ uid_number t) × (A.world.disk.first.writer ≡ uid_number t → ⊥)
 
+-- so a commit may begin in the machine by what its root has of the object
 abbrev pub CommitsMayBegin : Type 0
 CommitsMayBegin = (x : ℕ) (tops : Kinds) (root t : Uid) (c : Coord) (r : Root) (p : commit.Plan) (A : Office) → Named A → IsFixed tops A.world.disk → SeesRoot x tops root t c r A → IsTopOf tops root t
     → p.used ≡ map (used_of t r c) (objects_in t r c) → IsOpening x t c r (plan_at x p) A → MayBegin A (uid_number t) (plan_at x p)

@@ -40,6 +40,7 @@ pub record CountsOnGrants (x : ℕ) (S : State) (N : Names) (t : ℕ) (grants : 
 abbrev pub IsNext : State → ℕ → Type 0
 IsNext S t = undecided S t ≡ true → (w : Packed) (s : ℕ) → (S.plan t).writes ≡ Some w → has s (S.plan t).joins ≡ true → w.version ≡ (S.plan t).loaded.version + 1
 
+-- so a new Confirm that names its grants is booked
 abbrev pub NewConfirmsAreBooked : Type 0
 NewConfirmsAreBooked = (x : ℕ) (tops : Kinds) (p : Path) (grants : Grants) (excluded included : Marks) (d : Pair) (n : Naming) (A : Office) → Named A → SeesNaming x tops n A.world.disk A.names → SeesEntry x d A.world.disk
     → IsOfTop tops A.world.disk p → ClaimsConfirm x A.world (uid_number (top_of p)) grants excluded included → CountsOnGrants x A.world.disk A.names (uid_number (top_of p)) grants → IsNext A.world.disk (uid_number (top_of p))

@@ -43,6 +43,7 @@ pub record SeesNames (x : ℕ) (tops : Kinds) (A : Office) (M : Seen) : Type 0 w
   pub inc : (n : Node) → M.nodes 1 ≡ Some n → A.names.inc ≡ n.disk.inc
   pub memory : (n : Node) (t : Parts) (o : Naming) → M.nodes 1 ≡ Some n → n.live ≡ Some t → t.naming ≡ Some o → SeesNaming x tops o A.world.disk A.names
 
+-- Both halves of the object are seen in the world.
 pub record SeesBoth (x : ℕ) (tops : Kinds) (A : Office) (M : Seen) : Type 0 where
   pub named : Named A
   pub disks : SeesDisks x tops A.world M
@@ -83,6 +84,7 @@ abbrev pub leaves_inc : Work → Bool
 leaves_inc (PutInc i) = false
 leaves_inc _ = true
 
+-- so it is of an effect
 abbrev pub leaves_the_inc : Effect → Bool
 leaves_the_inc (Do w) = leaves_inc w
 leaves_the_inc (Say b) = true
@@ -149,6 +151,7 @@ TopEndsKeepBoth = (x : ℕ) (tops : Kinds) (e : ℕ) (d : Disk) (t v : Parts) (n
 abbrev pub IsOver : ℕ → Kinds → Office → Uid → End → Naming → Type 0
 IsOver x tops A u how n = (tops.is_serial (uid_number u) ≡ true) × (A.world.disk.serial (uid_number u) ≡ true) × (how ≡ ending.Abort) × In (ToldSerial (uid_number u) 1) A.world.sent × (is_some (at_number x n.objects) ≡ true)
 
+-- other ends that are told keep both halves
 abbrev pub OtherEndsKeepBoth : Type 0
 OtherEndsKeepBoth = (x : ℕ) (tops : Kinds) (e : ℕ) (d : Disk) (t v : Parts) (n : Naming) (from : ℕ) (ack : Bool) (ends : List (Uid × End)) (u : Uid) (how : End) (outs : List Effect) (A : Office) (M : Seen) → tops.walk ≡ None → t.naming ≡ Some n
     → handle_told 1 d t from ack ends u how ≡ Took v outs → IsOver x tops A u how n ⊎ IsNested tops (uid_number u)
@@ -187,6 +190,7 @@ HasNoPart S t = (S.begun t ≡ true) × (has_part (S.plan t) ≡ false)
 abbrev pub decided_names : Bool → State → ℕ → Names → Names
 decided_names keeps S t N = let L = record N { kept = lists_after S t N.kept } in chosen keeps (retained S t L) L
 
+-- naming's half once a top is decided
 abbrev pub ended_names : Bool → State → ℕ → Names → Names
 ended_names keeps S t N = chosen keeps (retained S t N) N
 
@@ -226,6 +230,7 @@ pub record OnlyDecided (g keeps : ℕ → Bool) (A B : Office) : Type 0 where
   pub along : Along (record { from = A.world; noted = only_decides g }) B.world
   pub how : (t : ℕ) → IsOnly g t → HowDecided (keeps t) t A B
 
+-- some half behind such decisions is seen
 abbrev pub IsSeenIn : (ℕ → Bool) → (ℕ → Bool) → ℕ → Kinds → Office → Seen → Type 0
 IsSeenIn g keeps x tops A M = (B : Office) × OnlyDecided g keeps A B × SeesBoth x tops B M
 
@@ -272,6 +277,7 @@ pub record OnlyFound (g : ℕ → Bool) (A B : Office) : Type 0 where
   pub inc : A.names.inc ≤ B.names.inc
   pub confd : A.names.inc ≡ B.names.inc → (t : ℕ) → A.names.confd t ≡ true → B.names.confd t ≡ true
 
+-- some half that only found decisions is seen
 abbrev pub IsSeenAgain : (ℕ → Bool) → ℕ → Kinds → Office → Seen → Type 0
 IsSeenAgain g x tops A M = (B : Office) × OnlyFound g A B × SeesBoth x tops B M
 
@@ -300,6 +306,7 @@ pub record SeesRootOf (x : ℕ) (tops : Kinds) (root : Uid) (c : Coord) (r : Roo
 abbrev pub RootsStay : Type 0
 RootsStay = (x : ℕ) (tops : Kinds) (root : Uid) (c : Coord) (r : Root) (A B : Office) → IsFixed tops A.world.disk → IsFixed tops B.world.disk → SeesRootOf x tops root c r A → OnlyMemory A B → SeesRootOf x tops root c r B
 
+-- what other roots have is seen as before
 abbrev pub OtherRootsStay : Type 0
 OtherRootsStay = (x : ℕ) (tops : Kinds) (g : ℕ → Bool) (root : Uid) (c : Coord) (r : Root) (A B : Office) → IsFixed tops A.world.disk → IsFixed tops B.world.disk → tops.root (uid_number root) ≡ uid_number root → IsOther g A.world.disk (uid_number root)
     → SeesRootOf x tops root c r A → OnlyAtNode g A B → SeesRootOf x tops root c r B

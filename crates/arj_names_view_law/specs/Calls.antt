@@ -113,5 +113,6 @@ abbrev pub NestedEndsAreNothing : Type 0
 NestedEndsAreNothing = (x : ℕ) (tops : Kinds) (u : Uid) (e : End) (d : Pair) (n : Naming) (A : Office) → Named A → SeesNaming x tops n A.world.disk A.names → IsFixed tops A.world.disk → IsNested tops (uid_number u) → is_on n.confirmed u ≡ false
     → SeesNaming x tops (let s = told u e d n in s.part) A.world.disk A.names
 
+-- a Hello changes nothing that is seen
 abbrev pub HellosAreNothing : Type 0
 HellosAreNothing = (x : ℕ) (tops : Kinds) (node inc : ℕ) (n : Naming) (A : Office) → SeesNaming x tops n A.world.disk A.names → SeesNaming x tops (hello node inc n) A.world.disk A.names

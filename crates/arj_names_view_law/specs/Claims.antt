@@ -28,9 +28,11 @@ pub record IsAfter (A B : Office) : Type 0 where
 abbrev pub ChangesAreAfter : Type 0
 ChangesAreAfter = (o : Change) (A B : Office) → Named A → Changes o A B → IsAfter A B
 
+-- by a restart
 abbrev pub RestartsAreAfter : Type 0
 RestartsAreAfter = (g : ℕ → Bool) (A B : Office) → Named A → OnlyFound g A B → IsAfter A B
 
+-- where answers are taken
 abbrev pub AnswersAreAfter : Type 0
 AnswersAreAfter = (A B : Office) → OnlyAnswers A B → IsAfter A B
 
@@ -38,5 +40,6 @@ AnswersAreAfter = (A B : Office) → OnlyAnswers A B → IsAfter A B
 abbrev pub GrantsAreCountedOn : Type 0
 GrantsAreCountedOn = (x : ℕ) (t : ℕ) (grants : Grants) (A : Office) → Named A → NamesGrants x A.world.disk A.names t grants → CountsOnGrants x A.world.disk A.names t grants
 
+-- what a Confirm counts on stays so
 abbrev pub GrantsStayCountedOn : Type 0
 GrantsStayCountedOn = (x : ℕ) (t : ℕ) (grants : Grants) (A B : Office) → Named A → Named B → A.world.disk.begun t ≡ true → IsAfter A B → CountsOnGrants x A.world.disk A.names t grants → CountsOnGrants x B.world.disk B.names t grants

@@ -71,6 +71,7 @@ StaysRetained x c r d q = (w : Uid) → is_retained x c r w ≡ true → is_reta
 abbrev pub GrantsStay : Type 0
 GrantsStay = (x : ℕ) (root : Uid) (c d : Coord) (r q : Root) (S V : State) (N : Names) → SeesGrants x root c r S N → q.grants ≡ r.grants → StaysRetained x c r d q → V.root ≡ S.root → V.serial ≡ S.serial → SeesGrants x root d q V N
 
+-- the grants of a constituent are its root's after its decision
 abbrev pub GrantsAreRetained : Type 0
 GrantsAreRetained = (x : ℕ) (root t : Uid) (c d : Coord) (r q : Root) (S V : State) (N : Names) → SeesGrants x root c r S N → q.grants ≡ r.grants → StaysRetained x c r d q → V.root ≡ S.root → V.serial ≡ S.serial
     → S.root (uid_number t) ≡ uid_number root → S.serial (uid_number t) ≡ false → S.serial (uid_number root) ≡ true → is_retained x d q t ≡ true → SeesGrants x root d q V (retained S (uid_number t) N)
@@ -89,6 +90,7 @@ grant_at (AtInvoke k i) = None
 abbrev pub StandsOn : ℕ → Names → At → Type 0
 StandsOn t N at = (g : ℕ) → grant_at at ≡ Some g → N.had t g ≡ true
 
+-- so it is of a step that a call goes on to
 abbrev pub StepStandsOn : ℕ → Names → CallStep → Type 0
 StepStandsOn t N (On at) = StandsOn t N at
 StepStandsOn t N (Ended e) = ⊤

@@ -50,10 +50,12 @@ abbrev pub answer_change : ℕ → ℕ → Uid → Option BoundReply → Change
 answer_change x y u None = Quietly
 answer_change x y u (Some r) = if y == x then Answering (uid_number u) r else Quietly
 
+-- what a Bind changes, at node 1
 abbrev pub bind_change : ℕ → ℕ → Bool → Binding → Head → Disk → Option Naming → Change
 bind_change x y include avoid h d None = Quietly
 bind_change x y include avoid h d (Some n) = answer_change x y (top_of h.path) (let s = bind h.path y include avoid d.names n in s.reply)
 
+-- what a request changes: a Bind alone
 abbrev pub ask_change : ℕ → Disk → Parts → Head → Ask → Change
 ask_change x d t h (ask.Bind y include avoid) = bind_change x y include avoid h d t.naming
 ask_change x d t h _ = Quietly
@@ -67,10 +69,12 @@ abbrev pub now_change : ℕ → Uid → Coord → Now → Change
 now_change x u c (Committing (commit.Confirming p)) = Deciding (uid_number u) (root_retains x u p c)
 now_change x u c _ = Quietly
 
+-- what an answer to an action changes, where the action is known
 abbrev pub doing_change : ℕ → Uid → Coord → Option Doing → Change
 doing_change x u c None = Quietly
 doing_change x u c (Some q) = now_change x u c q.now
 
+-- what an answer changes, where the message is one
 abbrev pub reply_change : ℕ → Coord → Option (Asked × Reply) → Change
 reply_change x c None = Quietly
 reply_change x c (Some a) = let q = a.0 in doing_change x q.act c (doing_of q.act c)
@@ -80,6 +84,7 @@ abbrev pub asked_change : ℕ → Disk → Parts → Message → Option (Head ×
 asked_change x d t m (Some a) = ask_change x d t a.0 a.1
 asked_change x d t m None = reply_change x t.coord (answers m)
 
+-- what a message changes
 abbrev pub change_by : ℕ → Disk → Parts → Message → Change
 change_by x d t m = asked_change x d t m (asks m)
 

@@ -127,6 +127,7 @@ pub record HasKeptList (x : ℕ) (root t : Uid) (r : Root) (S : State) (N : Name
   pub had : (N.had (uid_number t) inc ≡ true) ⊎ (N.had (uid_number root) inc ≡ true)
   pub list : IsPresent S N (uid_number t) → (h : ℕ) × ((h ≡ uid_number t) ⊎ (h ≡ uid_number root)) × (l : Kept) × (N.kept h ≡ Some l) × ((s : ℕ) → has s l.list ≡ true → has s known.stores ≡ true)
 
+-- a commit of a top that called the object has such a list
 abbrev pub CommitsHaveLists : Type 0
 CommitsHaveLists = (x : ℕ) (tops : Kinds) (root t : Uid) (c : Coord) (r : Root) (A : Office) → Named A → IsFixed tops A.world.disk → SeesLists x tops root c r A.names → IsLasting x c r → IsTopOf tops root t
     → ((s : Said) → Contains r.said s → survives t s.path c ≡ true → is_spent s.path c.tree ≡ false) → is_called x t r c ≡ true → HasKeptList x root t r A.world.disk A.names
@@ -165,6 +166,7 @@ DecisionsKeepLists = (x : ℕ) (tops : Kinds) (root t : Uid) (c d : Coord) (r q 
     → ((s : Said) → Contains r.said s → s.x ≡ x → coord.is_retained s.path d ≡ true → coord.is_retained s.path c ≡ true)
     → SeesLists x tops root d q (record N { kept = lists_after S (uid_number t) N.kept })
 
+-- lists stay so by a decision that is retained
 abbrev pub RetainedListsAreSeen : Type 0
 RetainedListsAreSeen = (x : ℕ) (tops : Kinds) (root t : Uid) (c d : Coord) (r q : Root) (p : commit.Plan) (S : State) (N : Names) → IsFixed tops S → SeesLists x tops root c r N → ((h : ℕ) (l : Kept) → N.kept h ≡ Some l → N.had h l.since ≡ true)
     → IsTopOf tops root t → tops.root (uid_number root) ≡ uid_number root → tops.is_serial (uid_number root) ≡ true → IsSaid x S t p → AfterDecision x t p c d r q

@@ -40,6 +40,7 @@ pub record HasLoaded (S : State) (N : Names) (t : ℕ) (st : ObjectState) : Type
   pub load : HasLoad N t state
   pub newest : packed st ≡ load_of S t state
 
+-- so the state that included stores are sent was loaded for the top
 abbrev pub CommitsHaveLoads : Type 0
 CommitsHaveLoads = (x : ℕ) (tops : Kinds) (root t : Uid) (c : Coord) (r : Root) (S : State) (N : Names) (st : ObjectState) → HaveLoads x tops root r N → KeepsState x root r S → S.root (uid_number t) ≡ uid_number root → IsTopOf tops root t
     → loaded_for x t r c ≡ Some st → HasLoaded S N (uid_number t) st
@@ -50,6 +51,7 @@ pub record ChangesOne (x : ℕ) (t : Uid) (p : commit.Plan) (S : State) : Type 0
   pub objects : (s : ObjectState) → Among s p.changed → s.uid ≡ object (let u = s.uid in u.num)
   pub once : (s : ObjectState) → Among s p.changed → s.uid ≡ object x → changed_of x p ≡ Some s
 
+-- and the root keeps it as the newest one
 abbrev pub DecisionsKeepStates : Type 0
 DecisionsKeepStates = (x : ℕ) (root t : Uid) (p : commit.Plan) (r q : Root) (S V : State) → KeepsState x root r S → q.states ≡ states_after p.changed r.states → V.root ≡ S.root → V.tops ≡ done_of S (uid_number t) ∷ S.tops
     → S.root (uid_number t) ≡ uid_number root → ChangesOne x t p S → KeepsState x root q V

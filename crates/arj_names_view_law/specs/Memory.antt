@@ -51,6 +51,7 @@ pub record SeesMemory (x : ℕ) (tops : Kinds) (inc : ℕ) (told confirmed : Lis
   pub confirmed_is : (u : Uid) → (IsNested tops (uid_number u) → ⊥) → N.told (uid_number u) ≡ false → is_on confirmed u ≡ N.confd (uid_number u)
   pub object : (o : Named) → found ≡ Some o → SeesNamed x tops o S N
 
+-- naming's memory of the object is seen
 abbrev pub SeesNaming : ℕ → Kinds → Naming → State → Names → Type 0
 SeesNaming x tops n S N = SeesMemory x tops n.inc n.told n.confirmed (at_number x n.objects) S N
 

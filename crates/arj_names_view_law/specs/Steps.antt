@@ -29,10 +29,12 @@ abbrev pub ActionsAreFollowed : Type 0
 ActionsAreFollowed = (x : ℕ) (tops : Kinds) (f : Note → Bool) (e k : ℕ) (d : Disk) (t : Parts) (l : Label) (g : Labelled) (how : Kind) (parent : Option Label) (above : Option Branch) (A : Office) (M : Seen) → KnowsCoord tops d.intents t.coord
     → IsOfKind tops (next_uid t.coord.tree) how (path_below how above (next_uid t.coord.tree)) → SeesBoth x tops A (up k d t M) → DidIsFollowed f x tops A e k d t (begin_action l how parent above t.coord) (given l g M)
 
+-- an input about an action is followed by both halves
 abbrev pub InputsAreFollowed : Type 0
 InputsAreFollowed = (hd : Header) (x : ℕ) (tops : Kinds) (f : Note → Bool) (e k : ℕ) (d : Disk) (t : Parts) (i : Input) (A : Office) (M : Seen) → KnowsKinds tops → KnowsCoord tops d.intents t.coord → is_act i ≡ true → refusal_up hd i t.coord ≡ None
     → NotesInput (Some (record { from = A.world; noted = f })) t.coord i → SeesBoth x tops A (up k d t M) → DidIsFollowed f x tops A e k d t (acts i d.intents t.coord) M
 
+-- so is a tick
 abbrev pub TicksAreFollowed : Type 0
 TicksAreFollowed = (x : ℕ) (tops : Kinds) (f : Note → Bool) (e k : ℕ) (d : Disk) (t : Parts) (A : Office) (M : Seen) → KnowsCoord tops d.intents t.coord → AllByRecursion (λ u. was_begun u M.lines ≡ true) (holders d t) → SeesBoth x tops A (up k d t M)
     → DisksWalk f x tops A e k (tick_outs (record { number = k; disk = d; live = Some t }) t) (with_coord t (again_all t.coord.doings t.coord).part) d M

@@ -12,6 +12,7 @@ pub record Action : Type 0 where
   pub path : Path
   pub kind : Kind
 
+-- the action's own Uid
 abbrev pub act_of : Action → Uid
 act_of a = actor a.path
 

@@ -23,15 +23,18 @@ IsAskOf t k (ask.Vote i ties ends) = AllByRecursion (λ (e : ℕ × Binding). Is
 IsAskOf t k (ask.Confirm grants excluded included) = AllByRecursion (λ (e : ℕ × ℕ). IsUsedIn t k e.0) grants
 IsAskOf t k _ = ⊤
 
+-- so it is of a request, where the message is one
 abbrev pub IsAskedOf : Tree → Option (Head × Ask) → Type 0
 IsAskedOf t None = ⊤
 IsAskedOf t (Some a) = IsAskOf t (let h = a.0 in let r = root_of h.path in r.num) a.1
 
+-- so it is of each message that is sent
 abbrev pub IsOfRoots : Tree → Effect → Type 0
 IsOfRoots t (Send to m) = IsAskedOf t (asks m)
 IsOfRoots t (Say b) = ⊤
 IsOfRoots t (Do w) = ⊤
 
+-- so it is of all effects
 abbrev pub AreOfRoots : Tree → List Effect → Type 0
 AreOfRoots t outs = AllByRecursion (IsOfRoots t) outs
 
@@ -45,6 +48,7 @@ IsNowOf t (Committing m) = AllByRecursion (λ (u : Used). IsUsedIn t (let p = pl
 abbrev pub IsRootOf : Tree → ℕ → Root → Type 0
 IsRootOf t k r = AllByRecursion (λ (s : Said). IsUsedIn t k s.x) r.said × AllByRecursion (λ (j : Joined). IsUsedIn t k j.x) r.joined
 
+-- A coordinator knows only objects that the roots of its tree use: what its actions wait for, and what its roots have.
 pub record KnowsObjects (c : Coord) : Type 0 where
   pub works : (u : Uid) (d : Doing) → doing_of u c ≡ Some d → IsNowOf c.tree d.now
   pub roots : AllByRecursion (λ (e : ℕ × Root). IsRootOf c.tree e.0 e.1) c.roots

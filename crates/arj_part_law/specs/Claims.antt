@@ -47,6 +47,7 @@ IsHomeWork n i (PutIntent u e) = IsOfNode n i u
 IsHomeWork n i (PutInc j) = ⊥
 IsHomeWork n i _ = ⊤
 
+-- what the message says is true of this coordinator, and the work is at home
 abbrev pub IsTrueEffect : Coord → Effect → Type 0
 IsTrueEffect c (Send to m) = IsTrue c m
 IsTrueEffect c (Say b) = ⊤

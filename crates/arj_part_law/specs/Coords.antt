@@ -33,6 +33,7 @@ IsBusy t u Idle = ⊤
 IsBusy t u (Calling s) = IsAsking t u s.path
 IsBusy t u (Committing m) = IsVoting t u (plan_of m)
 
+-- so it is of each action at work
 abbrev pub AreBusy : Coord → Type 0
 AreBusy c = (u : Uid) (d : Doing) → doing_of u c ≡ Some d → IsBusy c.tree u d.now
 

@@ -17,6 +17,7 @@ abbrev pub is_entry_free : Work → Bool
 is_entry_free (Prepare role.Names u states) = false
 is_entry_free _ = true
 
+-- so it is of an effect
 abbrev pub prepares_none : Effect → Bool
 prepares_none (Do w) = is_entry_free w
 prepares_none _ = true

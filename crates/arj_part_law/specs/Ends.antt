@@ -33,13 +33,16 @@ ask_ends (ask.Invoke x b i ends op) = ends
 ask_ends (ask.Vote i ties ends) = ends
 ask_ends _ = []
 
+-- the ends that a request brings, where the message is one
 abbrev pub brought_by : Option (Head × Ask) → List (Uid × End)
 brought_by None = []
 brought_by (Some a) = ask_ends a.1
 
+-- the ends that a message brings as a request
 abbrev pub brought : Message → List (Uid × End)
 brought m = brought_by (asks m)
 
+-- the ends that a message tells
 abbrev pub told_by : Message → List (Uid × End)
 told_by (message.Told m) = m.ends
 told_by _ = []
@@ -66,11 +69,13 @@ abbrev pub IsOfCommit : Tree → Work → Type 0
 IsOfCommit t (PutIntent u i) = IsDecided u ending.Commit t
 IsOfCommit t _ = ⊤
 
+-- what an effect says of ends is so in the tree, and its record is of a committed action
 abbrev pub SaysEndsIn : Tree → Effect → Type 0
 SaysEndsIn t (Say b) = ⊤
 SaysEndsIn t (Send to m) = SaysEnds t m
 SaysEndsIn t (Do w) = IsOfCommit t w
 
+-- so it is of all effects
 abbrev pub AllSayEnds : Tree → List Effect → Type 0
 AllSayEnds t outs = AllByRecursion (SaysEndsIn t) outs
 

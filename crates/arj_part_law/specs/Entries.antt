@@ -25,6 +25,7 @@ names_disk d = record { inc = 0; store = record { held = []; pend = [] }; names 
 abbrev pub names_worked : Work → Pair → Pair
 names_worked w d = let disk = worked w (names_disk d) in disk.names
 
+-- the pair of entries after these effects, in order
 abbrev pub names_after : List Effect → Pair → Pair
 names_after [] d = d
 names_after (Do w ∷ es) d = names_after es (names_worked w d)

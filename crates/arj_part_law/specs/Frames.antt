@@ -14,10 +14,12 @@ abbrev pub ask_prepares : ℕ → Ask → Bool
 ask_prepares x (ask.Prepare states) = names_object (object x) states
 ask_prepares x _ = false
 
+-- a told
 abbrev pub is_told_message : Message → Bool
 is_told_message (message.Told m) = true
 is_told_message _ = false
 
+-- a message may change what is prepared or committed of the object: a request that names it, or a told
 abbrev pub asked_prepares : ℕ → Message → Option (Head × Ask) → Bool
 asked_prepares x m None = is_told_message m
 asked_prepares x m (Some a) = ask_prepares x a.1
@@ -26,6 +28,7 @@ asked_prepares x m (Some a) = ask_prepares x a.1
 abbrev pub speaks_to_store : ℕ → Message → Bool
 speaks_to_store x m = asked_prepares x m (asks m)
 
+-- what handling a message put out, void or not
 abbrev pub outs_of : Handled → List Effect
 outs_of (Void outs) = outs
 outs_of (Took t outs) = outs
@@ -42,6 +45,7 @@ abbrev pub ask_confirms : ℕ → Ask → Bool
 ask_confirms x (ask.Confirm grants excluded included) = names_grant x grants
 ask_confirms x _ = false
 
+-- a message may change the object's entry: a Confirm that names it, or a told
 abbrev pub asked_confirms : ℕ → Message → Option (Head × Ask) → Bool
 asked_confirms x m None = is_told_message m
 asked_confirms x m (Some a) = ask_confirms x a.1

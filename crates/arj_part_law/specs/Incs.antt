@@ -20,6 +20,7 @@ abbrev pub KeepsInc : ℕ → Work → Type 0
 KeepsInc i (PutInc j) = j ≡ i
 KeepsInc i _ = ⊤
 
+-- an effect names no later incarnation of the node, and puts none but this one
 abbrev pub IsOfInc : ℕ → ℕ → Effect → Type 0
 IsOfInc n i (Say b) = ⊤
 IsOfInc n i (Send to m) = SaysInc n i m
@@ -35,13 +36,15 @@ SaysIncIn n i (Say b) = ⊤
 SaysIncIn n i (Send to m) = SaysInc n i m
 SaysIncIn n i (Do w) = ⊤
 
+-- so it is of all effects
 abbrev pub SayInc : ℕ → ℕ → List Effect → Type 0
 SayInc n i outs = AllByRecursion (SaysIncIn n i) outs
 
--- what the message says of actions is true at this coordinator, and so is the record of a work
+-- what the message says of actions is true at this coordinator
 abbrev pub AreClaims : Coord → Message → Type 0
 AreClaims c m = (u : Uid) → Seals m u → IsClaimed u c
 
+-- so it is of an effect
 abbrev pub IsClaimsOf : Coord → Effect → Type 0
 IsClaimsOf c (Say b) = ⊤
 IsClaimsOf c (Send to m) = AreClaims c m

@@ -24,6 +24,7 @@ Homes = ℕ → ℕ
 abbrev pub Reach : Type 0
 Reach = ℕ → ℕ → ℕ → ℕ → Bool
 
+-- the server of a binding
 abbrev pub home_of : Homes → Binding → ℕ
 home_of home b = home (binding_number b)
 
@@ -46,6 +47,7 @@ abbrev pub IsLiveSo : Homes → Reach → ℕ → Option Live → Type 0
 IsLiveSo home reach x None = ⊤
 IsLiveSo home reach x (Some l) = (l.server ≡ home_of home l.binding) × IsReached reach l.server x l.binding l.inc
 
+-- a binding that was made is to its server
 abbrev pub IsMadeSo : Homes → Uid × Made → Type 0
 IsMadeSo home e = (let m = e.1 in m.server) ≡ home_of home (let m = e.1 in m.binding)
 
@@ -54,6 +56,7 @@ pub record IsNamedSo (home : Homes) (reach : Reach) (x : ℕ) (o : Named) : Type
   pub live : IsLiveSo home reach x o.live
   pub made : AllByRecursion (IsMadeSo home) o.made
 
+-- so it is of all objects of naming
 abbrev pub IsNamingSo : Homes → Reach → Naming → Type 0
 IsNamingSo home reach n = AllByRecursion (λ (e : ℕ × Named). IsNamedSo home reach e.0 e.1) n.objects
 
@@ -68,15 +71,18 @@ NamesAsk home reach to (ask.Invoke x b i ends op) = (to ≡ home_of home b) × I
 NamesAsk home reach to (ask.Vote i ties ends) = HasReachedSome reach to i
 NamesAsk home reach to _ = ⊤
 
+-- so it is of a request, where the message is one
 abbrev pub NamesAsked : Homes → Reach → ℕ → Option (Head × Ask) → Type 0
 NamesAsked home reach to None = ⊤
 NamesAsked home reach to (Some a) = NamesAsk home reach to a.1
 
+-- so it is of a message that is sent
 abbrev pub NamesEffect : Homes → Reach → Effect → Type 0
 NamesEffect home reach (Send to m) = NamesAsked home reach to (asks m)
 NamesEffect home reach (Say b) = ⊤
 NamesEffect home reach (Do w) = ⊤
 
+-- so it is of all effects
 abbrev pub AllName : Homes → Reach → List Effect → Type 0
 AllName home reach outs = AllByRecursion (NamesEffect home reach) outs
 
@@ -124,6 +130,7 @@ IsOfObject x _ = ⊤
 abbrev pub IsKnownSo : Homes → Reach → ℕ → Known → Type 0
 IsKnownSo home reach x k = (k.server ≡ home_of home k.binding) × ((i : ℕ) → k.inc ≡ Some i → IsReached reach k.server x k.binding i)
 
+-- so it is of what a root keeps, if anything
 abbrev pub IsKeptSo : Homes → Reach → ℕ → Option Known → Type 0
 IsKeptSo home reach x None = ⊤
 IsKeptSo home reach x (Some k) = IsKnownSo home reach x k
@@ -136,6 +143,7 @@ IsAtSo home reach x (AtActivate k st) = IsKnownSo home reach x k × ((let u = st
 IsAtSo home reach x (AtNote k i) = IsKnownSo home reach x k × IsReached reach k.server x k.binding i
 IsAtSo home reach x (AtInvoke k i) = IsKnownSo home reach x k × IsReached reach k.server x k.binding i
 
+-- so it is of the step that a call goes on to
 abbrev pub IsStepSo : Homes → Reach → ℕ → CallStep → Type 0
 IsStepSo home reach x (On at) = IsAtSo home reach x at
 IsStepSo home reach x (Ended e) = ⊤
@@ -144,9 +152,11 @@ IsStepSo home reach x (Ended e) = ⊤
 abbrev pub IsMovedSo : Homes → Reach → ℕ → Moved → Type 0
 IsMovedSo home reach x m = IsStepSo home reach x m.step × IsKeptSo home reach x m.kept
 
+-- what a plan uses was reached by its server in the incarnation that the plan names
 abbrev pub IsUsedSo : Homes → Reach → Used → Type 0
 IsUsedSo home reach u = IsReached reach u.server u.x u.binding u.inc
 
+-- so it is of all that a root keeps
 abbrev pub IsRootSo : Homes → Reach → Root → Type 0
 IsRootSo home reach r = AllByRecursion (λ (e : ℕ × Keeping). IsKeptSo home reach e.0 (let k = e.1 in k.kept)) r.keeping
 

@@ -32,10 +32,12 @@ abbrev pub FitsOther : List Action → Message → Type 0
 FitsOther acts (message.Told m) = AreOrdered acts [] m.ends
 FitsOther acts _ = ⊤
 
+-- a request fits by its path and what it asks, any other message by what it tells
 abbrev pub FitsAsked : List Action → Message → Option (Head × Ask) → Type 0
 FitsAsked acts m None = FitsOther acts m
 FitsAsked acts m (Some a) = FitsAsk acts a.0 a.1
 
+-- the message fits these actions
 abbrev pub FitsMessage : List Action → Message → Type 0
 FitsMessage acts m = FitsAsked acts m (asks m)
 
@@ -44,6 +46,7 @@ abbrev pub FitsWork : List Action → Work → Type 0
 FitsWork acts (PutIntent u i) = IsTopAction acts u
 FitsWork acts _ = ⊤
 
+-- so it is of a message that is sent and of a record that is written
 abbrev pub FitsEffect : List Action → Effect → Type 0
 FitsEffect acts (Send to m) = FitsMessage acts m
 FitsEffect acts (Say b) = ⊤
@@ -63,6 +66,7 @@ AreOfTops acts intents = AllByRecursion (λ (e : Uid × Intent). IsTopAction act
 abbrev pub IsDecided : Uid → End → Tree → Type 0
 IsDecided u e t = (b : Branch) × (branch_of u t ≡ Some b) × (b.ended ≡ Some e)
 
+-- a commit
 abbrev pub is_commit : End → Bool
 is_commit ending.Commit = true
 is_commit ending.Abort = false
@@ -77,13 +81,16 @@ SealsAsk h (ask.Invoke x b i ends op) u = has_commit_of u ends ≡ true
 SealsAsk h (ask.Vote i ties ends) u = (has_commit_of u ends ≡ true) ⊎ (u ≡ actor h.path)
 SealsAsk h _ u = ⊥
 
+-- a told seals whom it tells to be committed
 abbrev pub SealsOther : Message → Uid → Type 0
 SealsOther (message.Told m) u = has_commit_of u m.ends ≡ true
 SealsOther _ u = ⊥
 
+-- a request seals whom it says to have committed
 abbrev pub SealsAsked : Message → Option (Head × Ask) → Uid → Type 0
 SealsAsked m None u = SealsOther m u
 SealsAsked m (Some a) u = SealsAsk a.0 a.1 u
 
+-- the message seals the action
 abbrev pub Seals : Message → Uid → Type 0
 Seals m u = SealsAsked m (asks m) u

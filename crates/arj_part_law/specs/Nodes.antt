@@ -29,6 +29,7 @@ IsWellHandled acts paths (Took t outs) = IsGoodNode acts paths t × AllFit acts 
 abbrev pub VotesOnly : Message → Parts → Parts → Type 0
 VotesOnly m t v = (w : Uid) → is_on v.server.voted w ≡ true → (is_on t.server.voted w ≡ true) ⊎ Seals m w
 
+-- so it is behind a message that was taken
 abbrev pub VotesOnlyAfter : Message → Parts → Handled → Type 0
 VotesOnlyAfter m t (Void outs) = ⊤
 VotesOnlyAfter m t (Took v outs) = VotesOnly m t v
@@ -53,9 +54,11 @@ FitsNamesAsk owner past d h (ask.Record x b i g) (Some n) = Fits owner h.path ×
 FitsNamesAsk owner past d h (ask.Confirm grants excluded included) (Some n) = Fits owner h.path × IsConfirmed past h.path included n d
 FitsNamesAsk owner past d h _ _ = ⊤
 
+-- so it is of a request, where the message is one
 abbrev pub FitsNamesAsked : Owners → Past → Pair → Option (Head × Ask) → Option Naming → Type 0
 FitsNamesAsked owner past d None o = ⊤
 FitsNamesAsked owner past d (Some a) o = FitsNamesAsk owner past d a.0 a.1 o
 
+-- the message fits what naming counts on
 abbrev pub FitsNames : Owners → Past → Pair → Message → Option Naming → Type 0
 FitsNames owner past d m o = FitsNamesAsked owner past d (asks m) o

@@ -20,5 +20,6 @@ IsNumbered req Idle = ⊤
 IsNumbered req (Calling s) = s.req ≡ req
 IsNumbered req (Committing m) = ((let p = plan_of m in p.req) ≡ req) × IsAwaited m
 
+-- so it is of each action at work
 abbrev pub AreNumbered : Coord → Type 0
 AreNumbered c = (u : Uid) (d : Doing) → doing_of u c ≡ Some d → IsNumbered d.req d.now

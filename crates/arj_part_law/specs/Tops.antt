@@ -7,6 +7,7 @@ use Rattle.arj_base.specs.Rows.{last_uid, is_on}
 use Rattle.arj_base.specs.Uid.{uid_eq}
 use Rattle.arj_protocol.specs.Ask.{top_path, top_of}
 
+-- whose naming locks an action's are: that of its serializing action, or its own
 abbrev pub Owners : Type 0
 Owners = Uid → Uid
 

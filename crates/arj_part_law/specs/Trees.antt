@@ -33,6 +33,7 @@ pub record HasLists (paths : Paths) (t : Tree) : Type 0 where
 abbrev pub IsClosed : Paths → Tree → Type 0
 IsClosed paths t = (u h : Uid) (b p : Branch) → branch_of u t ≡ Some b → before_last (paths u) ≡ Some h → branch_of h t ≡ Some p → is_some p.ended ≡ true → is_some b.ended ≡ true
 
+-- A tree whose roots have the lists of their ends, and in which whatever was begun in an ended action has ended.
 pub record IsGoodTree (paths : Paths) (t : Tree) : Type 0 where
   pub lists : HasLists paths t
   pub closed : IsClosed paths t

@@ -24,6 +24,7 @@ abbrev pub IsClosedAt : Uid → Option Parts → Type 0
 IsClosedAt u None = ⊤
 IsClosedAt u (Some t) = (b : Branch) → branch_of u t.coord.tree ≡ Some b → is_some b.ended ≡ true
 
+-- the memory of a node that is there and up
 abbrev pub live_in : Option Node → Option Parts
 live_in None = None
 live_in (Some n) = n.live
@@ -58,6 +59,7 @@ pub record ArePast (acts : List Action) (lives : ℕ → Option Parts) (sent : L
   pub posts : (p : Post) → In p sent → SaysPast acts lives p
   pub nodes : (k : ℕ) (n : Node) → found k ≡ Some n → IsPastNode acts lives k n
 
+-- so it is in what is seen
 abbrev pub ArePastIn : List Action → Seen → Type 0
 ArePastIn acts M = ArePast acts (λ j. live_in (M.nodes j)) M.sent M.nodes
 

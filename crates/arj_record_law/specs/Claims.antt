@@ -23,6 +23,7 @@ SaysBound T x avoid top (bound.Make b server g stores) = (T.made (binding_number
 SaysBound T x avoid top (bound.Write g stores) = (T.asked x top g ≡ true) × (T.low g ≡ true)
 SaysBound T x avoid top (bound.Conflict holder m) = ⊤
 
+-- so it is of an answer of any kind
 abbrev pub SaysBind : Tests → ℕ → Binding → Uid → Reply → Type 0
 SaysBind T x avoid top (Reply.Bound r) = SaysBound T x avoid top r
 SaysBind T x avoid top _ = ⊤
@@ -32,6 +33,7 @@ abbrev pub SaysNoted : Tests → ℕ → Binding → RecordedReply → Type 0
 SaysNoted T x b recorded.Yes = T.past x (binding_number b) ≡ true
 SaysNoted T x b (recorded.Changed w) = ⊤
 
+-- so it is of an answer of any kind
 abbrev pub SaysNote : Tests → ℕ → Binding → Reply → Type 0
 SaysNote T x b (Reply.Noted r) = SaysNoted T x b r
 SaysNote T x b _ = ⊤
@@ -76,6 +78,7 @@ SaysAsk T (ask.Bind x include avoid) = T.made (binding_number avoid) ≡ true
 SaysAsk T (ask.Record x b i g) = T.low g ≡ true
 SaysAsk T _ = ⊤
 
+-- so it is of each message that was sent
 abbrev pub AllSay : Tests → List Post → Type 0
 AllSay T sent = (p : Post) (h : Head) (a : Ask) → In p sent → asks p.message ≡ Some (h, a) → SaysAsk T a
 
@@ -136,5 +139,6 @@ pub record WasConfirmed (sent : List Post) (top : Uid) (x : ℕ) : Type 0 where
   pub one : (c : ℕ) → list.In (x, c) grants → c ≡ inc
   pub late : (b : Binding) (g : ℕ) → IsRecord sent top x b g → g ≤ inc
 
+-- so it is of each entry that is prepared
 abbrev pub AreConfirmed : List Post → Pair → Type 0
 AreConfirmed sent d = AllByRecursion (λ (e : Uid × List ObjectState). (s : ObjectState) → list.In s e.1 → WasConfirmed sent e.0 (let u = s.uid in u.num)) d.pend

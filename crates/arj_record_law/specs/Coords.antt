@@ -27,6 +27,7 @@ abbrev pub top_number : Option Known → Binding → ℕ
 top_number None avoid = binding_number avoid
 top_number (Some k) avoid = binding_number k.binding
 
+-- the number of the binding that is kept or avoided
 abbrev pub height : Keeping → ℕ
 height k = top_number k.kept k.avoid
 
@@ -71,6 +72,7 @@ IncludeStands T x top r (AtBind avoid) = T.made (binding_number avoid) ≡ true
 IncludeStands T x top r (AtLoad z n rest) = IsIncluded T x top z.grant r
 IncludeStands T x top r _ = ⊥
 
+-- so it is of the step in which a call or an include waits
 abbrev pub StepStands : Tests → Goal → ℕ → Uid → Root → At → Type 0
 StepStands T (Run o) x top r at = let k = keeping_of x r in CallStands T x k.kept k.avoid at
 StepStands T (Include s) x top r at = IncludeStands T x top r at

@@ -32,6 +32,7 @@ pub record KnowsOfRecords (sent : List Post) (k : ℕ) (c : Coord) : Type 0 wher
   pub own : KnowsSent sent k c
   pub records : (T : Tests) → AreFitting T sent → KnowsRecords T sent k c
 
+-- so it is at each node that is up
 abbrev pub CoordsKnow : Seen → Type 0
 CoordsKnow M = (j : ℕ) (n : Node) (t : Parts) → M.nodes j ≡ Some n → n.live ≡ Some t → KnowsOfRecords M.sent j t.coord
 
@@ -47,9 +48,11 @@ HandlersSettleRecords = (hd : Header) → Keeps hd RecordsSettle
 abbrev pub AnswersClaim : Seen → Type 0
 AnswersClaim M = (T : Tests) → Passes T M → AreAnswered T M.sent
 
+-- each entry that is prepared was confirmed, where Records were first
 abbrev pub EntriesConfirmed : Seen → Type 0
 EntriesConfirmed M = RecordsAreFirst M.sent → (n : Node) → M.nodes 1 ≡ Some n → AreConfirmed M.sent (let d = n.disk in d.names)
 
+-- both
 abbrev pub NamingKnows : Seen → Type 0
 NamingKnows M = AnswersClaim M × EntriesConfirmed M
 
@@ -57,6 +60,7 @@ NamingKnows M = AnswersClaim M × EntriesConfirmed M
 abbrev pub NamingHolds : List Action → Naming → Type 0
 NamingHolds acts n = HoldsObjects acts n × ((x : ℕ) (o : Named) → at_number x n.objects ≡ Some o → AreBelowLast o)
 
+-- so it is at node 1, beside good nodes
 abbrev pub Below : Seen → Type 0
 Below M = (acts : List Action) × IsGoodOf acts M × AreUppersOf NamingHolds acts M
 

@@ -48,6 +48,7 @@ pub record PassesNode (T : Tests) (n : Node) : Type 0 where
   pub live : PassesLive T (let d = n.disk in d.inc) n.live
   pub lists : (x v s : ℕ) → T.listed x v s ≡ true
 
+-- so it is of node 1
 abbrev pub Passes : Tests → Seen → Type 0
 Passes T M = (T.made 0 ≡ true) × ((n : Node) → M.nodes 1 ≡ Some n → PassesNode T n)
 

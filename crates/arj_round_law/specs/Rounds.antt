@@ -59,6 +59,7 @@ abbrev pub QuiescesAnswer : Type 0
 QuiescesAnswer = (hd : Header) (test : Seen → Bool) → KeepsAsked hd (λ M. test M ≡ true) → AnswersWaits hd (λ M. (test M ≡ true) × IsGood M)
     → (e : Asked) (w : World) → Holds hd (λ M. (test M ≡ true) × IsGood M) w → length w.frames ≤ most_frames → e.event ≡ event.Quiesce → w.over ≡ false → (run_event e w).over ≡ false → AreUp (run_event e w) → WaitOvertaken (run_event e w)
 
+-- so it is of a quiesce in a run that goes on, at the end of which every node is up
 abbrev pub RunsAnswer : Type 0
 RunsAnswer = (hd : Header) (test : Seen → Bool) → KeepsAsked hd (λ M. test M ≡ true) → AnswersWaits hd (λ M. (test M ≡ true) × IsGood M)
     → (es : List Asked) (e : Asked) → let w = run_all es (format hd) in e.event ≡ event.Quiesce → w.over ≡ false → (run_event e w).over ≡ false → AreUp (run_event e w) → WaitOvertaken (run_event e w)

@@ -18,6 +18,7 @@ pub record Want : Type 0 where
   pub kind : ℕ
   pub node : ℕ
 
+-- what an answer to it names
 abbrev pub asked_for : Want → Asked
 asked_for w = record { act = w.act; req = w.req }
 
@@ -77,6 +78,7 @@ IsSaid lines b = (l : Line) × Contains lines l × (l.body ≡ b)
 abbrev pub coord_of : Parts → Coord
 coord_of t = t.coord
 
+-- the coordinator of a node that is there and up
 abbrev pub coord_in : Option Node → Option Coord
 coord_in None = None
 coord_in (Some n) = option_map coord_of n.live

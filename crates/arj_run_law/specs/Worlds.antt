@@ -55,6 +55,7 @@ abbrev pub AreCommittedIn : List (Uid × Intent) → Option Parts → Type 0
 AreCommittedIn records None = ⊤
 AreCommittedIn records (Some t) = AreOfCommits records t.coord.tree
 
+-- A node is good: its disk, its memory where it is up, and its records then.
 pub record IsGoodPlace (acts : List Action) (sent : List Post) (given : List (Label × Labelled)) (k : ℕ) (n : Node) : Type 0 where
   pub disk : IsGoodDisk acts k n.disk
   pub memory : IsMemory acts sent given k n.disk.inc n.live
@@ -92,5 +93,6 @@ pub record IsGoodWorld (acts : List Action) (sent : List Post) (given : List (La
 abbrev pub IsGoodOf : List Action → Seen → Type 0
 IsGoodOf acts M = IsGoodWorld acts M.sent M.labels M.nodes
 
+-- there are such actions
 abbrev pub IsGood : Seen → Type 0
 IsGood M = (acts : List Action) × IsGoodOf acts M

@@ -25,6 +25,7 @@ use Rattle.arj_serial_law.specs.Tied.{IsTied}
 abbrev pub IsCalledFirst : List Line → Call → Call → Type 0
 IsCalledFirst lines c d = c.at < d.at → (c.top == d.top) ≡ false → is_conflict c d ≡ true → top_place (tops lines) c.top < d.at
 
+-- so it is of each two surviving calls
 abbrev pub CommitsComeFirst : List Line → Type 0
 CommitsComeFirst lines = OfEachTwo (IsCalledFirst lines) (committed_calls lines)
 

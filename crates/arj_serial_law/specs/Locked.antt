@@ -43,6 +43,7 @@ abbrev pub is_number : Option ℕ → ℕ → Bool
 is_number None n = false
 is_number (Some m) n = m == n
 
+-- the action is of the root of this number
 abbrev pub is_of_root : List Line → ℕ → Uid → Bool
 is_of_root lines n u = is_number (root_in (path_by (acts lines) u)) n
 

@@ -25,6 +25,7 @@ preparer h (ask.Prepare states) = Some (actor h.path)
 preparer h (ask.Confirm grants excluded included) = Some (top_of h.path)
 preparer h _ = None
 
+-- so it is of what a message asks
 abbrev pub preparer_in : Option (Head × Ask) → Option Uid
 preparer_in None = None
 preparer_in (Some q) = preparer q.0 q.1

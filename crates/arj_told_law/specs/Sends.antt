@@ -12,6 +12,7 @@ Sends (Say b) = ⊤
 Sends (Send n m) = IsSendable m
 Sends (Do w) = ⊤
 
+-- so it is of all effects
 abbrev pub AreSendable : List Effect → Type 0
 AreSendable es = AllByRecursion Sends es
 

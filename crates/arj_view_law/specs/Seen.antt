@@ -17,6 +17,7 @@ pub record Post : Type 0 where
   pub to : ℕ
   pub message : Message
 
+-- What is seen of a world: all that was sent, the journal, the labels, and each node.
 pub record Seen : Type 0 where
   pub sent : List Post
   pub lines : List Line
@@ -44,9 +45,11 @@ with_node k n M = record M { nodes = λ m. if m == k then Some n else M.nodes m 
 abbrev pub at : ℕ → Disk → Option Parts → Seen → Seen
 at k d live M = with_node k (record { number = k; disk = d; live = live }) M
 
+-- the node is up with this disk and memory
 abbrev pub up : ℕ → Disk → Parts → Seen → Seen
 up k d t M = at k d (Some t) M
 
+-- the node is down with this disk
 abbrev pub down : ℕ → Disk → Seen → Seen
 down k d M = at k d None M
 
@@ -80,5 +83,6 @@ is_quiet_line (body.Quiet b) = true
 is_quiet_line (body.Limit l) = true
 is_quiet_line _ = false
 
+-- so it is of all lines
 abbrev pub AreQuiet : List Body → Type 0
 AreQuiet bs = list_all is_quiet_line bs ≡ true

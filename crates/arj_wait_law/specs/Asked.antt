@@ -108,9 +108,11 @@ NamedAt sent claims g p x (AtActivate k st) = WasNamed sent claims p x k.binding
 NamedAt sent claims g p x (AtNote k i) = WasNamed sent claims p x k.binding k.grant
 NamedAt sent claims g p x at = ⊤
 
+-- so it is of a call or an include under way
 abbrev pub StepNamed : List Post → Claims → Steps → Type 0
 StepNamed sent claims s = NamedAt sent claims s.goal s.path s.x s.at
 
+-- so it is of all of a coordinator
 abbrev pub StepsNamed : List Post → Claims → Coord → Type 0
 StepsNamed sent claims c = (u : Uid) (d : Doing) (s : Steps) → doing_of u c ≡ Some d → d.now ≡ Calling s → StepNamed sent claims s
 
@@ -124,6 +126,7 @@ ActivateNamed sent claims h b st = (g : ℕ) × WasNamed sent claims h.path (let
 abbrev pub NamedWasSaid : (Body → Type 0) → ℕ → Named → Type 0
 NamedWasSaid said x o = AllByRecursion (λ (e : Uid × Made). said (body.Bound x (let m = e.1 in m.binding) (let m = e.1 in m.server))) o.made
 
+-- so it is of naming, where it is there
 abbrev pub MadeWasSaid : (Body → Type 0) → Option Naming → Type 0
 MadeWasSaid said None = ⊤
 MadeWasSaid said (Some o) = AllByRecursion (λ (e : ℕ × Named). NamedWasSaid said e.0 e.1) o.objects
