@@ -17,6 +17,7 @@ abbrev pub go_to : Path → Bool → List (ℕ × Message) → Coord → Coord
 go_to p invoke [] c = c
 go_to p invoke (r ∷ rs) c = go_to p invoke rs (goes_to p invoke r.0 c)
 
+-- the requests of these questions go, each to its node
 abbrev pub asked : Questions → Coord → Did Coord
 asked q c = record { part = go_to q.path q.invoke q.requests c; outs = map sent_to q.requests }
 

@@ -29,6 +29,7 @@ pub record Left (D : Type 0) : Type 0 where
   pub rack : List D
   pub journal : List Line
 
+-- what a run leaves, of these
 abbrev pub left : {D : Type 0} → List D → List Line → Left D
 left rack journal = record { rack = rack; journal = journal }
 

@@ -17,6 +17,7 @@ pub record Moment (D M : Type 0) : Type 0 where
   pub machine : M
   pub journal : List Line
 
+-- one moment, of these
 abbrev pub moment : {D M : Type 0} → List D → M → List Line → Moment D M
 moment rack machine journal = record { rack = rack; machine = machine; journal = journal }
 

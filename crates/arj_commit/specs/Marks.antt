@@ -13,6 +13,7 @@ is_marked_in excluded x s = list_any (λ (m : ℕ × ℕ). (m.0 == x) && (m.1 ==
 abbrev pub joins_by : List (ℕ × ℕ) → ℕ → List ℕ → List (ℕ × ℕ)
 joins_by excluded x joins = map {A = ℕ} {B = ℕ × ℕ} (λ s. (x, s)) (filter (λ s. not (is_marked_in excluded x s)) joins)
 
+-- the inclusions of one used object that are left
 abbrev pub joins_in : List (ℕ × ℕ) → Used → List (ℕ × ℕ)
 joins_in excluded u = joins_by excluded u.x u.joins
 

@@ -55,6 +55,7 @@ is_ready s _ = false
 abbrev pub naming_yes : Heard
 naming_yes = Answer 1 (Reply.Confirmed confirmed.Yes)
 
+-- an answer of this node
 abbrev pub is_from : ℕ → Heard → Bool
 is_from n (Answer from r) = from == n
 is_from n GiveUp = false

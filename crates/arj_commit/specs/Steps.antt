@@ -17,6 +17,7 @@ use Rattle.arj_commit.specs.declared.limits.TheConstants.{LAST_START}
 abbrev pub voting : Awaiting → Machine
 voting a = Voting a.plan a.left
 
+-- the machine that waits for stores
 abbrev pub preparing : Awaiting → Machine
 preparing a = Preparing a.plan a.left
 
@@ -27,6 +28,7 @@ abbrev pub waits_by : ℕ → Option (Asked × Reply) → Machine → Bool
 waits_by from None m = false
 waits_by from (Some a) m = waits_for_commit from a.0 a.1 m
 
+-- so it is of a message
 abbrev pub waits_for : ℕ → Message → Machine → Bool
 waits_for from message m = waits_by from (answers message) m
 
@@ -35,6 +37,7 @@ abbrev pub takes_by : ℕ → Option (Asked × Reply) → Machine → Bool
 takes_by from None m = false
 takes_by from (Some a) m = uid_eq a.0.act (actor (plan_of m).path) && waits_for_commit from a.0 a.1 m
 
+-- so it is of a message
 abbrev pub takes : ℕ → Message → Machine → Bool
 takes from message m = takes_by from (answers message) m
 
@@ -43,6 +46,7 @@ abbrev pub heard_by : ℕ → Option (Asked × Reply) → Machine → Marked
 heard_by from None m = plainly (Stays m)
 heard_by from (Some a) m = answered from m a.1
 
+-- what a message leads to
 abbrev pub heard : ℕ → Message → Machine → Marked
 heard from message m = heard_by from (answers message) m
 

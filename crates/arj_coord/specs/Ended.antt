@@ -31,6 +31,7 @@ left_in u i intents c [] = record {
 }
 left_in u i intents c (n ∷ ns) = record { part = record c { telling = put_uid u i c.telling }; outs = [] }
 
+-- the nodes of the record are awaited
 abbrev pub left_by : Uid → Intent → List (Uid × Intent) → Coord → Did Coord
 left_by u i intents c = left_in u i intents c i.nodes
 
@@ -38,5 +39,6 @@ left_by u i intents c = left_in u i intents c i.nodes
 abbrev pub is_other_member : Uid → Uid → ℕ → Uid × Intent → Bool
 is_other_member without root n e = not (uid_eq e.0 without) && is_member_of root n e
 
+-- some such record lists the node
 abbrev pub deferred_but : Uid → Uid → ℕ → List (Uid × Intent) → Bool
 deferred_but without root n es = list_any (is_other_member without root n) es

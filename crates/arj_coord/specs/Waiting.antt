@@ -30,6 +30,7 @@ abbrev pub changed_by : (Doing → Doing) → ℕ → List Doing → Option Doin
 changed_by f k ds None = ds
 changed_by f k ds (Some d) = set_place k (f d) ds
 
+-- the action at this place changed, where there is one
 abbrev pub changed_at : ℕ → (Doing → Doing) → List Doing → List Doing
 changed_at k f ds = changed_by f k ds (at_place k ds)
 

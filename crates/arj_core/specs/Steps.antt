@@ -24,6 +24,7 @@ whole_message _ = None
 abbrev pub message_of : List ℕ → Option Message
 message_of bytes = whole_message (read_message bytes)
 
+-- an input, as the protocol's
 abbrev pub input_of : Input → protocol.Input
 input_of (of.Begin l k parent) = protocol.Begin l k parent
 input_of (of.Call l x op) = protocol.Call l x op
@@ -44,6 +45,7 @@ pub data Seen : Type 0 where
   Said : Body → Seen
   Sent : ℕ → FrameKind → Option Message → Seen
 
+-- a line, or a frame with the message that it holds
 abbrev pub seen_of : Output → Seen
 seen_of (output.Say b) = Said b
 seen_of (output.Send to k bytes) = Sent to k (message_of bytes)

@@ -29,13 +29,16 @@ use Rattle.arj_engine.specs.Keeps.{Machine, Keeps}
 use Rattle.arj_engine.specs.declared.engine.Engine.{Engine}
 use Rattle.arj_engine.specs.declared.engine.Action.{Action}
 
+-- the number of the last event
 abbrev pub stepped : Engine → ℕ
 stepped engine = engine.event
 
+-- an action that is there hasn't ended
 abbrev pub is_going : Option Action → Bool
 is_going None = false
 is_going (Some a) = a.going
 
+-- the objects that an action uses, where it is there
 abbrev pub used_by_action : Option Action → List ℕ
 used_by_action None = []
 used_by_action (Some a) = a.used.items

@@ -46,15 +46,19 @@ pub record Machine : Type 0 where
 abbrev pub calls_made : List (Placed Said) → List Call
 calls_made said = filter_map (λ p. made_in p (top_in p.it.path)) said
 
+-- the calls of an action
 abbrev pub calls_by : Seen → ℕ → List Call
 calls_by s i = filter (λ c. c.top == i) (calls_made s.said)
 
+-- the committed tops
 abbrev pub tops_seen : Seen → List Top
 tops_seen s = filter_map (top_of s.committed s.recovered) s.committings
 
+-- the surviving calls in serial order
 abbrev pub serial_seen : Seen → List Call
 serial_seen s = arrange (serial_less (tops_seen s)) (filter_map (kept s.committed s.recovered) s.said)
 
+-- the committed values of all objects
 abbrev pub now : Header → Seen → Values
 now header s = run (first_values header) (serial_seen s)
 
@@ -66,6 +70,7 @@ pub record IsPlain (older : List Act) (a : Act) : Type 0 where
   pub uid : a.uid ≡ ident a.id
   pub fresh : act_in older a.label ≡ None
 
+-- so it is of all actions
 abbrev pub ArePlain : List Act → Type 0
 ArePlain [] = ⊤
 ArePlain (a ∷ older) = IsPlain older a × ArePlain older
@@ -78,6 +83,7 @@ pub record IsAlone (count : ℕ) (path : List Act) : Type 0 where
   pub uid : act.uid ≡ ident act.id
   pub within : act.id < count
 
+-- A commit call: its path is one action, and its line stands.
 pub record IsAsked (acts : ℕ) (lines : ℕ) (p : Placed (List Act)) : Type 0 where
   pub alone : IsAlone acts p.it
   pub before : p.at < lines
@@ -87,6 +93,7 @@ abbrev pub HaltsFit : Bool → ℕ → List (Placed Halt) → Type 0
 HaltsFit false acts halts = halts ≡ []
 HaltsFit true acts halts = (at : ℕ) × (halts ≡ record { at = at; it = record { node = 1; begun = acts } } ∷ [])
 
+-- a restart, if one was, stands before so many lines
 abbrev pub IsBelow : ℕ → Option ℕ → Type 0
 IsBelow n None = ⊤
 IsBelow n (Some r) = r < n
@@ -105,6 +112,7 @@ row_mode (row ∷ rows) x action = if is_row_of (object x) action row then Some 
 abbrev pub calls_mode : ℕ → List Call → Option Mode
 calls_mode x cs = if list_any (writes_on x) cs then Some Write else (if list_any (touches x) cs then Some Read else None)
 
+-- a row whose holder is one action
 abbrev pub IsSingle : Row → Type 0
 IsSingle row = (u : Uid) × (row.holder ≡ u ∷ [])
 
@@ -116,6 +124,7 @@ IsHeldBelow n row = (j : ℕ) × (j < n) × (row.holder ≡ ident j ∷ [])
 abbrev pub row_at : ℕ → Lock → Row
 row_at x lock = record { object = object x; holder = lock.holder ∷ []; tops = 1; mode = lock.mode }
 
+-- the surviving writes of an object, in serial order
 abbrev pub writes_seen : Seen → ℕ → List Call
 writes_seen s x = filter (writes_on x) (serial_seen s)
 
@@ -124,6 +133,7 @@ abbrev pub WorkingFits : Header → Seen → ℕ → Option Value → Type 0
 WorkingFits header s x None = (i : ℕ) → IsOpen s i → list_any (writes_on x) (calls_by s i) ≡ false
 WorkingFits header s x (Some w) = (i : ℕ) × IsOpen s i × (list_any (writes_on x) (calls_by s i) ≡ true) × (w ≡ run (now header s) (calls_by s i) x)
 
+-- An object in memory: its committed value, version and writer, its rows, and the value of who writes it.
 pub record ObjectStands (header : Header) (s : Seen) (event x : ℕ) (o : Obj) : Type 0 where
   pub value : o.value ≡ now header s x
   pub version : o.version ≡ count_tops (writes_seen s x)
@@ -151,6 +161,7 @@ pub record Up (header : Header) (accepted : List Asked) (s : Seen) (m : Machine)
   pub uncommitted : (i : ℕ) → IsOpen s i → has_end s.committed i ≡ false
   pub objects : (x : ℕ) (o : Obj) → m.object x ≡ Some o → ObjectStands header s m.event x o
 
+-- Memory and journal agree: nodes, objects, actions, calls, locks.
 pub record Keeps (header : Header) (accepted : List Asked) (s : Seen) (m : Machine) : Type 0 where
   pub nodes : header.nodes ≡ 1
   pub lines : AllByRecursion LineInForm header.objects
@@ -184,12 +195,15 @@ surviving_seen s i = survivors s.committed (calls_by s i)
 abbrev pub last_seen : Header → Seen → ℕ → ObjectState
 last_seen header s x = state_after x (now header s x) (writes_seen s x)
 
+-- the state that an object would have after these further calls
 abbrev pub next_with : Header → Seen → List Call → ℕ → ObjectState
 next_with header s cs x = state_after x (run (now header s) cs x) (writes_seen s x ++ filter (writes_on x) cs)
 
+-- the state that an action would commit
 abbrev pub next_made : Header → Seen → ℕ → ℕ → ObjectState
 next_made header s i x = next_with header s (calls_by s i) x
 
+-- the state by those of its calls that survive
 abbrev pub next_seen : Header → Seen → ℕ → ℕ → ObjectState
 next_seen header s i x = next_with header s (surviving_seen s i) x
 

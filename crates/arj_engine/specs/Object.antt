@@ -30,12 +30,15 @@ pub record Obj : Type 0 where
   pub working : Option Value
   pub rows : List Row
 
+-- an object without where it lies in memory
 abbrev pub view : Object → Obj
 view o = record { value = o.value; version = o.version; writer = o.writer; working = o.working; rows = o.rows.items }
 
+-- so of all objects
 abbrev pub views : List (Option Object) → List (Option Obj)
 views os = map (λ o. option_map view o) os
 
+-- an object that is there, as it is
 abbrev pub itself : Option Obj → Option Obj
 itself o = o
 
@@ -68,9 +71,11 @@ current o = unwrap_or o.working o.value
 abbrev pub applied : Op → Mode → Obj → Obj
 applied op mode o = if is_write mode then record o { working = Some (value_after op (current o)) } else o
 
+-- an operation for an action that asks the lock
 abbrev pub called : Uid → Mode → Op → Obj → Obj
 called action mode op o = applied op mode (record o { rows = granted action mode o.rows })
 
+-- the action's value is the committed one now, where it has one
 abbrev pub with_committed : Uid → Obj → Option Value → Obj
 with_committed action o None = o
 with_committed action o (Some value) = record o { value = value; version = o.version + 1; writer = action; working = None }
@@ -81,6 +86,7 @@ ended_by commit action o =
     let rows = released action o.rows in
     if has_write action o.rows then (if commit then record (with_committed action o o.working) { rows = rows } else record o { working = None; rows = rows }) else record o { rows = rows }
 
+-- the end of an action at an object that it used
 abbrev pub end_at : Bool → Uid → List (Option Obj) → ℕ → List (Option Obj)
 end_at commit action os x = slice_set os x (option_map (ended_by commit action) (object_in os x))
 
@@ -93,6 +99,7 @@ end_from commit action os (x ∷ xs) = end_from commit action (end_at commit act
 abbrev pub state_with : Uid → ℕ → Obj → Value → ObjectState
 state_with action x o value = record { uid = object x; class = class_of value; version = o.version + 1; writer = action; payload = payload_of value }
 
+-- the state that the action's commit puts of an object, if it changed it
 abbrev pub new_state : Uid → ℕ → Obj → Option ObjectState
 new_state action x o = if has_write action o.rows then option_map (state_with action x o) o.working else None
 
@@ -122,6 +129,7 @@ first_object o = record { value = o.value; version = 0; writer = nobody; working
 abbrev pub new_state_in : Uid → List (Option Obj) → ℕ → Option ObjectState
 new_state_in action os x = option_and_then (new_state action x) (object_in os x)
 
+-- the new state, where there is one, in place of what was found
 abbrev pub put_over : Option ObjectState → Option (List ℕ) → Option (List ℕ)
 put_over None found = found
 put_over (Some s) found = Some (state_bytes s)
@@ -147,6 +155,7 @@ abbrev pub PutsSomeStates : Uid → List (Option Obj) → List ℕ → FileMap �
 PutsSomeStates action os used old new =
     (x : ℕ) → (object_held new x ≡ object_held old x) ⊎ ((is_among used x ≡ true) × (s : ObjectState) × (new_state_in action os x ≡ Some s) × (object_held new x ≡ Some (state_bytes s)))
 
+-- the state of an object that is there, in place of what was found
 abbrev pub put_first : ℕ → Option Obj → Option (List ℕ) → Option (List ℕ)
 put_first x None found = found
 put_first x (Some o) found = Some (state_bytes (old_state x o))

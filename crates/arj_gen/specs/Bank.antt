@@ -11,6 +11,7 @@ use Rattle.arj_journal.specs.ScriptText.{nodes_text, object_text}
 abbrev pub next_state : ℕ → ℕ
 next_state s = (s * 6364136223846793005 + 1442695040888963407) % 18446744073709551616
 
+-- what a draw gives
 abbrev pub drawn : ℕ → ℕ
 drawn s = next_state s / 8589934592
 
@@ -31,6 +32,7 @@ transfer_by first second third fourth = record {
   amount = 1 + fourth % 5;
 }
 
+-- the transfer that is drawn from this state
 abbrev pub transfer_from : ℕ → Transfer
 transfer_from s = transfer_by (drawn s) (drawn (next_state s)) (drawn (next_state (next_state s))) (drawn (next_state (next_state (next_state s))))
 
@@ -60,6 +62,7 @@ giving i t =
     ∷ codes "settle"
     ∷ []
 
+-- the lines of a crash of node 3
 abbrev pub crash_lines : List (List ℕ)
 crash_lines = (codes "crash " ++ decimal 3) ∷ (codes "restart " ++ decimal 3) ∷ codes "settle" ∷ []
 

@@ -28,6 +28,7 @@ AreInForm file = (top : Uid) → IfSome (file (slot.Intent top)) (IsIntentOf top
 abbrev pub shown : Intent → protocol.Intent
 shown i = record { root = i.root; nodes = i.nodes }
 
+-- a record under its top
 abbrev pub entry_of : Intent → Uid × protocol.Intent
 entry_of i = (i.top, shown i)
 
@@ -35,9 +36,11 @@ entry_of i = (i.top, shown i)
 abbrev pub said : Record → protocol.Intent
 said r = record { root = r.root; nodes = r.nodes }
 
+-- the record of a top on a disk, if it has one
 abbrev pub record_at : FileMap → Uid → Option protocol.Intent
 record_at file top = option_map said (records file top)
 
+-- a record under this top
 abbrev pub under : Uid → protocol.Intent → Uid × protocol.Intent
 under top i = (top, i)
 

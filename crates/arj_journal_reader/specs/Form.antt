@@ -19,6 +19,7 @@ abbrev pub pair_text : {A B : Type 0} → (A → List ℕ) → (B → List ℕ) 
 pair_text s t p = s p.0 ++ 32 ∷ t p.1
 
 infixr 5 ◌▸◌
+-- one form, a space, and another
 abbrev pub ◌▸◌ : Form → Form → Form
 f ▸ g = record { Value = f.Value × g.Value; InForm = PairInForm f.InForm f.text g.InForm; text = pair_text f.text g.text }
 

@@ -47,60 +47,79 @@ use Rattle.arj_text.specs.Words.{end_text, hex, list_text, mode_text, op_text}
 abbrev pub node : Form
 node = record { Value = Node; InForm = λ n. NodeInForm n.number; text = λ n. decimal n.number }
 
+-- a node, or nobody
 abbrev pub sender : Form
 sender = record { Value = Sender; InForm = λ n. IsWithin 0 NODES n.number; text = λ n. decimal n.number }
 
+-- the number of a refusal
 abbrev pub refusal : Form
 refusal = record { Value = Refusal; InForm = λ n. IsWithin 1 REFUSALS n.number; text = λ n. decimal n.number }
 
+-- the number of an object
 abbrev pub object : Form
 object = record { Value = Object; InForm = λ n. ObjectInForm n.number; text = λ n. decimal n.number }
 
+-- a count or number in a word
 abbrev pub word : Form
 word = record { Value = Word; InForm = λ n. WordInForm n.number; text = λ n. decimal n.number }
 
+-- a version
 abbrev pub version : Form
 version = record { Value = Version; InForm = λ n. NumberInForm n.number; text = λ n. decimal n.number }
 
+-- a label
 abbrev pub label : Form
 label = record { Value = Label; InForm = LabelInForm; text = name }
 
+-- a label, or none
 abbrev pub parent : Form
 parent = record { Value = Parent; InForm = λ p. ParentInForm p.label; text = λ p. parent_text p.label }
 
+-- a Uid
 abbrev pub uid : Form
 uid = record { Value = Uid; InForm = UidFits; text = uid_text }
 
+-- a binding
 abbrev pub binding : Form
 binding = record { Value = Binding; InForm = BindingInForm; text = binding_text }
 
+-- bytes as digits
 abbrev pub hex_bytes : Form
 hex_bytes = record { Value = Hex; InForm = λ h. AreBytes h.bytes; text = λ h. hex h.bytes }
 
+-- a list of nodes
 abbrev pub nodes : Form
 nodes = record { Value = Nodes; InForm = λ ns. NodesInForm NODES STORES ns.list; text = λ ns. list_text ns.list }
 
+-- the kind of an action
 abbrev pub kind : Form
 kind = record { Value = Kind; InForm = λ _. ⊤; text = kind_text }
 
+-- a part of a node
 abbrev pub part : Form
 part = record { Value = Part; InForm = λ _. ⊤; text = part_text }
 
+-- the role of a store
 abbrev pub role : Form
 role = record { Value = Role; InForm = λ _. ⊤; text = role_text }
 
+-- the kind of a frame
 abbrev pub frame : Form
 frame = record { Value = FrameKind; InForm = λ _. ⊤; text = frame_text }
 
+-- the limit that was met
 abbrev pub which : Form
 which = record { Value = Which; InForm = λ _. ⊤; text = which_text }
 
+-- the mode of a lock
 abbrev pub mode : Form
 mode = record { Value = Mode; InForm = λ _. ⊤; text = mode_text }
 
+-- how an action ended
 abbrev pub ending : Form
 ending = record { Value = End; InForm = λ _. ⊤; text = end_text }
 
+-- yes or no
 abbrev pub yes_no : Form
 yes_no = record { Value = Bool; InForm = λ _. ⊤; text = yes_text }
 

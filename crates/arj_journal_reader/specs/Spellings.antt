@@ -28,6 +28,7 @@ use Rattle.arj_text.specs.Words.{mode_text, end_text}
 abbrev pub IsKnown : {K : Type 0} → (K → List ℕ) → List K → Type 0
 IsKnown {K} word every = (k : K) → find (λ j. bytes_eq (word j) (word k)) every ≡ Some k
 
+-- the kinds of actions
 abbrev pub kinds : List Kind
 kinds = kind.Top ∷ kind.Nested ∷ kind.Independent ∷ kind.Serial ∷ kind.Constituent ∷ []
 
@@ -38,6 +39,7 @@ known_kinds kind.Independent = refl
 known_kinds kind.Serial = refl
 known_kinds kind.Constituent = refl
 
+-- the parts of a node
 abbrev pub parts : List Part
 parts = part.Naming ∷ part.Server ∷ []
 
@@ -45,6 +47,7 @@ pub known_parts : IsKnown part_text parts
 known_parts part.Naming = refl
 known_parts part.Server = refl
 
+-- the roles of stores
 abbrev pub roles : List Role
 roles = role.Store ∷ role.Names ∷ []
 
@@ -52,6 +55,7 @@ pub known_roles : IsKnown role_text roles
 known_roles role.Store = refl
 known_roles role.Names = refl
 
+-- the kinds of frames
 abbrev pub frame_kinds : List FrameKind
 frame_kinds = frame.Bind ∷ frame.Bound ∷ frame.Load ∷ frame.Loaded ∷ frame.Activate ∷ frame.Activated ∷ frame.Record ∷ frame.Recorded ∷ frame.Invoke ∷ frame.Invoked ∷ frame.Vote ∷ frame.Voted ∷ frame.Prepare ∷ frame.Prepared ∷ frame.Confirm ∷ frame.Confirmed ∷ frame.Told ∷ frame.Acked ∷ frame.Query ∷ frame.Hello ∷ frame.Junk ∷ []
 
@@ -78,6 +82,7 @@ known_frame_kinds frame.Query = refl
 known_frame_kinds frame.Hello = refl
 known_frame_kinds frame.Junk = refl
 
+-- the limits of a run
 abbrev pub limits : List Which
 limits = which.Lines ∷ which.Labels ∷ which.Frames ∷ []
 
@@ -86,6 +91,7 @@ known_limits which.Lines = refl
 known_limits which.Labels = refl
 known_limits which.Frames = refl
 
+-- the causes of an abort
 abbrev pub cause_kinds : List CauseKind
 cause_kinds = cause.Asked ∷ cause.Doomed ∷ cause.Lost ∷ cause.Conflict ∷ cause.Changed ∷ cause.Old ∷ cause.NoStores ∷ cause.Listed ∷ []
 
@@ -99,6 +105,7 @@ known_cause_kinds cause.Old = refl
 known_cause_kinds cause.NoStores = refl
 known_cause_kinds cause.Listed = refl
 
+-- what may differ
 abbrev pub difference_kinds : List DifferenceKind
 difference_kinds = difference.Inc ∷ difference.Bind ∷ []
 
@@ -106,6 +113,7 @@ pub known_difference_kinds : IsKnown difference_word difference_kinds
 known_difference_kinds difference.Inc = refl
 known_difference_kinds difference.Bind = refl
 
+-- the modes of locks
 abbrev pub modes : List Mode
 modes = mode.Read ∷ mode.Exclude ∷ mode.Write ∷ []
 
@@ -114,6 +122,7 @@ known_modes mode.Read = refl
 known_modes mode.Exclude = refl
 known_modes mode.Write = refl
 
+-- how actions end
 abbrev pub ends : List End
 ends = ending.Abort ∷ ending.Commit ∷ []
 
@@ -121,6 +130,7 @@ pub known_ends : IsKnown end_text ends
 known_ends ending.Abort = refl
 known_ends ending.Commit = refl
 
+-- the kinds of lines
 abbrev pub line_kinds : List LineKind
 line_kinds = line.Began ∷ line.Ok ∷ line.Includes ∷ line.Conflict ∷ line.Lost ∷ line.Changed ∷ line.Committing ∷ line.Committed ∷ line.Ended ∷ line.Aborted ∷ line.GaveUp ∷ line.Excluded ∷ line.Granted ∷ line.Lowered ∷ line.Bound ∷ line.Active ∷ line.Told ∷ line.Prepared ∷ line.Done ∷ line.Sent ∷ line.Got ∷ line.Void ∷ line.Dropped ∷ line.Halted ∷ line.Up ∷ line.Armed ∷ line.Recovered ∷ line.Refused ∷ line.Entry ∷ line.Copy ∷ line.Quiet ∷ line.Bad ∷ line.Limit ∷ []
 

@@ -43,6 +43,7 @@ abbrev pub takes_some : (ℕ → Bool) → Option ℕ → Bool
 takes_some nodes None = false
 takes_some nodes (Some n) = nodes n
 
+-- an item runs today: a part of the header, or an event
 abbrev pub takes_item : (ℕ → Bool) → (Event → Bool) → Item → Option ℕ → Bool
 takes_item nodes events item.Part count = takes_some nodes count
 takes_item nodes events (item.Event e) count = events e

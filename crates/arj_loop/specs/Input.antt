@@ -14,6 +14,7 @@ pub record SourceView : Type 0 where
   pub left : Option (List ℕ)
   pub faults : ℕ
 
+-- what a source tells, of these
 abbrev pub source_view : Option (List ℕ) → ℕ → SourceView
 source_view left faults = record { left = left; faults = faults }
 
@@ -23,6 +24,7 @@ pub record Arrived : Type 0 where
   pub earlier : List ℕ
   pub stopped : Stopped
 
+-- what came, of these
 abbrev pub arrived : List ℕ → List ℕ → Stopped → Arrived
 arrived came earlier stopped = record { came = came; earlier = earlier; stopped = stopped }
 
@@ -70,6 +72,7 @@ pub record Script : Type 0 where
   pub stopped : Stopped
   pub lines : List (List ℕ)
 
+-- a script, of these
 abbrev pub script : Stopped → List (List ℕ) → Script
 script stopped lines = record { stopped = stopped; lines = lines }
 

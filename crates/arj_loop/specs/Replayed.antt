@@ -18,6 +18,7 @@ pub record Outside (D : Type 0) : Type 0 where
   pub taken : Option (List ℕ)
   pub rack : List D
 
+-- what is outside of a run, of these
 abbrev pub outside : {D : Type 0} → Option (List ℕ) → ℕ → Option (List ℕ) → List D → Outside D
 outside left faults taken rack = record { left = left; faults = faults; taken = taken; rack = rack }
 
@@ -27,6 +28,7 @@ pub record Answer : Type 0 where
   pub why : Option BadLine
   pub journal : List Line
 
+-- an answer, of these
 abbrev pub answer : ℕ → Option BadLine → List Line → Answer
 answer status why journal = record { status = status; why = why; journal = journal }
 

@@ -32,6 +32,7 @@ abbrev pub Chain : {A : Type 0} → (A → A → Type 0) → A → List A → A 
 Chain R a [] c = a ≡ c
 Chain R a (b ∷ bs) c = R a b × Chain R b bs c
 
+-- there were such calls
 abbrev pub Moved : {D M : Type 0} → Ghosts M D → List D → List D → Type 0
 Moved {D} m before after = (via : List (List D)) × Chain m.moved before via after
 
@@ -48,6 +49,7 @@ pub record Hand (M : Type 0) : Type 0 where
   pub count : ℕ
   pub journal : List Line
 
+-- what a run has at hand, of these
 abbrev pub hand : {M : Type 0} → Option M → ℕ → List Line → Hand M
 hand machine count journal = record { machine = machine; count = count; journal = journal }
 
@@ -78,6 +80,7 @@ pub record Held (D M : Type 0) : Type 0 where
   pub machine : Option M
   pub journal : List Line
 
+-- one moment of a run, of these
 abbrev pub held_by : {D M : Type 0} → List D → Option M → List Line → Held D M
 held_by rack machine journal = record { rack = rack; machine = machine; journal = journal }
 
@@ -184,10 +187,12 @@ last_body ending.Lines count = Some (body.Limit which.Lines)
 last_body ending.Labels count = Some (body.Limit which.Labels)
 last_body _ count = None
 
+-- the line that an end writes, if it writes one
 abbrev pub last_lines : Option Body → ℕ → List Line
 last_lines None event = []
 last_lines (Some b) event = record { event = event; body = b } ∷ []
 
+-- the status of an end
 abbrev pub status_of : End → ℕ
 status_of ending.Whole = 0
 status_of (ending.Bad w) = 2
@@ -216,6 +221,7 @@ pub record Work (D M : Type 0) : Type 0 where
   pub journal : List Line
   pub taken : Option (List ℕ)
 
+-- what a run has in its hands, of these
 abbrev pub work : {D M : Type 0} → List D → Session M → List Line → Option (List ℕ) → Work D M
 work rack session journal taken = record { rack = rack; session = session; journal = journal; taken = taken }
 

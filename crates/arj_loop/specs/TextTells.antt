@@ -6,6 +6,7 @@ use Rattle.arj_journal.specs.declared.event.Event.{Event}
 use Rattle.arj_script.specs.declared.reader.Item.{Item}
 use Rattle.arj_script.specs.declared.reader.Item.TheVariants as item
 
+-- two events with one text are taken both or neither
 abbrev pub TextTells : (Event → Bool) → Item → Type 0
 TextTells takes (item.Event e) = (other : Event) → EventInForm e → EventInForm other → event_text e ≡ event_text other → takes e ≡ takes other
 TextTells takes _ = ⊤

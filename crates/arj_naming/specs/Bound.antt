@@ -14,6 +14,7 @@ abbrev pub live_in : Option Named → Option Live
 live_in None = None
 live_in (Some o) = o.live
 
+-- the live binding of the object of this number
 abbrev pub live_at : ℕ → List (ℕ × Named) → Option Live
 live_at x objects = live_in (at_number x objects)
 

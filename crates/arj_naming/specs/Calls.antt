@@ -21,12 +21,15 @@ use Rattle.arj_protocol.specs.Confirm as protocol
 use Rattle.arj_protocol.specs.Effect.{Pair, Served, Did, did_nothing}
 use Rattle.arj_protocol.specs.Naming.{Naming, bind, note, told}
 
+-- a Bind, as the protocol's call
 abbrev pub bind_by : Bind → Pair → Naming → Served Naming BoundReply
 bind_by m d n = bind m.head.path m.x m.include m.avoid d n
 
+-- a Record
 abbrev pub note_by : RecordMsg → Naming → Served Naming RecordedReply
 note_by m n = note m.head.path m.x m.binding m.server_inc m.naming_inc n
 
+-- a Confirm
 abbrev pub confirm_by : Confirm → Pair → Naming → Served Naming ConfirmedReply
 confirm_by m d n = protocol.confirm m.head.path m.objects m.excluded m.included d n
 
@@ -35,6 +38,7 @@ abbrev pub told_last : Option (Uid × End) → Pair → Naming → Did Naming
 told_last None d n = did_nothing n
 told_last (Some e) d n = told e.0 e.1 d n
 
+-- so of a told
 abbrev pub told_by : Told → Pair → Naming → Did Naming
 told_by m d n = told_last (last_end m.ends) d n
 
@@ -53,8 +57,10 @@ pub record IsSingle (m : Confirm) : Type 0 where
 abbrev pub bound_to : Head → BoundReply → Bound
 bound_to h r = record { asked = asked_by h; reply = r }
 
+-- the answer to a Record
 abbrev pub recorded_to : Head → RecordedReply → Recorded
 recorded_to h r = record { asked = asked_by h; reply = r }
 
+-- the answer to a Confirm
 abbrev pub confirmed_to : Head → ConfirmedReply → Confirmed
 confirmed_to h r = record { asked = asked_by h; reply = r }

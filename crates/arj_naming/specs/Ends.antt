@@ -16,6 +16,7 @@ orphans_by u None d n = []
 orphans_by u (Some ending.Commit) d n = []
 orphans_by u (Some ending.Abort) d n = orphans u d n
 
+-- so of all these actions
 abbrev pub abort_all : List Uid → List Effect
 abort_all us = flat_map (λ act. end_entries act ending.Abort) us
 

@@ -10,6 +10,7 @@ use Rattle.arj_protocol.specs.Effect.{Served}
 use Rattle.arj_protocol.specs.Named as protocol
 use Rattle.arj_protocol.specs.Named.{Named, Counted, end_named, hello_named}
 
+-- a live binding in memory, as the protocol has it
 abbrev pub live_of : Live → protocol.Live
 live_of l = record { binding = l.binding; server = l.server; inc = l.inc }
 

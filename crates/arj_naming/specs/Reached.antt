@@ -6,6 +6,7 @@ use Rattle.arj_protocol.specs.Effect.{Pair, Served}
 use Rattle.arj_protocol.specs.Naming.{Naming}
 use Rattle.arj_protocol.specs.Words.{Uid, ConfirmedReply}
 
+-- it is answered, or its entries are ready to be prepared
 abbrev pub IsReached : Served Naming ConfirmedReply → Uid → Pair → Reached → Ready → Type 0
 IsReached r top d reached (ready.Answer answer) = IsAnswered r reached answer
 IsReached r top d reached (ready.Prepare states) = IsReady r top d reached states

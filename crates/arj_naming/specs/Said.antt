@@ -23,6 +23,7 @@ names_disk d = record { inc = 0; store = record { held = []; pend = [] }; names 
 abbrev pub pair_worked : Work → Pair → Pair
 pair_worked w d = let disk = worked w (names_disk d) in disk.names
 
+-- the pair of entries after effects in order
 abbrev pub pair_after : List Effect → Pair → Pair
 pair_after [] d = d
 pair_after (Do w ∷ es) d = pair_after es (pair_worked w d)

@@ -39,6 +39,7 @@ pub record IsApart (u : Uid) (o : Named) : Type 0 where
 abbrev pub looks_apart : Uid → Named → Bool
 looks_apart u o = not (uid_eq u nobody) && (is_none (at_uid u o.made) && (not (is_on o.asked u) && not (holds u o.rows)))
 
+-- so it is of an object that naming has
 abbrev pub looks_apart_in : Uid → Option Named → Bool
 looks_apart_in u None = true
 looks_apart_in u (Some o) = looks_apart u o

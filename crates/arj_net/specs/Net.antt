@@ -33,6 +33,7 @@ new_frame frame = record { frame = frame; delivered = false; lost = false }
 abbrev pub as_delivered : Sent → Sent
 as_delivered s = record { frame = s.frame; delivered = true; lost = s.lost }
 
+-- a frame that is lost
 abbrev pub as_lost : Sent → Sent
 as_lost s = record { frame = s.frame; delivered = s.delivered; lost = true }
 

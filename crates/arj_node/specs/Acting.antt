@@ -14,6 +14,7 @@ use Rattle.arj_protocol.specs.Words.{Class, Header}
 
 -- ---- inputs about an action
 
+-- an input about an action, as the protocol's
 abbrev pub asked_of : Act → Input
 asked_of (of.Begin l k parent) = Begin l k parent
 asked_of (of.Call l x op) = Call l x op
@@ -32,6 +33,7 @@ IsClass header _ c = ⊤
 abbrev pub why_at : Header → Act → Here → Option ℕ
 why_at header act h = refusal_up header (asked_of act) h.parts.coord
 
+-- what the coordinator does at it
 abbrev pub acts_at : Act → Here → Did Coord
 acts_at act h = acts (asked_of act) h.disk.intents h.parts.coord
 
@@ -51,15 +53,18 @@ pub record IsDone (on : Here → Type 0) (h : Here) (why : Option ℕ) (did : Di
   pub free : why ≡ None
   pub does : Does on (with_coord h.parts did.part) did.outs h.disk outs.before outs.after
 
+-- it was done, or refused for this cause
 abbrev pub IsActed : (Here → Type 0) → Here → Option ℕ → Did Coord → Handed → Option ℕ → Type 0
 IsActed on h why did outs None = IsDone on h why did outs
 IsActed on h why did outs (Some cause) = IsRefused on h why outs cause
 
 -- ---- a tick
 
+-- the requests that wait, again
 abbrev pub again_at : Here → Did Coord
 again_at h = again_all h.parts.coord.doings h.parts.coord
 
+-- what a tick sends
 abbrev pub tick_outs : Here → List Effect
 tick_outs h = (again_at h).outs ++ tolds_again h.parts.coord.telling ++ map query_about (holders h.disk h.parts)
 
@@ -80,5 +85,6 @@ first_here header n = record { disk = first_disk header n; parts = parts_in n 1 
 abbrev pub parts_again : ℕ → Disk → Parts
 parts_again n d = parts_in n (d.inc + 1) d
 
+-- what a node does until it is up again over this disk
 abbrev pub outs_again : Header → ℕ → Disk → List Effect
 outs_again header n d = restart_outs header n (d.inc + 1) d

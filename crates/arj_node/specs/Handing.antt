@@ -27,10 +27,12 @@ pub record Leaves (on : Here → Type 0) (h : Here) (handled : Handled) (before 
   pub stands : on h
   pub outs : after ≡ before
 
+-- a message was taken, or was void
 abbrev pub IsTaken : (Here → Type 0) → Here → Handled → List Outgoing → List Outgoing → Bool → Type 0
 IsTaken on h handled before after true = Takes on h handled before after
 IsTaken on h handled before after false = Leaves on h handled before after
 
+-- what handling a message put out, void or not
 abbrev pub outs_of : Handled → List Effect
 outs_of (Void outs) = outs
 outs_of (Took t outs) = outs

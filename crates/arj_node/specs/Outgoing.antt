@@ -7,10 +7,12 @@ use Rattle.arj_node.specs.declared.outgoing.Outgoing.{Outgoing}
 use Rattle.arj_node.specs.declared.outgoing.Outgoing.TheVariants as of
 use Rattle.arj_protocol.specs.Effect.{Disk, Effect, Say, Send, Do}
 
+-- a line or a message, as an effect
 abbrev pub effect_of : Outgoing → Effect
 effect_of (of.Say b) = Say b
 effect_of (of.Send to m) = Send to m
 
+-- so of all in order
 abbrev pub effects_of : List Outgoing → List Effect
 effects_of outs = map effect_of outs
 
@@ -30,6 +32,7 @@ abbrev pub IsSpelled : Outgoing → Type 0
 IsSpelled (of.Say b) = ⊤
 IsSpelled (of.Send to m) = IsSendable m
 
+-- so it is of all messages
 abbrev pub AreSpelled : List Outgoing → Type 0
 AreSpelled outs = AllByRecursion IsSpelled outs
 

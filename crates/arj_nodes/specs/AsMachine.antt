@@ -8,6 +8,7 @@ use Rattle.arj_nodes.specs.declared.all_nodes.AllNodes.{AllNodes}
 use Rattle.arj_world.specs.Disks.{HasStopped, HaveMoved}
 use Rattle.arj_world.specs.Stands.{hand}
 
+-- all nodes, as the loop asks of a machine
 abbrev pub all_nodes : {C D : Type 0} → core.Ghosts C → disk.Ghosts D → machine.Ghosts (AllNodes C) D
 all_nodes c d = record {
   takes_nodes = any_count;

@@ -3,9 +3,11 @@ use Rattle.std.specs.Prelude.{ℕ, Bool, true, false}
 use Rattle.arj_journal.specs.declared.event.Event.{Event}
 use Rattle.arj_journal.specs.declared.event.Event.TheVariants as event
 
+-- every count of nodes runs
 abbrev pub any_count : ℕ → Bool
 any_count count = true
 
+-- every event runs but junk
 abbrev pub is_built_event : Event → Bool
 is_built_event (event.Junk node bytes) = false
 is_built_event _ = true

@@ -7,5 +7,6 @@ use Rattle.arj_protocol.specs.Effect.{Effect, Say}
 abbrev pub say_of : Line → Effect
 say_of line = Say line.body
 
+-- so of all lines
 abbrev pub says_of : List Line → List Effect
 says_of lines = map say_of lines

@@ -19,6 +19,7 @@ is_state_work named (Abort r act) = is_kept named r
 is_state_work named (PutIntent top i) = false
 is_state_work named (RemoveIntent top) = false
 
+-- so it is of an effect
 abbrev pub is_state_effect : Bool → Effect → Bool
 is_state_effect named (Say b) = true
 is_state_effect named (Send to m) = true

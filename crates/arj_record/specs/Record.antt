@@ -8,6 +8,7 @@ use Rattle.arj_record.specs.declared.record.Record.{Record}
 use Rattle.arj_record.specs.declared.record.Record.TheVariants.{Recovery, Lock, Persistence}
 use Rattle.arj_record.specs.Scene.{Call, restore, pass, release, raise}
 
+-- the object of a record
 abbrev pub object_of : {V : Type 0} → Record V → Uid
 object_of (Recovery x before) = x
 object_of (Lock x mode) = x
@@ -15,15 +16,19 @@ object_of (Persistence x) = x
 
 -- The numbers of the kinds. Records end in increasing order of them: images first, then locks, then changed objects.
 
+-- records of images end first
 abbrev pub recovery_order : ℕ
 recovery_order = 1
 
+-- records of locks end next
 abbrev pub lock_order : ℕ
 lock_order = 2
 
+-- records of changed objects end last
 abbrev pub persistence_order : ℕ
 persistence_order = 3
 
+-- the number of a record's kind
 abbrev pub order_of : {V : Type 0} → Record V → ℕ
 order_of (Recovery x before) = recovery_order
 order_of (Lock x mode) = lock_order
@@ -42,6 +47,7 @@ abbrev pub joined : {V : Type 0} → Record V → Record V → Record V
 joined (Lock x mode) (Lock y other) = Lock x (stronger mode other)
 joined older younger = older
 
+-- a record of a lock
 abbrev pub is_lock : {V : Type 0} → Record V → Bool
 is_lock (Lock x mode) = true
 is_lock r = false

@@ -44,6 +44,7 @@ combined None younger = younger
 combined (Some older) None = Some older
 combined (Some older) (Some younger) = Some (joined older younger)
 
+-- an older record with a younger one, if there is one
 abbrev pub joined_with : {V : Type 0} → Record V → Option (Record V) → Record V
 joined_with older None = older
 joined_with older (Some younger) = joined older younger
@@ -67,6 +68,7 @@ abbrev pub IsArranged : {V : Type 0} → List (Record V) → Type 0
 IsArranged [] = Unit {0}
 IsArranged (r ∷ rs) = AllByRecursion (Precedes r) rs × IsArranged rs
 
+-- some record is of a lock
 abbrev pub has_locks : {V : Type 0} → List (Record V) → Bool
 has_locks rs = list_any is_lock rs
 
@@ -122,6 +124,7 @@ passed [] = []
 passed (pass action ∷ calls) = action ∷ passed calls
 passed (call ∷ calls) = passed calls
 
+-- the actions whose locks calls release, in order
 abbrev pub released : {V : Type 0} → List (Call V) → List Uid
 released [] = []
 released (release action ∷ calls) = action ∷ released calls

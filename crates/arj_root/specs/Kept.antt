@@ -18,11 +18,13 @@ pub record JoinFits (j : Joined) : Type 0 where
   pub node : IsNode j.store
   pub own : HasNumber j.x j.loaded
 
+-- so it is of all includes
 abbrev pub AreJoins : List Joined → Type 0
 AreJoins joined = AllByRecursion JoinFits joined
 
 -- ---- keepings
 
+-- what a root keeps, by object
 abbrev pub Keepings : Type 0
 Keepings = List (ℕ × Keeping)
 
@@ -51,6 +53,7 @@ changed_at f (x ∷ xs) m = changed_at f xs (put_number x (f x (keeping_in x m))
 
 -- ---- states
 
+-- the states that a root keeps, by object
 abbrev pub States : Type 0
 States = List (ℕ × ObjectState)
 

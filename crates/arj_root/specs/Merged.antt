@@ -9,6 +9,7 @@ use Rattle.arj_protocol.specs.Words.{Uid, last_uid, uid_eq}
 abbrev pub of_joins : List Joined → Root
 of_joins joined = record no_root { joined = joined }
 
+-- a root with these grants alone
 abbrev pub of_grants : List Grant → Root
 of_grants grants = record no_root { grants = grants }
 
@@ -45,6 +46,7 @@ later_of (Some s) t = later_state s t
 abbrev pub of_work : List Said → List Joined → Root
 of_work said joined = record no_root { said = said; joined = joined }
 
+-- a root with these calls, includes and grants
 abbrev pub of_parts : List Said → List Joined → List Grant → Root
 of_parts said joined grants = record no_root { said = said; joined = joined; grants = grants }
 
@@ -58,6 +60,7 @@ abbrev pub least_with : ℕ → Option ℕ → ℕ
 least_with n None = n
 least_with n (Some m) = min n m
 
+-- the least of these numbers, if there is one
 abbrev pub least_in : List ℕ → Option ℕ
 least_in [] = None
 least_in (n ∷ ns) = Some (least_with n (least_in ns))

@@ -13,9 +13,11 @@ of_tree t = record (new_coord t.node t.inc) { tree = t }
 abbrev pub of_calls : List Said → Root
 of_calls said = record no_root { said = said }
 
+-- a root with these sends alone
 abbrev pub of_sends : List Went → Root
 of_sends went = record no_root { went = went }
 
+-- paths, by a number
 abbrev pub Index : Type 0
 Index = List (ℕ × List (List Uid))
 
@@ -32,9 +34,11 @@ abbrev pub paths_by : {A : Type 0} → (A → Bool) → (A → List Uid) → Lis
 paths_by on path [] = []
 paths_by on path (a ∷ rest) = if on a then path a ∷ paths_by on path rest else paths_by on path rest
 
+-- a call on this object
 abbrev pub is_call_on : ℕ → Said → Bool
 is_call_on x s = s.x == x
 
+-- a send to this node, of an Invoke or not
 abbrev pub is_send_to : Bool → ℕ → Went → Bool
 is_send_to invoke n w = (w.node == n) && same_flag w.invoke invoke
 

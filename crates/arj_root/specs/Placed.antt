@@ -6,6 +6,7 @@ use Rattle.arj_protocol.specs.Coord.{Grant}
 use Rattle.arj_protocol.specs.Order.{at_number, put_number}
 use Rattle.arj_protocol.specs.Words.{Uid, Binding, uid_eq}
 
+-- by object the tops that were granted its lock, each with its place
 abbrev pub Places : Type 0
 Places = List (ℕ × List (Uid × ℕ))
 

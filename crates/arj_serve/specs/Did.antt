@@ -48,6 +48,7 @@ disk_after (Do w ∷ es) d = disk_after es (worked w d)
 disk_after (Say b ∷ es) d = disk_after es d
 disk_after (Send to m ∷ es) d = disk_after es d
 
+-- what handling a message put out, void or not
 abbrev pub outs_of : Handled → List Effect
 outs_of (Void outs) = outs
 outs_of (Took t outs) = outs

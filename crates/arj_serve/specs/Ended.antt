@@ -27,6 +27,7 @@ use Rattle.arj_store.specs.declared.store.ObjectStore.{Ghosts}
 
 -- ---- a Prepare
 
+-- the answer to a Prepare
 abbrev pub prepared_to : Head → PreparedReply → Prepared
 prepared_to h r = record { asked = asked_by h; reply = r }
 
@@ -69,6 +70,7 @@ EndsInPart o act end call = (d : Disk) → StandsOn o call.old call.file d → I
 abbrev pub EndsAll : {O : Type 0} → Ghosts O → Uid → End → Call O → Type 0
 EndsAll o act end call = (d : Disk) → StandsOn o call.old call.file d → IsDone o (end_states call.old.number act end) call d
 
+-- so far as a stop let it
 abbrev pub EndsAllInPart : {O : Type 0} → Ghosts O → Uid → End → Call O → Type 0
 EndsAllInPart o act end call = (d : Disk) → StandsOn o call.old call.file d → IsCut o (end_states call.old.number act end) call d
 
@@ -84,9 +86,11 @@ pub record NamesEnd {O : Type 0} (o : Ghosts O) (m : Told) (call : Call O) (d : 
   pub part : option_map part_of call.new.naming ≡ (names_told m d.names (option_map part_of call.old.naming)).part
   pub done : IsDone o (names_told m d.names (option_map part_of call.old.naming)).outs call d
 
+-- so it is over each disk that the files stand for
 abbrev pub EndsNames : {O : Type 0} → Ghosts O → Told → Call O → Type 0
 EndsNames o m call = (d : Disk) → StandsOn o call.old call.file d → NamesEnd o m call d
 
+-- so far as a stop let it
 abbrev pub EndsNamesInPart : {O : Type 0} → Ghosts O → Told → Call O → Type 0
 EndsNamesInPart o m call = (d : Disk) → StandsOn o call.old call.file d → IsCut o (names_told m d.names (option_map part_of call.old.naming)).outs call d
 
@@ -107,8 +111,10 @@ pub record PartsEnd {O : Type 0} (o : Ghosts O) (m : Told) (act : Uid) (end : En
   pub naming : option_map part_of call.new.naming ≡ (names_told m d.names (option_map part_of call.old.naming)).part
   pub done : IsDone o (told_effects m act end call d) call d
 
+-- so it is over each disk that the files stand for
 abbrev pub EndsParts : {O : Type 0} → Ghosts O → Told → Uid → End → Call O → Type 0
 EndsParts o m act end call = (d : Disk) → StandsOn o call.old call.file d → PartsEnd o m act end call d
 
+-- so far as a stop let it
 abbrev pub EndsPartsInPart : {O : Type 0} → Ghosts O → Told → Uid → End → Call O → Type 0
 EndsPartsInPart o m act end call = (d : Disk) → StandsOn o call.old call.file d → IsCut o (told_effects m act end call d) call d

@@ -25,6 +25,7 @@ pub record Kept (O : Type 0) : Type 0 where
   pub naming : Option (naming.Kept O)
   pub store : O
 
+-- naming's part
 abbrev pub part_of : {O : Type 0} → naming.Kept O → Naming
 part_of n = n.part
 

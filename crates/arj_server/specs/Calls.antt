@@ -21,12 +21,15 @@ use Rattle.arj_protocol.specs.Server.{Server, Kept}
 abbrev pub activated : ℕ → Activate → Server → Served Server ℕ
 activated n m s = server.activate n m.head.path m.binding m.state s
 
+-- an Invoke as the call that it is
 abbrev pub invoked : ℕ → Invoke → Server → Served Server InvokedReply
 invoked n m s = server.invoke n m.head m.x m.binding m.server_inc m.ends m.op s
 
+-- a Vote
 abbrev pub voted : ℕ → Vote → Server → Served Server VotedReply
 voted n m s = server.vote n m.head.path m.server_inc m.objects m.ends s
 
+-- a told
 abbrev pub told : ℕ → Told → Server → Did Server
 told n m s = server.told n m.ends s
 
@@ -34,9 +37,11 @@ told n m s = server.told n m.ends s
 abbrev pub activated_by : Head → ℕ → Activated
 activated_by h inc = record { asked = asked_by h; server_inc = inc }
 
+-- the answer to an Invoke
 abbrev pub invoked_by : Head → InvokedReply → Invoked
 invoked_by h r = record { asked = asked_by h; reply = r }
 
+-- the answer to a Vote
 abbrev pub voted_by : Head → VotedReply → Voted
 voted_by h r = record { asked = asked_by h; reply = r }
 
@@ -49,5 +54,6 @@ abbrev pub same_request : ℕ → Option Kept → Option InvokedReply
 same_request req None = None
 same_request req (Some k) = if k.req == req then Some k.answer else None
 
+-- the answer that was kept for this request, if there is one
 abbrev pub answer_kept : Head → Server → Option InvokedReply
 answer_kept h s = same_request h.req (at_uid (actor h.path) s.kept)

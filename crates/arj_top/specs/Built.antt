@@ -6,6 +6,7 @@ use Rattle.arj_loop.specs.Built.{HasFormOf, HaveFormsOf, IsBadOf, IsBadWhy, take
 use Rattle.arj_loop.specs.declared.ending.BadLine.{BadLine}
 use Rattle.arj_script.specs.Grammar.{Form, Place}
 
+-- four kinds of event run
 abbrev pub is_built_event : Event → Bool
 is_built_event (event.Begin l n) = true
 is_built_event (event.Call l x op) = true
@@ -13,9 +14,11 @@ is_built_event (event.Commit l) = true
 is_built_event (event.Abort l) = true
 is_built_event _ = false
 
+-- one node runs
 abbrev pub is_one : ℕ → Bool
 is_one n = n == 1
 
+-- the form runs today
 abbrev pub is_built : Form → Bool
 is_built = takes is_one is_built_event
 

@@ -12,6 +12,7 @@ pub record DiskView (D : Type 0) : Type 0 where
   pub arms : D → ℕ
   pub last_arm : D → Option (ℕ × Outcome)
 
+-- what a disk tells, of these
 abbrev pub told_by : {D : Type 0} → (D → FileMap) → (D → ℕ) → (D → ℕ) → (D → Option (ℕ × Outcome)) → DiskView D
 told_by file stops arms last_arm = record { file = file; stops = stops; arms = arms; last_arm = last_arm }
 

@@ -53,8 +53,10 @@ abbrev pub begin_refusal : Kind → Option Uid → Tree → Option TreeFault
 begin_refusal k None t = None
 begin_refusal k (Some u) t = or_ended (λ b. begin_fault k b t) (branch_of u t)
 
+-- why the use of an object is refused
 abbrev pub use_refusal : Uid → ℕ → Tree → Option TreeFault
 use_refusal u x t = or_ended (λ b. use_fault x b t) (branch_of u t)
 
+-- why an end is refused
 abbrev pub end_refusal : Uid → End → Tree → Option TreeFault
 end_refusal u e t = or_ended (λ b. end_fault e u b t) (branch_of u t)

@@ -5,6 +5,7 @@ use Rattle.arj_protocol.specs.Ask.{actor}
 use Rattle.arj_protocol.specs.Tree.{Branch, is_parent}
 use Rattle.arj_protocol.specs.Words.{Uid, Path, uid_eq, uids_of, before_last, is_on}
 
+-- open actions by number
 abbrev pub Opens : Type 0
 Opens = List (ℕ × Path)
 

@@ -43,5 +43,6 @@ abbrev pub used_by : ℕ → Tree → Option Branch → Tree
 used_by x t None = t
 used_by x t (Some b) = uses_object b.path x t
 
+-- so it is of the action's root
 abbrev pub object_used : Uid → ℕ → Tree → Tree
 object_used u x t = used_by x t (branch_of u t)

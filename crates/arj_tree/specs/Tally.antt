@@ -4,6 +4,7 @@ use Rattle.arj_protocol.specs.Order.{at_number, put_number, with_number}
 use Rattle.arj_protocol.specs.Tree.{Family, no_family}
 use Rattle.arj_protocol.specs.Words.{Uid, End}
 
+-- what roots have, by number
 abbrev pub Families : Type 0
 Families = List (ℕ × Family)
 

@@ -14,6 +14,7 @@ use Rattle.arj_world.specs.Turns.{with_arms}
 abbrev pub Pick : Type 0
 Pick = ℕ → Option Arm
 
+-- the stop that will fall at a node, if any
 abbrev pub one_arm : ℕ → Option Arm → List (ℕ × Arm)
 one_arm n None = []
 one_arm n (Some a) = (n, a) ∷ []
@@ -77,6 +78,7 @@ pub record Goes (most : ℕ) (go left : World → World) (w : World) (P : World 
   pub stands : P now
   pub reaches : (run rest : World → World) (first : World) → Reaches most run first (λ v. rest (go v)) w → Reaches most run first (λ v. rest (left v)) now
 
+-- so it is of each world that the hand stands for
 abbrev pub GoesPartTo : {C D : Type 0} → Ghosts C → (D → FileMap) → (World → World) → (World → World) → Hand C D → Hand C D → Type 0
 GoesPartTo core file go left old new = (w : World) → Stands core file old w → Goes old.kept.header.nodes go left w (Stands core file new)
 
@@ -90,5 +92,6 @@ pub record Begins (most : ℕ) (go : World → World) (w : World) (P : World →
   pub stands : P now
   pub reaches : Reaches most go w (λ v. v) now
 
+-- so it is of each world that the hand stands for
 abbrev pub BeginsTo : {C D : Type 0} → Ghosts C → (D → FileMap) → (World → World) → Hand C D → Hand C D → Type 0
 BeginsTo core file go old new = (w : World) → Stands core file old w → Begins old.kept.header.nodes go w (Stands core file new)

@@ -13,6 +13,7 @@ pub record Happened (go : World → World) (w : World) (P : World → Type 0) : 
   pub falls : List (ℕ × Arm)
   pub stands : P (with_arms [] (go (with_arms falls w)))
 
+-- so it is of each world that the hand stands for
 abbrev pub HappensTo : {C D : Type 0} → Ghosts C → (D → FileMap) → (World → World) → Hand C D → Hand C D → Type 0
 HappensTo core file go old new = (w : World) → Stands core file old w → Happened go w (Stands core file new)
 
@@ -25,6 +26,7 @@ pub record Ran (e : Event) (w : World) (P : World → Type 0) : Type 0 where
   pub falls : List (ℕ × Arm)
   pub stands : P (turned (record { event = e; falls = falls }) w)
 
+-- so it is of each world that the hand stands for
 abbrev pub RunsTo : {C D : Type 0} → Ghosts C → (D → FileMap) → Event → Hand C D → Hand C D → Type 0
 RunsTo core file e old new = (w : World) → Stands core file old w → Ran e w (Stands core file new)
 
@@ -39,10 +41,12 @@ RunsOver core file e old new = (w : World) → Stands core file old w → Ran e 
 
 -- ---- an action that begins
 
+-- a line that an action began
 abbrev pub is_began : Body → Bool
 is_began (body.Began l k u p) = true
 is_began _ = false
 
+-- so it is of a line that is there
 abbrev pub says_began : Option Line → Bool
 says_began None = false
 says_began (Some l) = is_began l.body

@@ -48,6 +48,7 @@ pub record Hand (C D : Type 0) : Type 0 where
   pub disks : List D
   pub journal : List Line
 
+-- a world in hand, of these
 abbrev pub hand : {C D : Type 0} → Kept C → List D → List Line → Hand C D
 hand k disks journal = record { kept = k; disks = disks; journal = journal }
 

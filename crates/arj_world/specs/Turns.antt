@@ -14,6 +14,7 @@ pub record Turn : Type 0 where
 abbrev pub asked : Event → Asked
 asked e = record { event = e; arm = record { works = 1; how = Before } }
 
+-- the world with these stops to fall
 abbrev pub with_arms : List (ℕ × Arm) → World → World
 with_arms arms w = record w { arms = arms }
 
