@@ -8,7 +8,7 @@ use Rattle.arj_protocol.specs.Words.{Ask, Binding, End, Head, Header, ObjectStat
 use Rattle.arj_protocol.specs.Words.ask
 use Rattle.arj_protocol.specs.Ask.{Reply, actor, answers, top_of, top_path}
 use Rattle.arj_protocol.specs.Call.{At, AtActivate, AtBind, AtInvoke, AtLoad, AtNote, Goal, Include, Known, Run, Steps, ask_at, invoked_op, is_include, next_ask, node_at}
-use Rattle.arj_protocol.specs.Commit.{Confirming, Machine, Plan, Preparing, Used, Voting, ask_of, confirm_ask, included_of, left_of, plan_of, states_for, vote_ask}
+use Rattle.arj_protocol.specs.Commit.{Confirming, Machine, Preparing, Used, Voting, ask_of, confirm_ask, included_of, left_of, plan_of, states_for, vote_ask}
 use Rattle.arj_protocol.specs.Coord.{Calling, Committing, Coord, Doing, doing_of, kept_of, root_at}
 use Rattle.arj_protocol.specs.Effect.{Already, Disk, Served, prepare_answer, reply, void}
 use Rattle.arj_protocol.specs.Naming.{Naming, is_over}
@@ -35,6 +35,7 @@ use Rattle.arj_past_law.specs.Told.{ArePastIn}
 use Rattle.arj_wait_law.specs.Waits.{AnswersRest, HasStored, KnownGive, WaitsAreKnown}
 use Rattle.arj_wait_law.proofs.Known.{all_send, are_objects, class_is, copy_fits, has_each, keyed_at, loads_own, not_below, object_is, op_fits, used_is, waits_req}
 use Rattle.arj_wait_law.proofs.Replies.{activate_answers, bind_answers, confirm_answers, invoke_answers, load_answers, prepare_answers, record_answers, taken_void, vote_answers}
+use Rattle.arj_wait_law.proofs.Uncommitted.{already_written, uncommitted}
 use Rattle.arj_wait_law.proofs.Untold.{its_coord, its_up, naming_untold, server_untold}
 use Rattle.arj_lock_whole_law.specs.Called.{FitsGoal, IsOfHeader, UsesOf}
 use Rattle.arj_joint_law.specs.Forms.{UpIsSo, kind_of, so_of, stored}
@@ -318,7 +319,7 @@ module _ (hd : Header) (form : HeaderInForm hd) (j : ℕ) (d : Disk) (t : Parts)
                 its_node = eqb-true u.node (let x = at_it in let y = x.parts in y.coord.tree.node) (and_parts (u.node == (let x = at_it in let y = x.parts in y.coord.tree.node)) (u.inc == (let x = at_it in let y = x.parts in y.coord.tree.inc)) (own_of u (let x = at_it in let y = x.parts in y.coord) q (ap (doing_of u) at_it.same ∙ does))).0 ∙ up_there.node
 
                 asked : IsAskedBy (let x = at_it in let y = x.parts in y.coord) (let p = w.post in p.to) w.head w.ask
-                asked = asked_last hd W known j u c q does from at_it w.post w.head w.ask w.posted (sym (known.1.1.1.0 w.post w.head w.ask w.posted w.asking) ∙ ap (λ (v : Uid). v.node) (w.actor_is ∙ who) ∙ its_node) w.asking (w.actor_is ∙ who)
+                asked = asked_last hd W known j u c q does from at_it w.post w.head w.ask w.posted (sym (known.1.1.0.1.0 w.post w.head w.ask w.posted w.asking) ∙ ap (λ (v : Uid). v.node) (w.actor_is ∙ who) ∙ its_node) w.asking (w.actor_is ∙ who)
 
                 same : q ≡ asked.doing
                 same = same_doing hd W known j u c q does from at_it w.post w.head w.ask (w.actor_is ∙ who) asked
@@ -446,12 +447,19 @@ module _ (hd : Header) (form : HeaderInForm hd) (j : ℕ) (d : Disk) (t : Parts)
         plain w None own = tt
         plain w (Some st) own = (own.0).0 ∙ ap object own.1
 
-    commit_given : ((p : Plan) (nodes : List ℕ) → m ≡ Preparing p nodes → (w : Uid) → prepare_answer (actor p.path) (states_for n p) d.store ≢ Already w) → IsVoid (taken j d t from_it (let p = h.post in p.message)) → ⊥
-    commit_given left void_it = by m refl of_commit.0
+    -- the store has committed none of its states
+    untaken : (states : List ObjectState) (w : Uid) → prepare_answer (actor (let a = h.asks in a.head.path)) states d.store ≢ Already w
+    untaken states w is =
+        let z = already_written (actor (let a = h.asks in a.head.path)) d.store states w is in
+        uncommitted (begun hd W known j u c q does) W (good hd W known j u c q does) (past hd W known j u c q does) known.1.1.1.1 from_it at_its.node at_its.parts at_its.found at_its.live u q (ap (doing_of u) at_its.same ∙ does)
+        (let a = h.asks in a.head.path) by_its asking_commit j here (node_here M j here) z.0 z.1 z.2 (z.3 ∙ by_its)
+
+    commit_given : IsVoid (taken j d t from_it (let p = h.post in p.message)) → ⊥
+    commit_given void_it = by m refl of_commit.0
       where
         by : (x : Machine) → m ≡ x → (let a = h.asks in a.head.path) ≡ (let p = plan_of m in p.path) → ⊥
         by (Voting p nodes) is path = vote_answers j d t from_it (let x = h.asks in x.head) _ _ p.ends (untold_server_here from_it at_its (let a = h.asks in a.head.path) asking_commit) (unserved_commit void_it (vote_ask p n) (ap (λ x. ask_of x n) is) refl)
-        by (Preparing p nodes) is path = prepare_answers j d t from_it (let x = h.asks in x.head) (states_for n p) (λ w already. left p nodes is w (ap (λ z. prepare_answer (actor z) (states_for n p) d.store) (sym (path ∙ ap (λ x. let y = plan_of x in y.path) is)) ∙ already))
+        by (Preparing p nodes) is path = prepare_answers j d t from_it (let x = h.asks in x.head) (states_for n p) (λ w already. untaken (states_for n p) w already)
             (unserved_commit void_it (ask.Prepare (states_for n p)) (ap (λ x. ask_of x n) is) (subst (λ x. are_of_objects (states_for n (plan_of x)) ≡ true) is states_meant))
         by (Confirming p) is path = let one = sym h.node ∙ only n (ap (λ x. has (left_of x) n) (sym is) ∙ waits) in let o = naming_here one in
             confirm_answers j d t from_it (let x = h.asks in x.head) (map {A = Used} {B = ℕ × ℕ} (λ z. (z.x, z.grant)) p.used) p.excluded (included_of p) o.0 o.1 (untold_naming_here from_it at_its (let a = h.asks in a.head.path) asking_commit o.0 o.1) (has_each o.0 p.used (subst (λ (x : Machine). AllByRecursion (λ (w : Used). is_some (at_number w.x (let y = o.0 in y.objects)) ≡ true) (let y = plan_of x in y.used)) is (all_each (λ (w : Used). HasObject hd w.x) (λ (w : Used). is_some (at_number w.x (let y = o.0 in y.objects)) ≡ true) (plan_of m).used (λ w has. object_here one o.0 o.1 w.x has) of_header)))
@@ -505,7 +513,7 @@ known_give_by hd form P to rest = record {
   within = λ M p r sent. let k = (to M r).0.0.1 in let so = k.1 in let z = so.1 p sent in z.1;
   calls = λ j d t M c u q s r does now h void_it. call_given hd form j d t M (to (up j d t M) r) c u q does s now h (λ k n later is. rest.loads j d t M c u q s k n later r does now is h) void_it;
   meant = λ j d t M p a x q s r sent at is does now waits. answer_meant hd j d t M (to (up j d t M) r) p a q s sent at does now x is waits;
-  commits = λ j d t M c u q m n r does now left h void_it. commit_given hd form j d t M (to (up j d t M) r) c u q does m n now left h (λ p nodes is. rest.prepares j d t M c u q p nodes n r does (now ∙ ap Committing is) (ap (λ z. has (left_of z) n) (sym is) ∙ left) (subst (λ z. HasCome j (up j d t M) c (want_of_commit u z n)) is h)) void_it;
+  commits = λ j d t M c u q m n r does now left h void_it. commit_given hd form j d t M (to (up j d t M) r) c u q does m n now left h void_it;
 }
 
 pub known_give : KnownGive

@@ -18,6 +18,7 @@ use Rattle.arj_view_law.specs.Keeps.{Keeps, KeepsAsked}
 use Rattle.arj_view_law.specs.Seen.{Seen, given}
 use Rattle.arj_view_law.specs.Walks.{Up, Walks}
 use Rattle.arj_view_law.proofs.Happens.{keeps_asked}
+use Rattle.arj_run_law.proofs.AllRuns.{all_keep}
 use Rattle.arj_view_law.proofs.Together.{walks_each}
 use Rattle.arj_run_law.specs.Worlds.{IsGood}
 use Rattle.arj_call_law.proofs.Given.{keeps_given, kept_both}
@@ -43,6 +44,8 @@ use Rattle.arj_joint_law.proofs.FormRuns.{kept_forms}
 use Rattle.arj_joint_law.specs.Forms.{AreSo, kind_of}
 use Rattle.arj_wait_law.proofs.AskedRuns.{asked_given}
 use Rattle.arj_wait_law.proofs.Home.{home_keep}
+use Rattle.arj_wait_law.proofs.WriterRuns.{writers_given}
+use Rattle.arj_wait_law.specs.Writers.{ArePastWriters, WritersArePast}
 
 -- ---- addresses
 
@@ -96,9 +99,9 @@ objects_keep hd = asked_both hd (λ M. (IsGood M × BindsAreKnown M) × CallsAre
 
 -- states, answers, and what servers have
 askers_keep : (hd : Header) → HeaderInForm hd → KeepsAsked hd (AskersAreKnown hd)
-askers_keep hd form = asked_both hd (λ M. ((RequestsAreKnown M × HaveForms hd M) × ObjectsAreHeld M) × WereAsked M) RequestsAreHome
+askers_keep hd form = asked_both hd (λ M. ((RequestsAreKnown M × HaveForms hd M) × ObjectsAreHeld M) × WereAsked M) (λ M. RequestsAreHome M × WritersArePast M)
     (keeps_asked hd (λ M. ((RequestsAreKnown M × HaveForms hd M) × ObjectsAreHeld M) × WereAsked M) (kept_both hd (λ M. (RequestsAreKnown M × HaveForms hd M) × ObjectsAreHeld M) WereAsked (kept_both hd (λ M. RequestsAreKnown M × HaveForms hd M) ObjectsAreHeld (kept_both hd RequestsAreKnown (HaveForms hd) (requests_keep hd) (keeps_given hd RequestsAreKnown (HaveForms hd) (keeps_each hd (λ x. AreSo (kind_of hd x)) (λ x. kept_forms hd x form)))) (keeps_given hd (λ M. RequestsAreKnown M × HaveForms hd M) ObjectsAreHeld (objects_held hd))) (asked_given hd)))
-    (keeps_asked hd RequestsAreHome (home_keep hd))
+    (keeps_asked hd (λ M. RequestsAreHome M × WritersArePast M) (kept_both hd RequestsAreHome WritersArePast (home_keep hd) (keeps_given hd RequestsAreHome WritersArePast (kept_both hd IsGood ArePastWriters (all_keep hd) (writers_given hd)))))
 
 pub waits_keep : HandlersKeepWaits
 waits_keep hd form = asked_both hd (λ M. ((EndsArePast M × RequestsAreKnown M) × AreAddressed hd M) × ObjectsAreKnown hd M) (AskersAreKnown hd)

@@ -6,6 +6,12 @@ pub mod Made
 pub mod Standing
 pub mod Named
 pub mod Known
+pub mod WriterCoords
+pub mod WriterCommits
+pub mod WriterNodes
+pub mod WriterHandled
+pub mod WriterRuns
+pub mod Uncommitted
 pub mod AskedRuns
 pub mod Home
 pub mod Gives

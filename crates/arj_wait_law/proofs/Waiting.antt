@@ -30,7 +30,6 @@ none_left M good k c u q m found does now none =
 rest_less : (P Q : Seen → Type 0) → ((M : Seen) → Q M → P M) → AnswersRest P → AnswersRest Q
 rest_less P Q less rest = record {
   loads = λ j d t M c u q s k n later r does now is h. rest.loads j d t M c u q s k n later (less (up j d t M) r) does now is h;
-  prepares = λ j d t M c u q p left n r does now waits h. rest.prepares j d t M c u q p left n (less (up j d t M) r) does now waits h;
 }
 
 pub runs_leave_overtaken : RunsLeaveOvertaken

@@ -1,3 +1,4 @@
 pub mod Asked
+pub mod Writers
 pub mod Waits
 pub mod Runs

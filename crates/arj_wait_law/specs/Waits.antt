@@ -1,14 +1,11 @@
 -- So much is known of whoever waits, in every run; and what is still to be given of requests for which somebody waits.
-use Rattle.std.specs.Prelude.{Bool, List, Some, is_some, true, ℕ, ◌||◌, ◌≡◌, ◌≢◌}
+use Rattle.std.specs.Prelude.{Bool, List, Some, is_some, true, ℕ, ◌||◌, ◌≡◌}
 use Rattle.arj_journal.specs.ScriptForm.{HeaderInForm}
 use Rattle.arj_protocol.specs.Words.{Header, Uid, object}
-use Rattle.arj_protocol.specs.Ask.{actor}
 use Rattle.arj_protocol.specs.Call.{AtLoad, Known, Steps}
-use Rattle.arj_protocol.specs.Commit.{Plan, Preparing, states_for}
-use Rattle.arj_protocol.specs.Coord.{Calling, Committing, Coord, Doing, doing_of}
-use Rattle.arj_protocol.specs.Effect.{Already, Disk, held_at, holder_of, prepare_answer}
+use Rattle.arj_protocol.specs.Coord.{Calling, Coord, Doing, doing_of}
+use Rattle.arj_protocol.specs.Effect.{Disk, held_at, holder_of}
 use Rattle.arj_protocol.specs.Node.{Parts}
-use Rattle.arj_protocol.specs.Order.{has}
 use Rattle.arj_address_law.specs.Addresses.{AreAddressed}
 use Rattle.arj_address_law.specs.Binds.{BindsAreKnown}
 use Rattle.arj_disk_run_law.specs.Entries.{HaveEntries}
@@ -20,8 +17,9 @@ use Rattle.arj_lock_fact_law.specs.Uppers.{ObjectsAreHeld}
 use Rattle.arj_view_law.specs.Keeps.{KeepsAsked}
 use Rattle.arj_view_law.specs.Seen.{Seen, up}
 use Rattle.arj_round_law.specs.Rounds.{AnswersWaits, HasCome}
-use Rattle.arj_round_law.specs.Waits.{want_of_call, want_of_commit}
+use Rattle.arj_round_law.specs.Waits.{want_of_call}
 use Rattle.arj_wait_law.specs.Asked.{HaveForms, RequestsAreHome, WereAsked}
+use Rattle.arj_wait_law.specs.Writers.{WritersArePast}
 use Rattle.arj_past_law.specs.Told.{EndsArePast}
 
 -- What calls wait for are objects of the header, and naming has each of these.
@@ -29,9 +27,9 @@ abbrev pub ObjectsAreKnown : Header → Seen → Type 0
 ObjectsAreKnown hd M = ((IsGood M × BindsAreKnown M) × CallsAreOfHeader hd M) × ((x : ℕ) → HasObject hd x → HaveEntries x M)
 
 -- States are of objects and of their classes, objects at naming are good, requests come from where their actors began, answers and what
--- servers have was asked for, and bindings were made as lines say.
+-- servers have was asked for, bindings were made as lines say, and states of stores are by writers whose end was told.
 abbrev pub AskersAreKnown : Header → Seen → Type 0
-AskersAreKnown hd M = (((RequestsAreKnown M × HaveForms hd M) × ObjectsAreHeld M) × WereAsked M) × RequestsAreHome M
+AskersAreKnown hd M = (((RequestsAreKnown M × HaveForms hd M) × ObjectsAreHeld M) × WereAsked M) × (RequestsAreHome M × WritersArePast M)
 
 -- What is known in every run: whoever was told to have ended has ended; requests are of what waits; messages go to nodes of the header;
 -- calls are on its objects; and what states, requests and answers are of.
@@ -48,12 +46,9 @@ HandlersKeepWaits = (hd : Header) → HeaderInForm hd → KeepsAsked hd (WaitsAr
 abbrev pub HasStored : Disk → ℕ → Type 0
 HasStored d x = (is_some (holder_of (object x) d.store) || is_some (held_at (object x) d.store)) ≡ true
 
--- Where a Load that a call waits for has come, the store has a state; and where a Prepare has come, the store has committed none of this top.
--- No other request needs anything.
+-- Where a Load that a call waits for has come, the store has a state. No other request needs anything.
 pub record AnswersRest (R : Seen → Type 0) : Type 0 where
   pub loads : (j : ℕ) (d : Disk) (t : Parts) (M : Seen) (c : Coord) (u : Uid) (q : Doing) (s : Steps) (k : Known) (n : ℕ) (later : List ℕ) → R (up j d t M) → doing_of u c ≡ Some q → q.now ≡ Calling s → s.at ≡ AtLoad k n later → HasCome j (up j d t M) c (want_of_call u s) → HasStored d s.x
-  pub prepares : (j : ℕ) (d : Disk) (t : Parts) (M : Seen) (c : Coord) (u : Uid) (q : Doing) (p : Plan) (left : List ℕ) (n : ℕ) → R (up j d t M) → doing_of u c ≡ Some q → q.now ≡ Committing (Preparing p left) → has left n ≡ true → HasCome j (up j d t M) c (want_of_commit u (Preparing p left) n)
-      → (w : Uid) → prepare_answer (actor p.path) (states_for n p) d.store ≢ Already w
 
 -- With it no request for which somebody waits is void, but one of a call that is overtaken.
 abbrev pub KnownGive : Type 0
