@@ -40,6 +40,7 @@ abbrev pub AskIsBy : (Uid → Type 0) → Head → Ask → Type 0
 AskIsBy P h (ask.Prepare states) = AllByRecursion (IsOwnOrBy P (actor h.path)) states
 AskIsBy P h a = ⊤
 
+-- so it is of a message's request, where it has one
 abbrev pub AskedIsBy : (Uid → Type 0) → Option (Head × Ask) → Type 0
 AskedIsBy P None = ⊤
 AskedIsBy P (Some q) = AskIsBy P q.0 q.1
@@ -50,10 +51,12 @@ ReplyIsBy P a (Reply.Loaded (loaded.State st)) = IsBy P st
 ReplyIsBy P a (Reply.Voted (voted.Yes states)) = AllByRecursion (IsBy (λ w. w ≡ a.act)) states
 ReplyIsBy P a r = ⊤
 
+-- so it is of a message's answer, where it has one
 abbrev pub AnsweredIsBy : (Uid → Type 0) → Option (Asked × Reply) → Type 0
 AnsweredIsBy P None = ⊤
 AnsweredIsBy P (Some q) = ReplyIsBy P q.0 q.1
 
+-- of both
 abbrev pub MessageIsBy : (Uid → Type 0) → Message → Type 0
 MessageIsBy P m = AskedIsBy P (asks m) × AnsweredIsBy P (answers m)
 
@@ -88,6 +91,7 @@ pub record PairIsBy (P : Uid → Type 0) (d : Pair) : Type 0 where
   pub held : AllByRecursion (λ (e : Uid × ObjectState). IsBy P e.1) d.held
   pub pend : AllByRecursion (λ (e : Uid × List ObjectState). AllByRecursion (IsOwnOrBy P e.0) e.1) d.pend
 
+-- so it is of a node's store, and of its coordinator while it is up
 pub record NodeIsBy (P : Uid → Type 0) (n : Node) : Type 0 where
   pub store : PairIsBy P (let d = n.disk in d.store)
   pub live : (t : Parts) → n.live ≡ Some t → CoordIsBy P P t.coord
