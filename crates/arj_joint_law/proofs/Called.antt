@@ -313,7 +313,7 @@ once_left p (d ∷ ds) once = by (p d) (once_left p ds once.1)
     by false ih = ih
 
 -- what is taken of a list where the function gives it
-mapped : {A B : Type 0} (f : A → Option B) (a : A) (b : B) (xs : List A) → In a xs → f a ≡ Some b → In b (filter_map f xs)
+pub mapped : {A B : Type 0} (f : A → Option B) (a : A) (b : B) (xs : List A) → In a xs → f a ≡ Some b → In b (filter_map f xs)
 mapped f a b [] k e = absurd k
 mapped {A} {B} f a b (y ∷ ys) (inl same) e = subst (λ o. In b (cons_option o (filter_map f ys))) (sym (ap f same ∙ e)) (inl refl)
 mapped {A} {B} f a b (y ∷ ys) (inr k) e = by (f y) (mapped f a b ys k e)

@@ -37,14 +37,14 @@ use Rattle.arj_joint_law.specs.Excluded.{CommitsBeginIt}
 -- ---- effects
 
 -- the line calls no commit
-abbrev NoCall : Body → Type 0
+abbrev pub NoCall : Body → Type 0
 NoCall b = calls_commit b ≡ false
 
-no_call : (b : Body) → is_apart b ≡ false → NoCall b
+pub no_call : (b : Body) → is_apart b ≡ false → NoCall b
 no_call (body.Committing l) none = absurd (cc none)
 no_call b none = refl
 
-marks_quiet : (d : Doing) (marks : List (ℕ × ℕ)) → AllByRecursion (λ (z : ℕ × ℕ). NoCall (body.Excluded d.label z.0 z.1)) marks
+pub marks_quiet : (d : Doing) (marks : List (ℕ × ℕ)) → AllByRecursion (λ (z : ℕ × ℕ). NoCall (body.Excluded d.label z.0 z.1)) marks
 marks_quiet d [] = tt
 marks_quiet d (z ∷ marks) = (refl, marks_quiet d marks)
 
@@ -64,7 +64,7 @@ calls_behind may es fs (inl q) r = inl (all_append (SayOf NoCall) es fs q r)
 calls_behind may es fs (inr (ok, l, rest, is, q)) r = inr (ok, l, rest ++ fs, ap (λ z. z ++ fs) is, all_append (SayOf NoCall) rest fs q r)
 
 -- how a call ends isn't one
-end_quiet : (x : ℕ) (g : Goal) (e : CallEnd) (l : Label) → NoCall (end_line x g e l)
+pub end_quiet : (x : ℕ) (g : Goal) (e : CallEnd) (l : Label) → NoCall (end_line x g e l)
 end_quiet x (Run o) (calls.Answered a) l = refl
 end_quiet x (Include s) (calls.Answered a) l = refl
 end_quiet x g (calls.Included st) l = refl

@@ -1,7 +1,9 @@
 -- Both machines of each object at once, in every run.
 use Rattle.std.proofs.Common.{◌≡◌, ◌==◌, ℕ, true, List, is_some, subst, refl, Option, Some, None, eqb-true}
-use Rattle.arj_joint_law.specs.Joined.{HasStates, IsBeside, IsJoinedSo, RunsAreJoined, SeesTied, world_of}
+use Rattle.arj_joint_law.specs.Joined.{HasStates, IsBeside, IsJoinedSo, RunsAreJoined, SeesRecorded, SeesTied, world_of}
 use Rattle.arj_joint_law.proofs.Joining.{HasLocks, WithLocks, locks_part}
+use Rattle.arj_joint_law.proofs.Recorded.{recorded_part}
+use Rattle.arj_joint_law.proofs.RestGiven.{rest_beside}
 use Rattle.arj_joint_law.proofs.OrderedRuns.{IsOrderedBeside, ordered_beside}
 use Rattle.arj_disk_run_law.proofs.BothEach.{counted_by, heard_beside}
 use Rattle.arj_disk_run_law.specs.Part.{KeepsPart}
@@ -59,7 +61,7 @@ runs_are_joined hd x heard test form there kept rest es short =
     R begun M = KnowsWhole x begun M × E begun M
 
     Joined : Kinds → Office → Seen → Type 0
-    Joined tops A M = WithLocks (first_values hd) x R (SeesTied x) tops A M
+    Joined tops A M = WithLocks (first_values hd) x R (SeesRecorded x) tops A M
 
     -- the disk half, beside states of the lock half
     heard_there : KeepsPart hd x (λ W M. IsCountedWith heard M × (KnowsScript M × HasLocks (first_values hd) x R W M)) (SeesCarried x)
@@ -69,8 +71,12 @@ runs_are_joined hd x heard test form there kept rest es short =
     tied : KeepsPart hd x (λ W M. (IsCountedWith heard M × IsKept M) × (KnowsScript M × HasLocks (first_values hd) x R W M)) (SeesTied x)
     tied = tied_part hd x (IsCountedWith heard) (λ W M. KnowsScript M × HasLocks (first_values hd) x R W M) (SeesCarried x) (λ ls u. IsIdle (book ls) u) (counted_by hd heard kept.kept) heard_there (knows_idle (IsCountedWith heard))
 
+    -- and what is decided was recorded
+    recorded : KeepsPart hd x (λ W M. (IsCountedWith heard M × IsKept M) × (KnowsScript M × HasLocks (first_values hd) x R W M)) (SeesRecorded x)
+    recorded = recorded_part hd x (λ W M. (IsCountedWith heard M × IsKept M) × (KnowsScript M × HasLocks (first_values hd) x R W M)) (SeesTied x) (λ W M q. let r = q.1.1 in let k = r.2.0 in let a = k.acks in let w = a.world in w.asked) tied
+
     part : KeepsPart hd x (λ W M. IsKnownWith heard M) Joined
-    part = locks_part hd (first_values hd) x (IsKnownWith heard) KnowsFew R (SeesTied x) (λ M r. let s = r.1 in s.0) (kept_beside hd x has E rest.kept) (λ f begins. gives_locks hd x has E f (λ begun S M. IsBeside x heard f begun S M) (first_values hd, begins) (rest.gives f begins)) (λ M few. votes_in M few.1.1) (λ M few. few.1.1) (part_more hd x (λ W M. (IsCountedWith heard M × IsKept M) × (KnowsScript M × HasLocks (first_values hd) x R W M)) (λ W M. IsKnownWith heard M × HasLocks (first_values hd) x R W M) (SeesTied x) (λ W M q. let r = q.0 in ((r.0, r.0.0.1), (r.1, q.1))) tied) (λ tops A M p. p.0.0)
+    part = locks_part hd (first_values hd) x (IsKnownWith heard) KnowsFew R (SeesRecorded x) (λ M r. let s = r.1 in s.0) (kept_beside hd x has E rest.kept) (λ f begins. gives_locks hd x has E f (λ begun S M. IsBeside x heard f begun S M) (first_values hd, begins) (rest_beside (first_values hd) x heard E f begins (rest.gives f begins))) (λ M few. votes_in M few.1.1) (λ M few. few.1.1) (part_more hd x (λ W M. (IsCountedWith heard M × IsKept M) × (KnowsScript M × HasLocks (first_values hd) x R W M)) (λ W M. IsKnownWith heard M × HasLocks (first_values hd) x R W M) (SeesRecorded x) (λ W M q. let r = q.0 in ((r.0, r.0.0.1), (r.1, q.1))) recorded) (λ tops A M p. p.0.0.0)
 
     joined : (sent : List Post) → IsOrderedBeside Joined hd x (see sent (run_all es (format hd))) → IsJoinedSo hd x (see sent (run_all es (format hd)))
     joined sent (o, tops, A, same, p, few) = record {

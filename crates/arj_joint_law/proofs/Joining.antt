@@ -58,7 +58,7 @@ use Rattle.arj_lock_run_law.proofs.KeptSteps.{LocksFrom, LocksSo, as_older, firs
 use Rattle.arj_joint_law.specs.Joined.{ArePlannedSo, ChangesCalled, IsPaired, IsPlannedSo, IsRecordedAt}
 use Rattle.arj_joint_law.proofs.Counting.{at_commit, changed_counted}
 use Rattle.arj_joint_law.proofs.Ending.{Ends, ends_along, ends_by, ends_of, message_ends, record_of}
-use Rattle.arj_joint_law.proofs.Recording.{AreOfTheirs, AreRecordedBy, IsConfirming, acts_put, here_then, message_puts, others_then, plainly, recorded_at, records_walk, tick_puts}
+use Rattle.arj_joint_law.proofs.Recording.{AreRecordedBy, IsConfirming, acts_put, anyone, are_theirs, here_then, message_puts, others_then, plainly, recorded_at, records_walk, tick_puts}
 
 -- ---- what is kept
 
@@ -223,9 +223,6 @@ module _ (hd : Header) (values : Values) (x : ℕ) (K G : Seen → Type 0) (R : 
   waits_here : (tops : Kinds) (k : ℕ) (d : Disk) (t : Parts) (M : Seen) (A : Office) → KnowsNode tops k d t M → SeesBoth x tops A (up k d t M) → P tops A (up k d t M) → KnowsRun (up k d t M) → (j : HasLocks values x R A.world (up k d t M)) → (f : Fixed) (a : AgreesAs values f x j.0 M.sent) → (u : Uid) → IsConfirming t.coord u → IsPlannedSo f x (let g = j.3 f a in g.0) A.world u
   waits_here tops k d t M A n both part known j f a u c = let g = j.3 f a in planned_here f x k d t M j.0 g.0 tops A n both (heard tops A (up k d t M) part) (record { good = j.1.0; alike = j.1.1; written = j.1.2; agrees = a.0; sees = g.1; tied = g.2 }) g.3 known u c
 
-  theirs : (tops : Kinds) (k : ℕ) (d : Disk) (t : Parts) (M : Seen) → KnowsNode tops k d t M → AreOfTheirs t.coord
-  theirs tops k d t M n u q m works now = (let z = n.coord in let y = z.machines u q m works now in ((let p = y.plan in p.actor_is), (y.used, y.more, y.uses)))
-
   abbrev none : Uid → Type 0
   none u = ⊥
 
@@ -264,7 +261,7 @@ module _ (hd : Header) (values : Values) (x : ℕ) (K G : Seen → Type 0) (R : 
             both = h.both;
             along = along tops (Changes o h.office) C (ends_of o) A.world (up k d t M) j.0 M.sent (λ f a. let g = j.3 f a in g.0) (moves_from o A h.office h.only (let z = both.disks in z.whole)) (λ u is. inr (message_ends x d t u m is)) (known_before C A.world (up k d t M) j (waits_here tops k d t M A n both part (runs (up k d t M) (to (up k d t M) r)) j)) e k outs v d M h.along
                 (kept_message hd values x G R Y keeps gives ⊤ votes_used e k d t v from m outs M (to (up k d t M) r) (locks_of A.world (up k d t M) j) (paired tops (up k d t M) A walk r both part j) sent meant is)
-                (records_walk C (up k d t M) k e v outs d M (others_then C k d (Some t) M) (message_puts k d t (theirs tops k d t M n) from m v outs is) (here_then C k d (Some t) M)) (step_walk k d (Some t) M e v outs d M (near_same M) (was_up t) (was_up t));
+                (records_walk C (up k d t M) k anyone e v outs d M (others_then C k d (Some t) M) (message_puts anyone k d t (are_theirs tops k d t M n) from m v outs is (λ u same. tt)) (here_then C k d (Some t) M)) (step_walk k d (Some t) M e v outs d M (near_same M) (was_up t) (was_up t));
           },
           p.1,
           p.2,
@@ -280,7 +277,7 @@ module _ (hd : Header) (values : Values) (x : ℕ) (K G : Seen → Type 0) (R : 
             both = h.both;
             along = along tops (Changes Quietly h.office) C nobody A.world (up k d t M) j.0 M.sent (λ f a. let g = j.3 f a in g.0) (moves_from Quietly A h.office h.only (let z = both.disks in z.whole)) (no_one C (up k d t M)) (known_before C A.world (up k d t M) j (waits_here tops k d t M A n both part (runs (up k d t M) (to (up k d t M) r)) j)) e k did.outs (with_coord t did.part) d M h.along
                 (kept_act hd values x G R Y keeps gives ⊤ votes_used e k d t i M is free (to (up k d t M) r) (locks_of A.world (up k d t M) j) (paired tops (up k d t M) A walk r both part j))
-                (records_walk C (up k d t M) k e (with_coord t did.part) did.outs d M (others_then C k d (Some t) M) (acts_put t.coord (theirs tops k d t M n) d.intents i) (here_then C k d (Some t) M)) (step_walk k d (Some t) M e (with_coord t did.part) did.outs d M (near_same M) (was_up t) (was_up t));
+                (records_walk C (up k d t M) k anyone e (with_coord t did.part) did.outs d M (others_then C k d (Some t) M) (acts_put anyone t.coord (are_theirs tops k d t M n) d.intents i) (here_then C k d (Some t) M)) (step_walk k d (Some t) M e (with_coord t did.part) did.outs d M (near_same M) (was_up t) (was_up t));
           },
           p.1,
         );
@@ -292,14 +289,14 @@ module _ (hd : Header) (values : Values) (x : ℕ) (K G : Seen → Type 0) (R : 
         along tops (Changes Quietly A) none nobody A.world (up k d t M) (a ∷ j.0) M.sent (λ f w. let g = j.3 f (older f w) in g.0) (λ B c. moves_by Quietly A B (let z = both.disks in z.whole) c) (no_one none (up k d t M)) (λ f w. known_before none A.world (up k d t M) j (λ f b u never. absurd never) f (older f w)) e k did.outs (with_coord t did.part) d N
         (parts.begin tops e k d t l how parent M A walk n (r, j) new may free kind both part)
         (kept_begin hd values x G R Y keeps gives ⊤ votes_used e k d t l how parent M new may free (to (up k d t M) r) (locks_of A.world (up k d t M) j) (paired tops (up k d t M) A walk r both part j))
-        (records_walk none (up k d t M) k e (with_coord t did.part) did.outs d N (others_then none k d (Some t) M) (tt, tt) (here_then none k d (Some t) M)) (step_walk k d (Some t) M e (with_coord t did.part) did.outs d N (given_near l how k M) (was_up t) (was_up t));
+        (records_walk none (up k d t M) k anyone e (with_coord t did.part) did.outs d N (others_then none k d (Some t) M) (tt, tt) (here_then none k d (Some t) M)) (step_walk k d (Some t) M e (with_coord t did.part) did.outs d N (given_near l how k M) (was_up t) (was_up t));
     tick = λ tops e k d t M A walk n r both (part, j).
         let outs = tick_outs (record { number = k; disk = d; live = Some t }) t in
         let v = with_coord t (let z = again_all t.coord.doings t.coord in z.part) in
         let C : Uid → Type 0 = λ u. IsConfirming t.coord u in
         along tops (Changes Quietly A) C nobody A.world (up k d t M) j.0 M.sent (λ f a. let g = j.3 f a in g.0) (λ B c. moves_by Quietly A B (let z = both.disks in z.whole) c) (no_one C (up k d t M)) (known_before C A.world (up k d t M) j (waits_here tops k d t M A n both part (runs (up k d t M) (to (up k d t M) r)) j)) e k outs v d M
         (parts.tick tops e k d t M A walk n (r, j) both part) (kept_tick hd values x G R Y keeps gives ⊤ votes_used e k d t M (to (up k d t M) r) (locks_of A.world (up k d t M) j) (paired tops (up k d t M) A walk r both part j))
-        (records_walk C (up k d t M) k e v outs d M (others_then C k d (Some t) M) (tick_puts k d t (theirs tops k d t M n)) (here_then C k d (Some t) M)) (step_walk k d (Some t) M e v outs d M (near_same M) (was_up t) (was_up t));
+        (records_walk C (up k d t M) k anyone e v outs d M (others_then C k d (Some t) M) (tick_puts anyone k d t (are_theirs tops k d t M n)) (here_then C k d (Some t) M)) (step_walk k d (Some t) M e v outs d M (near_same M) (was_up t) (was_up t));
     restart = λ tops e k d M A walk r both (part, j).
         let outs = restart_outs hd k (d.inc + 1) d in
         let v = parts_in k (d.inc + 1) d in
@@ -307,7 +304,7 @@ module _ (hd : Header) (values : Values) (x : ℕ) (K G : Seen → Type 0) (R : 
         (λ B c. (goes_along (are_recorded d.intents) A.world B.world (let z = both.disks in z.whole) c.along, ends_along (are_recorded d.intents) A.world B.world (let z = both.disks in z.whole) c.along))
         (λ u is. let r = record_of u d.intents is in inl (record { place = k; node = record { number = k; disk = d; live = None }; intent = r.0; here = node_here M k (record { number = k; disk = d; live = None }); there = r.1 })) (known_before none A.world (down k d M) j (λ f a u never. absurd never)) e k outs v d M
         (parts.restart tops e k d M A walk (r, j) both part) (kept_restart hd values x G R Y keeps gives ⊤ votes_used e k d M (to (down k d M) r) (locks_of A.world (down k d M) j) (paired tops (down k d M) A walk r both part j))
-        (records_walk none (down k d M) k e v outs d M (others_then none k d None M) (plainly none outs (restart_plain [] hd k d)) (here_then none k d None M)) (step_walk k d None M e v outs d M (near_same M) (λ down. restart_plain [] hd k d) (λ down. refl));
+        (records_walk none (down k d M) k anyone e v outs d M (others_then none k d None M) (plainly none anyone outs (restart_plain [] hd k d)) (here_then none k d None M)) (step_walk k d None M e v outs d M (near_same M) (λ down. restart_plain [] hd k d) (λ down. refl));
     first = λ tops walk kinds.
         let f = parts.first tops walk kinds in
         let z = first_kept hd values x G R Y keeps gives ⊤ votes_used in

@@ -23,6 +23,10 @@ pub mod Leaving
 pub mod RunsInTime
 pub mod Joining
 pub mod Recording
+pub mod Removing
+pub mod Recorded
+pub mod Surviving
+pub mod RestGiven
 pub mod Counting
 pub mod JoinedRuns
 pub mod Writing

@@ -55,7 +55,7 @@ use Rattle.arj_joint_law.specs.Marked.{MarksAreSaid, excludes, was_marked}
 use Rattle.arj_joint_law.specs.MarkedTops.{AreMarkedSo, IsMarkedSo}
 use Rattle.arj_joint_law.proofs.MarkMoves.{IsMarking, NoMark, acts_stay, apart_none, said_in, unmarked_said}
 use Rattle.arj_joint_law.proofs.MarkRuns.{IsNamed, act_moved, marked_more, message_moved, named_at, no_left, no_right, or_false, same_marked}
-use Rattle.arj_joint_law.proofs.Recording.{AreOfTheirs, AreRecordedBy, IsConfirming, acts_put, here_then, message_puts, others_then, plainly, recorded_at, records_walk, tick_puts}
+use Rattle.arj_joint_law.proofs.Recording.{AreRecordedBy, IsConfirming, acts_put, anyone, are_theirs, here_then, message_puts, others_then, plainly, recorded_at, records_walk, tick_puts}
 
 -- ---- lines
 
@@ -204,9 +204,6 @@ module _ (hd : Header) (x : ℕ) (K L : Seen → Type 0) (P : Kinds → Office �
         walks_to (λ Z. OfEach tops D P Z × (IsKept Z × (AreRecordedBy C M Z × (IsStep M Z × MarkedFrom who M Z)))) (OfEach tops D Q) e k outs (λ c Z. Up (OfEach tops D P) k v c Z × (Up IsKept k v c Z × (Up (AreRecordedBy C M) k v c Z × (Up (IsStep M) k v c Z × Up (MarkedFrom who M) k v c Z)))) (Up (OfEach tops D Q) k v) d N
         (λ Z h B c seen. (h.0 B c seen, marks_next Z h.1.0 h.1.1.0 h.1.1.1.0 h.1.1.1.1 B c seen)) (λ c Z h B changed seen. (h.0 B changed seen, marks_next (up k c v Z) h.1.0 h.1.1.0 h.1.1.1.0 h.1.1.1.1 B changed seen)) four
 
-  theirs : (tops : Kinds) (k : ℕ) (d : Disk) (t : Parts) (M : Seen) → KnowsNode tops k d t M → AreOfTheirs t.coord
-  theirs tops k d t M n u q m works now = (let z = n.coord in let y = z.machines u q m works now in ((let p = y.plan in p.actor_is), (y.used, y.more, y.uses)))
-
   abbrev none : Uid → Type 0
   none u = ⊥
 
@@ -243,7 +240,7 @@ module _ (hd : Header) (x : ℕ) (K L : Seen → Type 0) (P : Kinds → Office �
             only = h.only;
             both = h.both;
             along = along tops (Changes o h.office) C (IsMarking t.coord) A.world (up k d t M) (goes_from o A h.office h.only (let z = both.disks in z.whole)) marks (marked_here x k d t M tops A n both g.0 g.1) (apart_here x k d t M tops A n both g.0) e k outs v d M h.along
-                (lines.message e k d t v from m outs M g.0 sent meant is) (records_walk C (up k d t M) k e v outs d M (others_then C k d (Some t) M) (message_puts k d t (theirs tops k d t M n) from m v outs is) (here_then C k d (Some t) M)) (step_walk k d (Some t) M e v outs d M (near_same M) (was_up t) (was_up t))
+                (lines.message e k d t v from m outs M g.0 sent meant is) (records_walk C (up k d t M) k anyone e v outs d M (others_then C k d (Some t) M) (message_puts anyone k d t (are_theirs tops k d t M n) from m v outs is (λ u same. tt)) (here_then C k d (Some t) M)) (step_walk k d (Some t) M e v outs d M (near_same M) (was_up t) (was_up t))
                 (from_walk (IsMarking t.coord) (up k d t M) e k v outs d M (moved_base t.coord outs M (let w = message_moved e k d t M g.0 g.1 v from m outs is in w.whose)));
           },
           p.1,
@@ -260,7 +257,7 @@ module _ (hd : Header) (x : ℕ) (K L : Seen → Type 0) (P : Kinds → Office �
             only = h.only;
             both = h.both;
             along = along tops (Changes Quietly h.office) C (IsMarking t.coord) A.world (up k d t M) (goes_from Quietly A h.office h.only (let z = both.disks in z.whole)) marks (marked_here x k d t M tops A n both g.0 g.1) (apart_here x k d t M tops A n both g.0) e k did.outs (with_coord t did.part) d M h.along
-                (lines.act e k d t i M is free g.0) (records_walk C (up k d t M) k e (with_coord t did.part) did.outs d M (others_then C k d (Some t) M) (acts_put t.coord (theirs tops k d t M n) d.intents i) (here_then C k d (Some t) M)) (step_walk k d (Some t) M e (with_coord t did.part) did.outs d M (near_same M) (was_up t) (was_up t))
+                (lines.act e k d t i M is free g.0) (records_walk C (up k d t M) k anyone e (with_coord t did.part) did.outs d M (others_then C k d (Some t) M) (acts_put anyone t.coord (are_theirs tops k d t M n) d.intents i) (here_then C k d (Some t) M)) (step_walk k d (Some t) M e (with_coord t did.part) did.outs d M (near_same M) (was_up t) (was_up t))
                 (from_walk (IsMarking t.coord) (up k d t M) e k (with_coord t did.part) did.outs d M (moved_base t.coord did.outs M (let w = act_moved e k d t M g.0 g.1 hd i is free in w.whose)));
           },
           p.1,
@@ -270,7 +267,7 @@ module _ (hd : Header) (x : ℕ) (K L : Seen → Type 0) (P : Kinds → Office �
         let N : Seen = given l (record { node = k; serial = is_serial_kind how }) M in
         along tops (Changes Quietly A) none nobody A.world (up k d t M) (λ B c. goes_by Quietly A B (let z = both.disks in z.whole) c) marks (λ u off. absurd off) (λ u p off. off) e k did.outs (with_coord t did.part) d N
         (parts.begin tops e k d t l how parent M A walk n (to (up k d t M) r) new may free kind both part) (lines.begin e k d t l how parent M new may free (known (up k d t M) r).0)
-        (records_walk none (up k d t M) k e (with_coord t did.part) did.outs d N (others_then none k d (Some t) M) (tt, tt) (here_then none k d (Some t) M)) (step_walk k d (Some t) M e (with_coord t did.part) did.outs d N (given_near l how k M) (was_up t) (was_up t))
+        (records_walk none (up k d t M) k anyone e (with_coord t did.part) did.outs d N (others_then none k d (Some t) M) (tt, tt) (here_then none k d (Some t) M)) (step_walk k d (Some t) M e (with_coord t did.part) did.outs d N (given_near l how k M) (was_up t) (was_up t))
         (from_walk nobody (up k d t M) e k (with_coord t did.part) did.outs d N (λ y z s. inl (refl, refl)));
     tick = λ tops e k d t M A walk n r both (part, marks).
         let outs = tick_outs (record { number = k; disk = d; live = Some t }) t in
@@ -279,14 +276,14 @@ module _ (hd : Header) (x : ℕ) (K L : Seen → Type 0) (P : Kinds → Office �
         let C : Uid → Type 0 = λ u. IsConfirming t.coord u in
         along tops (Changes Quietly A) C nobody A.world (up k d t M) (λ B c. goes_by Quietly A B (let z = both.disks in z.whole) c) marks (marked_here x k d t M tops A n both g.0 g.1) (λ u p off. off) e k outs v d M
         (parts.tick tops e k d t M A walk n (to (up k d t M) r) both part) (lines.tick e k d t M g.0)
-        (records_walk C (up k d t M) k e v outs d M (others_then C k d (Some t) M) (tick_puts k d t (theirs tops k d t M n)) (here_then C k d (Some t) M)) (step_walk k d (Some t) M e v outs d M (near_same M) (was_up t) (was_up t))
+        (records_walk C (up k d t M) k anyone e v outs d M (others_then C k d (Some t) M) (tick_puts anyone k d t (are_theirs tops k d t M n)) (here_then C k d (Some t) M)) (step_walk k d (Some t) M e v outs d M (near_same M) (was_up t) (was_up t))
         (from_walk nobody (up k d t M) e k v outs d M (λ l y s. inl (refl, unmarked_said outs (tick_fine NoMark apart_none (record { number = k; disk = d; live = Some t }) t) l y s)));
     restart = λ tops e k d M A walk r both (part, marks).
         let outs = restart_outs hd k (d.inc + 1) d in
         let v = parts_in k (d.inc + 1) d in
         along tops (OnlyFound (are_recorded d.intents) A) none nobody A.world (down k d M) (λ B c. goes_along (are_recorded d.intents) A.world B.world (let z = both.disks in z.whole) c.along) marks (λ u off. absurd off) (λ u p off. off) e k outs v d M
         (parts.restart tops e k d M A walk (to (down k d M) r) both part) (lines.restart e k d M (known (down k d M) r).0)
-        (records_walk none (down k d M) k e v outs d M (others_then none k d None M) (plainly none outs (restart_plain [] hd k d)) (here_then none k d None M)) (step_walk k d None M e v outs d M (near_same M) (λ down. restart_plain [] hd k d) (λ down. refl))
+        (records_walk none (down k d M) k anyone e v outs d M (others_then none k d None M) (plainly none anyone outs (restart_plain [] hd k d)) (here_then none k d None M)) (step_walk k d None M e v outs d M (near_same M) (λ down. restart_plain [] hd k d) (λ down. refl))
         (from_walk nobody (down k d M) e k v outs d M (λ l y s. inl (refl, unmarked_said outs (restart_fine NoMark apart_none hd k (d.inc + 1) d) l y s)));
     first = λ tops walk kinds. let f = parts.first tops walk kinds in (f.0, f.1, (f.2, nothing_yet f.0 f.3), f.3, f.4);
   }

@@ -38,6 +38,7 @@ use Rattle.arj_lock_run_law.specs.Sees.{SeesLocks}
 use Rattle.arj_lock_run_law.specs.Tied.{AreTied}
 use Rattle.arj_lock_run_law.specs.Votes.{AreVotedAt}
 use Rattle.arj_joint_law.specs.Ordered.{IsOrderedSo}
+use Rattle.arj_joint_law.specs.Recorded.{WereRecorded}
 use Rattle.arj_serial_law.specs.Decided.{Wrote, WroteSo}
 use Rattle.arj_serial_law.specs.Seen.{IsSerialRun, RequestsAreOne}
 use Rattle.arj_disk_run_law.specs.Rest.{IsKnownWith, KeepsHeardBeside, SeesCarried}
@@ -102,9 +103,13 @@ KeepsHeardJoined hd x heard = KeepsHeardBeside hd x heard (HasStates (first_valu
 abbrev pub SeesTied : ℕ → Kinds → Office → Seen → Type 0
 SeesTied x tops A M = WithTie (SeesCarried x) (λ ls u. IsIdle (book ls) u) tops A M
 
+-- and with it that the tops that it decided were recorded
+abbrev pub SeesRecorded : ℕ → Kinds → Office → Seen → Type 0
+SeesRecorded x tops A M = SeesTied x tops A M × WereRecorded A.world M
+
 -- so much may be counted on of a state of the lock machine
 abbrev pub IsBeside : ℕ → (Seen → Bool) → Fixed → List Action → lock.State → Seen → Type 0
-IsBeside x heard f begun S M = IsKnownWith heard M × IsPaired x (SeesTied x) f begun S M
+IsBeside x heard f begun S M = IsKnownWith heard M × IsPaired x (SeesRecorded x) f begun S M
 
 -- ---- the run
 

@@ -11,3 +11,4 @@ pub mod Samples
 pub mod Excluded
 pub mod InTime
 pub mod Joined
+pub mod Recorded

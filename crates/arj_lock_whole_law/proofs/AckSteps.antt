@@ -36,7 +36,7 @@ module _ (sent : List Post) (p : Post) where
   voter_more : (u : Uid) (k inc : ℕ) → IsVoter sent u k inc → IsVoter More u k inc
   voter_more u k inc v = record { post = v.post; posted = inr v.posted; to = v.to; head = v.head; ties = v.ties; ends = v.ends; asking = v.asking; top = v.top }
 
-  demanded_more : (u : Uid) → IsDemanded sent u → IsDemanded More u
+  pub demanded_more : (u : Uid) → IsDemanded sent u → IsDemanded More u
   demanded_more u d = record { post = d.post; posted = inr d.posted; demands = d.demands }
 
   acked_more : (u : Uid) (k : ℕ) → HasAcked sent u k → HasAcked More u k
@@ -173,7 +173,7 @@ same_test n m e = grind arith
 pub here_at : (k : ℕ) (intents : List (Uid × Intent)) (found : ℕ → Option Node) (u : Uid) → u.node ≡ k → records_at k intents found u ≡ at_uid u intents
 here_at k intents found u home = λ i. cond (same_test u.node k home i) (at_uid u intents) (record_in u (found u.node))
 
-same_records : (k : ℕ) (d : Disk) (live : Option Parts) (M : Seen) → records_in ((at k d live M).nodes) ≡ records_at k d.intents M.nodes
+pub same_records : (k : ℕ) (d : Disk) (live : Option Parts) (M : Seen) → records_in ((at k d live M).nodes) ≡ records_at k d.intents M.nodes
 same_records k d live M = λ i u. by u (u.node == k) i
   where
     by : (u : Uid) (b : Bool) → record_in u (cond b (Some (record { number = k; disk = d; live = live })) (M.nodes u.node)) ≡ cond b (at_uid u d.intents) (record_in u (M.nodes u.node))

@@ -242,7 +242,7 @@ module _ (S : Body → Type 0) (fine : (b : Body) → is_apart b ≡ false → S
       by (Some d) is = now d is d.now refl
 
   -- a commit says first that it is called, where it is a top's
-  commit_fine : (T : List Effect → Type 0) → ((es : List Effect) → Fine es → T es) → (b : Branch) (intents : List (Uid × Intent)) (c : Coord) → ((es : List Effect) → Fine es → T (says (actor b.path) body.Committing c ++ es)) → T (commit_action b intents c).outs
+  pub commit_fine : (T : List Effect → Type 0) → ((es : List Effect) → Fine es → T es) → (b : Branch) (intents : List (Uid × Intent)) (c : Coord) → ((es : List Effect) → Fine es → T (says (actor b.path) body.Committing c ++ es)) → T (commit_action b intents c).outs
   commit_fine T other b intents c called = doomed b.doomed
     where
       top : T (commit_top b.path intents c).outs

@@ -396,7 +396,7 @@ module _ (hd : Header) (x : ℕ) (has : HasObject hd x) (E : List Action → See
         asks = knows_asks;
         ends = works.ends;
         binds = binds;
-        last = rest.last begun S s from m a (knows, more) seen there of;
+        last = (let l = rest.loads in l.last begun S s from m a (knows, more) seen there of);
       }
 
     -- naming behind a message
@@ -434,4 +434,4 @@ module _ (hd : Header) (x : ℕ) (has : HasObject hd x) (E : List Action → See
   -- where no more is known of the machine's state
   pub gives_alone : ((values : Values) × BeginsAs values x f) → GivesRest f x (λ b T N. Known_all b N) → GivesLocks hd f x (λ b T N. Known_all b N)
   gives_alone begins rest = gives_by hd f x (λ b T N. Known_all b N × ⊤) (λ b T N. Known_all b N) (λ b T N q. (q, tt))
-      (gives_locks (λ b T N. ⊤) begins (record { recorded = λ b T N t k n j i q. rest.recorded b T N t k n j i q.0; last = λ b T s from m a q. rest.last b T s from m a q.0 }))
+      (gives_locks (λ b T N. ⊤) begins (record { recorded = λ b T N t k n j i q. rest.recorded b T N t k n j i q.0; loads = record { last = λ b T s from m a q. let l = rest.loads in l.last b T s from m a q.0 } }))
