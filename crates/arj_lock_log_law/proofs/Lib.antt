@@ -1,1 +1,4 @@
+pub mod Bases
+pub mod Homes
+pub mod Overs
 pub mod OwnLogs

@@ -37,7 +37,7 @@ module _ (m : Act) (is : is_top m ≡ true) where
   own_later s t back es (c ∷ cs) (apart _ f l) = apart c (λ w own clean. f w own (back c.act clean)) (own_later s t back es cs l)
 
   -- a holder is passed to the action above
-  handed_on : (a : Act) (j : ℕ) → is_action a ≡ true → (e : Entry) → (on e.holder m ≡ true → on (let d = handed a j e in d.holder) m ≡ true) × (on (let d = handed a j e in d.holder) m ≡ true → on e.holder m ≡ true)
+  pub handed_on : (a : Act) (j : ℕ) → is_action a ≡ true → (e : Entry) → (on e.holder m ≡ true → on (let d = handed a j e in d.holder) m ≡ true) × (on (let d = handed a j e in d.holder) m ≡ true → on e.holder m ≡ true)
   handed_on a j act e = by (same e.holder (Sub a j)) refl
     where
       up : (a : Act) → is_action a ≡ true → m ≡ Sub a j → ⊥
@@ -113,7 +113,7 @@ module _ (m : Act) (is : is_top m ≡ true) where
 
   module _ (s : State) (base : ℕ) where
     -- an entry that isn't spoilt has its call
-    own_call : (es : List Entry) (cs : List Call) → OwnLog m s es cs → (e : Entry) → In e es → on e.holder m ≡ true → Clean s e.by → (c : Call) × In c cs × (c.write ≡ true) × (e.by ≡ c.act)
+    pub own_call : (es : List Entry) (cs : List Call) → OwnLog m s es cs → (e : Entry) → In e es → on e.holder m ≡ true → Clean s e.by → (c : Call) × In c cs × (c.write ≡ true) × (e.by ≡ c.act)
     own_call [] [] nothing e i on_m clean = absurd i
     own_call (d ∷ es) (c ∷ cs) (entry _ _ by gives w o l) e (inl q) on_m clean = (c, inl refl, w, ap (λ (x : Entry). x.by) q ∙ by)
     own_call (d ∷ es) (c ∷ cs) (entry _ _ by gives w o l) e (inr i) on_m clean = let r = own_call es cs l e i on_m clean in (r.0, inr r.1, r.2, r.3)
@@ -380,14 +380,14 @@ module _ (m : Act) (is : is_top m ≡ true) where
             called : 1 ≤ (t.action m).stage
             called = omega (arith, one)
 
-  own_run : {s t : State} → Run s t → Holds s → Values s → HasOwnLog m s → HasOwnLog m t
+  pub own_run : {s t : State} → Run s t → Holds s → Values s → HasOwnLog m s → HasOwnLog m t
   own_run stay h v own = own
   own_run {s} (step e guard more_steps) h v own =
       let k = step_keeps e s guard h in
       let w = step_values e s guard h v k.0 in
       own_run more_steps k.1 w (own_step s e guard h v k.0 k.1 w own)
 
-  own_start : (k : ℕ) → HasOwnLog m (start k)
+  pub own_start : (k : ℕ) → HasOwnLog m (start k)
   own_start k = record { log = λ c i. absurd i; asked = λ c i. absurd i }
 
 -- ---- what was given

@@ -6,4 +6,4 @@
 
 mod given;
 
-pub use given::given_votes_are_right;
+pub use given::{given_votes_are_right, writes_lie_over_what_was_voted};
