@@ -70,7 +70,6 @@ retain_named A t done untold c = record {
   };
   answers = λ a m. answer a (c.answers a m);
   plans = record {
-    based = c.plans.based;
     writer = c.plans.writer;
     asked = λ a s b j. let y = c.plans.asked a s b j in (y.0, more a y.0 y.1, y.2);
     loaded = λ a s u j p. c.plans.loaded a s u j (present a p);

@@ -1,18 +1,17 @@
--- What a confirmation counts on follows from the locks, the lists and the stores: no lock of a server is needed.
-use Rattle.std.proofs.Common.{◌≡◌, ◌⊎◌, ℕ, ◌+◌, ◌≤◌, List, [], ◌∷◌, Bool, true, false, ◌==◌, ◌&&◌, not, Option, Some, None, is_some, unwrap_or, refl, sym, ◌∙◌, ap, subst, inl, inr, ⊎_elim, arith}
+-- What a confirmation counts on follows from the locks, the lists and the stores, with the next version, which servers give.
+use Rattle.std.proofs.Common.{◌≡◌, ◌⊎◌, ℕ, ◌+◌, List, [], ◌∷◌, Bool, true, false, ◌==◌, ◌&&◌, not, Option, Some, None, is_some, refl, sym, ◌∙◌, ap, subst, inl, inr, ⊎_elim, arith}
 use Rattle.std.specs.Str.{bytes_eq}
 use Rattle.arj_disk_law.specs.Core.{Core}
 use Rattle.arj_disk_law.specs.Effects.{Locked, IsClear, new_list}
-use Rattle.arj_disk_law.specs.Guards.{HasRow, HasPresent, IsPresent, IsGranted, HasPart, MayConfirm}
-use Rattle.arj_disk_law.specs.Laws.{IsBased}
+use Rattle.arj_disk_law.specs.Guards.{HasRow, HasPresent, IsPresent, IsGranted, IsNext, HasPart, MayConfirm}
 use Rattle.arj_disk_law.specs.Messages.{Confirm, IsOver}
 use Rattle.arj_disk_law.specs.Named.{Named, IsLeaving}
 use Rattle.arj_disk_law.specs.Names.{Names, Office}
-use Rattle.arj_disk_law.specs.State.{State, Packed, Plan, Hold, Done, decided, undecided, target, state_for, hold, list_after, last, last_entry, KnownIn, Below, Listed, IsExcused}
-use Rattle.arj_disk_law.specs.Words.{has, In}
-use Rattle.arj_disk_law.proofs.Base.{bool_cases, test_cases, differs, or_left, never, never_some, some_is, falls_to, open_done}
+use Rattle.arj_disk_law.specs.State.{State, Packed, Plan, Hold, decided, undecided, target, list_after, last, last_entry, Listed, IsExcused}
+use Rattle.arj_disk_law.specs.Words.{has}
+use Rattle.arj_disk_law.proofs.Base.{bool_cases, test_cases, differs, or_left, never, never_some, some_is, falls_to}
 use Rattle.arj_disk_law.proofs.Entries.{pending_last}
-use Rattle.arj_disk_law.proofs.History.{known_last, last_known, effective_none, effective_open, in_decided}
+use Rattle.arj_disk_law.proofs.History.{effective_none, effective_open}
 use Rattle.arj_disk_law.proofs.Kin.{one_top, near, weaker_row, Kin, kin_granted, not_over}
 use Rattle.arj_disk_law.proofs.Listing.{find_true, list_from, list_lacks, list_same, list_is, same_list, plain_target}
 
@@ -22,12 +21,6 @@ unchanged_got p got l s same i goal = ⊎_elim
     (λ (g : got s ≡ true). g)
     (λ (g : got s ≡ false). absurd (never (subst (λ k. has s k ≡ true) (sym (same_list (list_after p got l) l same)) i) (list_lacks p got l s goal g)))
     (bool_cases (got s))
-
--- a known state is the first one, or what a decided top wrote
-known_cases : (first : Packed) (ds : List Done) (g : Packed) → KnownIn first ds g → (first ≡ g) ⊎ ((d : Done) × In d ds × (d.plan.writes ≡ Some g))
-known_cases first [] g k = inl k
-known_cases first (d ∷ ds) g (inl e) = inr (d, inl refl, e)
-known_cases first (d ∷ ds) g (inr k) = ⊎_elim (λ (e : first ≡ g). inl e) (λ (x : (e : Done) × In e ds × (e.plan.writes ≡ Some g)). inr (x.0, inr x.1, x.2)) (known_cases first ds g k)
 
 -- a list has a number, or is empty
 some_or_none : (l : List ℕ) → ((s : ℕ) × (has s l ≡ true)) ⊎ ((s : ℕ) → has s l ≡ false)
@@ -127,39 +120,6 @@ module _ (A : Office) (c : Named A) (t : ℕ) (may : MayConfirm A t) (present : 
       (λ (x : IsExcused S z s). unexcused x)
       (core.covered.stores z s cz (inl uz) wrote (inr listed))
 
-  -- with such a store the version that it wrote is the next one
-  pub next_by_store : undecided S t ≡ true → (s : ℕ) (w : Packed) → (S.plan t).writes ≡ Some w → has s (last_entry S).content ≡ true → S.got t s ≡ true → w.version ≡ (last S).version + 1
-  next_by_store u s w e listed got = by (subst (Below (last S)) state (core.forms.below s (hold S t) (last S) prepared held))
-    where
-      prepared : S.pend s ≡ Some (hold S t)
-      prepared = core.firm.kept t s u got
-
-      held : S.held s ≡ Some (last S)
-      held = sym (effective_open (decided S) Some (S.pend s) (hold S t) (S.held s) prepared (open_done (decided S t) (S.stage t) (S.intent t) u)) ∙ core.effective.store s listed
-
-      state : state_for (S.plan t) ≡ w
-      state = ap (λ o. unwrap_or o (S.plan t).loaded) e
-
-      based : IsBased S w
-      based = c.plans.based t w begun e
-
-      low : Below based.base (last S) → based.base.version ≤ (last S).version
-      low (inl less) = omega (arith, less)
-      low (inr is) = omega (arith, ap (λ (x : Packed). x.version) is)
-
-      by : Below (last S) w → w.version ≡ (last S).version + 1
-      by (inl less) = omega (arith, less, based.above, low (known_last S.first S.tops based.base core.history.chain based.known))
-      by (inr is) = absurd (new (known_cases S.first S.tops (last S) (last_known S.first S.tops)))
-        where
-          new : (S.first ≡ last S) ⊎ ((d : Done) × In d S.tops × (d.plan.writes ≡ Some (last S))) → ⊥
-          new (inl f) = (c.plans.writer t w begun e).1 (ap (λ (x : Packed). x.writer) (f ∙ is) ∙ (c.plans.writer t w begun e).0)
-          new (inr (d, i, wrote)) =
-              let done = in_decided S.tops d i in
-              let begun_d = ⊎_elim (λ (h : S.conf d.top ≡ true). core.fresh.conf d.top h) (λ (h : S.light d.top ≡ true). core.fresh.light d.top h) (core.coordinators.decided_taken d.top done) in
-              let writer = (c.plans.writer d.top (last S) begun_d (ap (λ (p : Plan). p.writes) (sym (core.journal.plan d i)) ∙ wrote)).0 in
-              let same = sym writer ∙ (ap (λ (x : Packed). x.writer) is ∙ (c.plans.writer t w begun e).0) in
-              never (ap (decided S) (sym same) ∙ done) (open_done (decided S t) (S.stage t) (S.intent t) u)
-
   -- what it includes is the last state, and then it is alone
   pub loaded : HasPart (S.plan t) → undecided S t ≡ true → (s : ℕ) → has s (S.plan t).joins ≡ true → ((S.plan t).loaded ≡ last S) × ((z : ℕ) → S.conf z ≡ true → undecided S z ≡ true → z ≡ t)
   loaded part u s j = c.plans.loaded t s u j (now_present part u)
@@ -195,8 +155,8 @@ module _ (A : Office) (c : Named A) (t : ℕ) (may : MayConfirm A t) (present : 
       by none z cz uz (Some w) e = alone none z cz uz (ap is_some e)
 
   -- a writer whose list stays
-  pub agree_locked : is_some (S.plan t).writes ≡ true → bytes_eq (new_list S t) S.entry.content ≡ true → undecided S t ≡ true → Locked S t
-  agree_locked wrote same u = locked_from part u (λ none z cz uz wz. alone z cz uz wz S.entry_pend refl) (λ w e. next w e S.entry_pend refl)
+  pub agree_locked : is_some (S.plan t).writes ≡ true → bytes_eq (new_list S t) S.entry.content ≡ true → IsNext S t → undecided S t ≡ true → Locked S t
+  agree_locked wrote same next u = locked_from part u (λ none z cz uz wz. alone z cz uz wz S.entry_pend refl) (next u)
     where
       part : HasPart (S.plan t)
       part = inl wrote
@@ -228,16 +188,6 @@ module _ (A : Office) (c : Named A) (t : ℕ) (may : MayConfirm A t) (present : 
 
       only : (h : Hold) → S.entry_pend ≡ Some h → decided S h.top ≡ false → (k : Hold) → S.entry_pend ≡ Some k → decided S k.top ≡ false
       only h p n k q = ap (λ (x : Hold). decided S x.top) (some_is q p) ∙ n
-
-      next : (w : Packed) → (S.plan t).writes ≡ Some w → (o : Option Hold) → S.entry_pend ≡ o → w.version ≡ (last S).version + 1
-      next w e None p = let x = held_store (λ h q. absurd (never_some q p)) in next_by_store u core.pending.held.0 w e x.0 x.1
-      next w e (Some h) p = ⊎_elim
-          (λ (d : decided S h.top ≡ true).
-          let s = core.pending.stores h p in
-          let l = subst (λ (y : Packed). has s.0 y.content ≡ true) (pending_last S h p d core) s.1 in
-          next_by_store u s.0 w e l (of_pending h s.0 p s.1 (inr l)))
-          (λ (d : decided S h.top ≡ false). let x = held_store (only h p d) in next_by_store u core.pending.held.0 w e x.0 x.1)
-          (bool_cases (decided S h.top))
 
       alone : (z : ℕ) → S.conf z ≡ true → undecided S z ≡ true → is_some (S.plan z).writes ≡ true → (o : Option Hold) → S.entry_pend ≡ o → ⊥
       alone z cz uz wz None p = let x = held_store (λ h q. absurd (never_some q p)) in by_store part u z core.pending.held.0 cz uz wz x.0 x.1 (λ y. never_some y.there p)
@@ -278,28 +228,14 @@ module _ (A : Office) (c : Named A) (t : ℕ) (may : MayConfirm A t) (present : 
 
   -- a top with a new entry
   pub enter_locked : S.entry_pend ≡ None → HasPart (S.plan t) → (s : ℕ) × (has s (new_list S t) ≡ true)
-      → (undecided S t ≡ true → (w : Packed) (s : ℕ) → (S.plan t).writes ≡ Some w → has s (S.plan t).joins ≡ true → w.version ≡ (S.plan t).loaded.version + 1) → undecided S t ≡ true → Locked S t
-  enter_locked free part stores corner u = locked_from part u alone next
+      → IsNext S t → undecided S t ≡ true → Locked S t
+  enter_locked free part stores next u = locked_from part u alone (next u)
     where
       is_last : S.entry ≡ last_entry S
       is_last = sym (effective_none (decided S) (λ (e : Packed). e) S.entry_pend S.entry free) ∙ core.effective.entry
 
       listed : (s : ℕ) → has s S.entry.content ≡ true → has s (last_entry S).content ≡ true
       listed s i = subst (λ (e : Packed). has s e.content ≡ true) is_last i
-
-      next : (w : Packed) → (S.plan t).writes ≡ Some w → w.version ≡ (last S).version + 1
-      next w e = ⊎_elim
-          (λ (x : (s : ℕ) × (has s S.entry.content ≡ true) × (S.got t s ≡ true)). next_by_store u x.0 w e (listed x.0 x.1) x.2)
-          (λ (none : (s : ℕ) → has s S.entry.content ≡ true → S.got t s ≡ false). by none (list_from (S.plan t) (S.got t) S.entry.content stores.0 stores.1))
-          (find_true (S.got t) S.entry.content)
-        where
-          -- a store of the new list that the entry hasn't is included, with the last state
-          by : ((s : ℕ) → has s S.entry.content ≡ true → S.got t s ≡ false) → ((has stores.0 S.entry.content ≡ true) × (target (S.plan t) stores.0 ≡ true → S.got t stores.0 ≡ true)) ⊎ ((has stores.0 (S.plan t).joins ≡ true) × (S.got t stores.0 ≡ true)) → w.version ≡ (last S).version + 1
-          by none (inr y) = corner u w stores.0 e y.0 ∙ ap (λ (g : Packed). g.version + 1) (loaded part u stores.0 y.0).0
-          by none (inl y) = absurd (⊎_elim
-              (λ (g : target (S.plan t) stores.0 ≡ true). never (y.1 g) (none stores.0 y.0))
-              (λ (z : IsLeaving S.root (decided S) S.entry_pend (S.root t) stores.0). never_some z.there free)
-              (wide part u stores.0 (ap is_some e) (inl y.0)))
 
       alone : ((s : ℕ) → has s (S.plan t).joins ≡ false) → (z : ℕ) → S.conf z ≡ true → undecided S z ≡ true → is_some (S.plan z).writes ≡ true → ⊥
       alone none z cz uz wz = from (list_from (S.plan t) (S.got t) S.entry.content stores.0 stores.1)

@@ -65,7 +65,6 @@ module _ (S : State) (N : Names) (sent : List Message) (g : ℕ → Stage) (i : 
 
     pub calm_plans : Plans S N → Plans V N
     calm_plans c = record {
-      based = c.based;
       writer = c.writer;
       asked = c.asked;
       loaded = λ t s u j p. let y = c.loaded t s (falls t u) j p in (y.0, λ z x v. y.1 z x (falls z v));

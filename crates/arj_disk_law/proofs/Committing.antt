@@ -348,7 +348,6 @@ module _ (A : Office) (c : Named A) (t : ℕ) (x : Allowed A.world (Effects.Deci
         };
         answers = λ a m. answer a (c.answers a m);
         plans = record {
-          based = λ a w b e. let y = c.plans.based a w b e in record { base = y.base; known = inr y.known; above = y.above };
           writer = c.plans.writer;
           asked = λ a s b j. let y = c.plans.asked a s b j in (y.0, more a y.0 y.1, y.2);
           loaded = λ a s u j p. let y = c.plans.loaded a s (falls a u) j (present a p) in (y.0 ∙ same a u y.1, λ z cz uz. y.1 z cz (falls z uz));

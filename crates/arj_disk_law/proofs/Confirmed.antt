@@ -73,7 +73,6 @@ module _ (A : Office) (c : Named A) (t : ℕ) (may : MayConfirm A t) (present : 
 
   plans_conf : HasPart (S.plan t) → (o : Option Hold) → Plans (record S { conf = marked S t S.conf; entry_pend = o }) M
   plans_conf part o = record {
-    based = c.plans.based;
     writer = c.plans.writer;
     asked = c.plans.asked;
     loaded = λ x s u j p.
@@ -95,7 +94,7 @@ can_agree A t may c = record {
   same = may.same;
   unlisted = may.confirm.unlisted;
   clear = clear A c t may.confirm (λ p. may.present);
-  locked = agree_locked A c t may.confirm (λ p. may.present) may.writes may.same;
+  locked = agree_locked A c t may.confirm (λ p. may.present) may.writes may.same may.next;
 }
 
 pub can_pass : (A : Office) (t : ℕ) → MayPass A t → Named A → CanPass A.world t
@@ -119,7 +118,7 @@ can_enter A t may c =
       stores = may.stores;
       undone = undone A c t may.confirm (λ p. may.present) part;
       unlisted = may.confirm.unlisted;
-      locked = enter_locked A c t may.confirm (λ p. may.present) free part may.stores may.corner;
+      locked = enter_locked A c t may.confirm (λ p. may.present) free part may.stores may.next;
     }
 
 pub agreed_named : (A : Office) (t : ℕ) → MayAgree A t → Named A → Named (acted A (Do (Effects.Agree t)))
@@ -254,7 +253,7 @@ passed_named A t may c = record {
         (marked_cases V t V.light x l);
   };
   answers = λ a m. answer a (c.answers a m);
-  plans = record { based = c.plans.based; writer = c.plans.writer; asked = c.plans.asked; loaded = c.plans.loaded };
+  plans = record { writer = c.plans.writer; asked = c.plans.asked; loaded = c.plans.loaded };
 }
   where
     V : State

@@ -183,7 +183,7 @@ module _ (A : Office) (t : ℕ) (commits : Bool) (may : MayEndTop A t commits) (
     };
     lists = record { had = c.lists.had; kept = λ h k e p u. c.lists.kept h k e p (old h u); plan = c.lists.plan; light = c.lists.light };
     answers = λ a i. answer a (c.answers a i);
-    plans = record { based = c.plans.based; writer = c.plans.writer; asked = λ x s b j. let y = c.plans.asked x s b j in (y.0, y.1, λ e u. y.2 e (old x u)); loaded = c.plans.loaded };
+    plans = record { writer = c.plans.writer; asked = λ x s b j. let y = c.plans.asked x s b j in (y.0, y.1, λ e u. y.2 e (old x u)); loaded = c.plans.loaded };
   }
     where
       answer : (a : Answer) → AnswerMeans S N a → AnswerMeans S M a
@@ -266,7 +266,7 @@ module _ (A : Office) (r : ℕ) (may : MayEndSerial A r) (c : Named A) where
     };
     lists = record { had = c.lists.had; kept = λ h k e p u. c.lists.kept h k e p (was h u); plan = c.lists.plan; light = c.lists.light };
     answers = λ a i. answer a (c.answers a i);
-    plans = record { based = c.plans.based; writer = c.plans.writer; asked = λ x s b j. let y = c.plans.asked x s b j in (y.0, y.1, λ e u. y.2 e (was x u)); loaded = c.plans.loaded };
+    plans = record { writer = c.plans.writer; asked = λ x s b j. let y = c.plans.asked x s b j in (y.0, y.1, λ e u. y.2 e (was x u)); loaded = c.plans.loaded };
   }
     where
       answer : (a : Answer) → AnswerMeans S2 N2 a → AnswerMeans S2 M2 a

@@ -111,7 +111,6 @@ module _ (S : State) (N : Names) (t m : ℕ) (asked : ℕ → Bool)
 
     pub locked_plans : ((x : ℕ) → N.asked x ≡ true → asked x ≡ true) → Plans S N → Plans S Locked
     locked_plans stays c = record {
-      based = c.based;
       writer = c.writer;
       asked = λ x s b j. let y = c.asked x s b j in (y.0, y.1, λ e u. stays x (y.2 e u));
       loaded = c.loaded;
@@ -293,7 +292,7 @@ unbind_named A c = record {
   grants = c.grants;
   lists = c.lists;
   answers = λ a i. by a (c.answers a i);
-  plans = record { based = c.plans.based; writer = c.plans.writer; asked = c.plans.asked; loaded = c.plans.loaded };
+  plans = record { writer = c.plans.writer; asked = c.plans.asked; loaded = c.plans.loaded };
 }
   where
     by : (a : Answer) → AnswerMeans A.world.disk A.names a → AnswerMeans A.world.disk (acted A Unbind).names a
@@ -329,7 +328,7 @@ lower_named A t may c = record {
   };
   lists = c.lists;
   answers = λ a i. by a (c.answers a i);
-  plans = record { based = c.plans.based; writer = c.plans.writer; asked = c.plans.asked; loaded = c.plans.loaded };
+  plans = record { writer = c.plans.writer; asked = c.plans.asked; loaded = c.plans.loaded };
 }
   where
     S : State

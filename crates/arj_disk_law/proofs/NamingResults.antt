@@ -18,8 +18,8 @@ stops_stay_named A acts n r c = runs_keep A (take n acts) (front_runs A n acts r
 
 pub booked : (A : Office) → Named A → IsBooked A
 booked A c = record {
-  agrees = λ t may u. agree_locked A c t may.confirm (λ p. may.present) may.writes may.same u;
-  enters = λ t may u. enter_locked A c t may.confirm (λ p. may.present) (enter_free A c t may.confirm (λ p. may.present) may.other) (changes_part A c t may.confirm (λ p. may.present) may.other) may.stores may.corner u;
+  agrees = λ t may u. agree_locked A c t may.confirm (λ p. may.present) may.writes may.same may.next u;
+  enters = λ t may u. enter_locked A c t may.confirm (λ p. may.present) (enter_free A c t may.confirm (λ p. may.present) may.other) (changes_part A c t may.confirm (λ p. may.present) may.other) may.stores may.next u;
   prepares = λ t may. enter_free A c t may.confirm (λ p. may.present) may.other;
 }
 
@@ -77,7 +77,6 @@ first_is_named S N f forest n = record {
   };
   answers = λ a m. absurd (subst (In a) n.answers m);
   plans = record {
-    based = λ t w b. no_way b (f.unbegun t);
     writer = λ t w b. no_way b (f.unbegun t);
     asked = λ t s b. no_way b (f.unbegun t);
     loaded = λ t s u. absurd (closed t u);

@@ -4,7 +4,6 @@ use Rattle.arj_disk_law.specs.Core.{Core}
 use Rattle.arj_disk_law.specs.Effects
 use Rattle.arj_disk_law.specs.Effects.{World, Whole, CanBegin, changed}
 use Rattle.arj_disk_law.specs.Guards.{IsUntold, IsPresent, HasPart, MayBegin}
-use Rattle.arj_disk_law.specs.Laws.{IsBased}
 use Rattle.arj_disk_law.specs.Messages.{IsOver}
 use Rattle.arj_disk_law.specs.Named.{Named, IsHeld, IsLeaving, IsWide, IsLoad, AnswerMeans}
 use Rattle.arj_disk_law.specs.Names.{Names, Office, Kept, Answer, Bound, Loaded, acted, Do, load_of, newer, written_in}
@@ -74,7 +73,6 @@ begun_named A t p may c = record {
   };
   answers = λ a m. answer a (c.answers a m);
   plans = record {
-    based = λ x w b. put_cases (λ (q : Plan). q.writes ≡ Some w → IsBased S w) t p S.plan x (λ e h. may.based w h) (λ e h. c.plans.based x w (begun_old x e b) h);
     writer = λ x w b. put_cases (λ (q : Plan). q.writes ≡ Some w → (w.writer ≡ x) × (S.first.writer ≡ x → ⊥)) t p S.plan x
         (λ e h. let y = may.writer w h in (y.0 ∙ sym e, λ f. y.1 (f ∙ e)))
         (λ e h. c.plans.writer x w (begun_old x e b) h);

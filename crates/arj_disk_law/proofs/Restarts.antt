@@ -90,7 +90,6 @@ restart_named A yes_again may c = record {
   };
   answers = λ a i. answer a (c.answers a i);
   plans = record {
-    based = c.plans.based;
     writer = c.plans.writer;
     asked = λ t s b j. let y = c.plans.asked t s b j in (y.0, y.1, λ e. absurd (past t y.0 y.1 e));
     loaded = λ t s u j p. let y = c.plans.asked t s (open_begun S core t u) j in absurd (past t y.0 y.1 (p y.0 (inl y.1)));
@@ -167,7 +166,6 @@ hear_named A t i b l may c = record {
   };
   answers = λ a m. answer a (c.answers a m);
   plans = record {
-    based = c.plans.based;
     writer = c.plans.writer;
     asked = λ x s y j. let z = c.plans.asked x s y j in (z.0, put2_rises t i N.had x z.0 z.1, z.2);
     loaded = λ x s u j p. c.plans.loaded x s u j (present x p);

@@ -2,7 +2,6 @@
 use Rattle.std.proofs.Common.{◌≡◌, ◌⊎◌, ℕ, [], ◌∷◌, true, false, ◌==◌, ◌||◌, Option, Some, refl, sym, subst, inl, inr, ⊎_elim, arith, le_refl}
 use Rattle.std.proofs.lemmas.Bool.Decides.{nat_tests}
 use Rattle.arj_disk_law.specs.Guards.{Runs}
-use Rattle.arj_disk_law.specs.Laws.{BasedIn}
 use Rattle.arj_disk_law.specs.Messages.{Acked}
 use Rattle.arj_disk_law.specs.Samples.{first_office, serial_office, zero_state, state_by, in_doubt, recorded, without_three, first_constituent, excluding, stopped_before, stopped_after, naming_restarts, excluded, removed, including, serializing, retaining}
 use Rattle.arj_disk_law.specs.State.{Packed, Hold, Below, undecided}
@@ -38,7 +37,7 @@ excluding_runs = (
       (
         record { held = refl; had = refl; clear = λ a h e. cc },
         (
-          record { idle = refl; root = refl; top = refl; first = λ z e. refl; based = λ w e. some_that e (λ x. BasedIn zero_state [] x) (record { base = zero_state; known = refl; above = refl }); writer = λ w e. some_that e (λ x. (x.writer ≡ 5) × (zero_state.writer ≡ 5 → ⊥)) (refl, λ n. cc); list = λ w. (1, inl refl, λ q. (5, inl refl, record { since = 1; list = 2 ∷ 3 ∷ [] }, refl, λ s i. i)); loaded = λ s j. cc },
+          record { idle = refl; root = refl; top = refl; first = λ z e. refl; writer = λ w e. some_that e (λ x. (x.writer ≡ 5) × (zero_state.writer ≡ 5 → ⊥)) (refl, λ n. cc); list = λ w. (1, inl refl, λ q. (5, inl refl, record { since = 1; list = 2 ∷ 3 ∷ [] }, refl, λ s i. i)); loaded = λ s j. cc },
           (
             ((refl, refl), tt),
             (
@@ -56,7 +55,7 @@ excluding_runs = (
                         (
                           record { top = refl; free = λ h n e less. grind (arith, nat_tests) },
                           (
-                            record { confirm = record { asked = inl refl; new = refl; fresh = λ w z. ⊎_elim (λ q. cc q) (λ q. cc q) z; untold = (refl, refl); unlisted = λ s j. cc; exclude = λ s t g l. (1, refl, le_refl 1) }; present = record { own = λ i h. grind (arith, nat_tests); all = λ u i h. grind (arith, nat_tests) }; other = refl; stores = (2, refl); corner = λ u w s e j. cc },
+                            record { confirm = record { asked = inl refl; new = refl; fresh = λ w z. ⊎_elim (λ q. cc q) (λ q. cc q) z; untold = (refl, refl); unlisted = λ s j. cc; exclude = λ s t g l. (1, refl, le_refl 1) }; present = record { own = λ i h. grind (arith, nat_tests); all = λ u i h. grind (arith, nat_tests) }; other = refl; stores = (2, refl); next = λ u w e. some_that e (λ x. x.version ≡ 1) refl },
                             (
                               ((inl refl, λ u. inl refl), tt),
                               tt,
@@ -198,7 +197,7 @@ including_runs = (
     (
       record { answered = inl refl; listed = refl; free = refl; held = refl },
       (
-        record { idle = refl; root = refl; top = refl; first = λ z e. grind (arith, nat_tests); based = λ w e. cc; writer = λ w e. cc; list = λ w. cc; loaded = λ s j. (1, state_by 1 5, inl refl, refl, refl) },
+        record { idle = refl; root = refl; top = refl; first = λ z e. grind (arith, nat_tests); writer = λ w e. cc; list = λ w. cc; loaded = λ s j. (1, state_by 1 5, inl refl, refl, refl) },
         (
           ((refl, refl), tt),
           (
@@ -212,7 +211,7 @@ including_runs = (
                   (
                     (refl, tt),
                     (
-                      record { confirm = record { asked = inl refl; new = refl; fresh = λ w z. ⊎_elim (λ q. cc q) (λ q. cc q) z; untold = (refl, refl); unlisted = λ s j. grind (arith, nat_tests); exclude = λ s t g l. (2, refl, omega arith) }; present = record { own = λ i h. grind (arith, nat_tests); all = λ u i h. grind (arith, nat_tests) }; other = refl; stores = (3, refl); corner = λ u w s e j. cc },
+                      record { confirm = record { asked = inl refl; new = refl; fresh = λ w z. ⊎_elim (λ q. cc q) (λ q. cc q) z; untold = (refl, refl); unlisted = λ s j. grind (arith, nat_tests); exclude = λ s t g l. (2, refl, omega arith) }; present = record { own = λ i h. grind (arith, nat_tests); all = λ u i h. grind (arith, nat_tests) }; other = refl; stores = (3, refl); next = λ u w e. cc },
                       (
                         ((inl refl, λ u. inl refl), tt),
                         (
@@ -257,7 +256,7 @@ serializing_runs = (
       (
         record { held = refl; had = refl; clear = λ a h e. cc },
         (
-          record { idle = refl; root = refl; top = refl; first = λ z e. refl; based = λ w e. some_that e (λ x. BasedIn zero_state [] x) (record { base = zero_state; known = refl; above = refl }); writer = λ w e. some_that e (λ x. (x.writer ≡ 6) × (zero_state.writer ≡ 6 → ⊥)) (refl, λ n. cc); list = λ w. (1, inl refl, λ q. (6, inl refl, record { since = 1; list = 2 ∷ 3 ∷ [] }, refl, λ s i. i)); loaded = λ s j. cc },
+          record { idle = refl; root = refl; top = refl; first = λ z e. refl; writer = λ w e. some_that e (λ x. (x.writer ≡ 6) × (zero_state.writer ≡ 6 → ⊥)) (refl, λ n. cc); list = λ w. (1, inl refl, λ q. (6, inl refl, record { since = 1; list = 2 ∷ 3 ∷ [] }, refl, λ s i. i)); loaded = λ s j. cc },
           (
             ((refl, refl), tt),
             (
@@ -279,7 +278,7 @@ serializing_runs = (
                             (
                               (refl, tt),
                               (
-                                record { confirm = record { asked = inl refl; new = refl; fresh = λ w z. ⊎_elim (λ q. cc q) (λ q. cc q) z; untold = (refl, refl); unlisted = λ s j. cc; exclude = λ s t g l. absurd (grind (arith, nat_tests)) }; present = record { own = λ i h. grind (arith, nat_tests); all = λ u i h. grind (arith, nat_tests) }; writes = refl; same = refl },
+                                record { confirm = record { asked = inl refl; new = refl; fresh = λ w z. ⊎_elim (λ q. cc q) (λ q. cc q) z; untold = (refl, refl); unlisted = λ s j. cc; exclude = λ s t g l. absurd (grind (arith, nat_tests)) }; present = record { own = λ i h. grind (arith, nat_tests); all = λ u i h. grind (arith, nat_tests) }; writes = refl; same = refl; next = λ u w e. some_that e (λ x. x.version ≡ 1) refl },
                                 (
                                   ((inl refl, λ u. inl refl), tt),
                                   (
@@ -327,7 +326,7 @@ serializing_runs = (
 
 pub retaining_runs : Runs first_constituent retaining
 retaining_runs = (
-  record { idle = refl; root = refl; top = refl; first = λ z e. grind (arith, nat_tests); based = λ w e. some_that e (λ x. BasedIn zero_state first_constituent.world.disk.tops x) (record { base = state_by 1 6; known = inl refl; above = refl }); writer = λ w e. some_that e (λ x. (x.writer ≡ 7) × (zero_state.writer ≡ 7 → ⊥)) (refl, λ n. cc); list = λ w. (1, inr refl, λ q. (9, inr refl, record { since = 1; list = 2 ∷ 3 ∷ [] }, refl, λ s i. i)); loaded = λ s j. cc },
+  record { idle = refl; root = refl; top = refl; first = λ z e. grind (arith, nat_tests); writer = λ w e. some_that e (λ x. (x.writer ≡ 7) × (zero_state.writer ≡ 7 → ⊥)) (refl, λ n. cc); list = λ w. (1, inr refl, λ q. (9, inr refl, record { since = 1; list = 2 ∷ 3 ∷ [] }, refl, λ s i. i)); loaded = λ s j. cc },
   (
     ((refl, refl), tt),
     (
@@ -349,7 +348,7 @@ retaining_runs = (
                     (
                       (refl, tt),
                       (
-                        record { confirm = record { asked = inl refl; new = refl; fresh = λ w z. ⊎_elim (λ q. cc q) (λ q. cc q) z; untold = (refl, refl); unlisted = λ s j. cc; exclude = λ s t g l. absurd (grind (arith, nat_tests)) }; present = record { own = λ i h. grind (arith, nat_tests); all = λ u i h. grind (arith, nat_tests) }; writes = refl; same = refl },
+                        record { confirm = record { asked = inl refl; new = refl; fresh = λ w z. ⊎_elim (λ q. cc q) (λ q. cc q) z; untold = (refl, refl); unlisted = λ s j. cc; exclude = λ s t g l. absurd (grind (arith, nat_tests)) }; present = record { own = λ i h. grind (arith, nat_tests); all = λ u i h. grind (arith, nat_tests) }; writes = refl; same = refl; next = λ u w e. some_that e (λ x. x.version ≡ 2) refl },
                         (
                           ((inl refl, λ u. inl refl), tt),
                           (

@@ -1,10 +1,9 @@
 -- What the naming node, and the coordinators towards it, look at before an act.
 use Rattle.std.specs.Prelude.{◌≡◌, ◌⊎◌, ℕ, ◌+◌, ◌≤◌, ◌==◌, ◌||◌, not, List, [], ◌∷◌, Bool, true, false, Some, None, is_some, bytes_eq, ⊤}
 use Rattle.arj_disk_law.specs.Effects.{Effect, Begin, Take, Seal, Intend, Decide, Remove, EndBare, Halt, Keep, Move, Finish, Drop, Agree, Pass, Enter, MoveEntry, FinishEntry, DropEntry, Forget, Send, Allowed, MaySend, IsNot, IsUnlisted, NoneIsListed, new_list}
-use Rattle.arj_disk_law.specs.Laws.{IsBased}
 use Rattle.arj_disk_law.specs.Messages.{Message, Prepare, Prepared, Confirm, Confirmed, ToldCommit, ToldBare, ToldAbort, Acked, ToldSerial}
 use Rattle.arj_disk_law.specs.Names.{Names, Office, Kept, Bound, Loaded, Act, Do, Commit, CommitBare, Read, Write, Exclude, Lower, Unbind, EndTop, EndSerial, Restart, Hear, KeepList, AnswerLoad, acted, load_of}
-use Rattle.arj_disk_law.specs.State.{State, Packed, Plan, Hold, Idle, naming, is_gone, undecided, target}
+use Rattle.arj_disk_law.specs.State.{State, Packed, Plan, Hold, Idle, naming, is_gone, last, undecided, target}
 use Rattle.arj_disk_law.specs.Words.{has, In}
 
 -- the holder has a lock of at least this mode
@@ -36,15 +35,13 @@ abbrev pub MayExclude : State → Names → ℕ → Type 0
 MayExclude S N t = (s : ℕ) → target (S.plan t) s ≡ true → S.got t s ≡ false
     → (has s S.entry.content ≡ true) ⊎ ((h : Hold) × (S.entry_pend ≡ Some h) × (has s h.new.content ≡ true)) → HasRow N t 1
 
--- A commit begins: none of its root's outcomes is open; what it wrote is one version above a known state, by a new writer;
--- its list has each store of the kept one, as long as its grants are of the present incarnation; what it includes was loaded, or
+-- A commit begins: none of its root's outcomes is open; what it wrote is by a new writer; its list has each store of the kept one, as long as its grants are of the present incarnation; what it includes was loaded, or
 -- its root has it newer.
 pub record MayBegin (A : Office) (t : ℕ) (p : Plan) : Type 0 where
   pub idle : A.world.disk.stage t ≡ Idle
   pub root : is_gone (A.world.disk.stage (A.world.disk.root t)) ≡ false
   pub top : A.world.disk.serial t ≡ false
   pub first : (z : ℕ) → A.world.disk.root z ≡ A.world.disk.root t → undecided A.world.disk z ≡ false
-  pub based : (w : Packed) → p.writes ≡ Some w → IsBased A.world.disk w
   pub writer : (w : Packed) → p.writes ≡ Some w → (w.writer ≡ t) × (A.world.disk.first.writer ≡ t → ⊥)
   pub list : is_some p.writes ≡ true → (i : ℕ) × ((A.names.had t i ≡ true) ⊎ (A.names.had (A.world.disk.root t) i ≡ true))
       × (IsPresent A.world.disk A.names t → (h : ℕ) × ((h ≡ t) ⊎ (h ≡ A.world.disk.root t)) × (k : Kept) × (A.names.kept h ≡ Some k) × ((s : ℕ) → has s k.list ≡ true → has s p.list ≡ true))
@@ -55,6 +52,10 @@ pub record MayBegin (A : Office) (t : ℕ) (p : Plan) : Type 0 where
 pub record HasPresent (S : State) (N : Names) (t : ℕ) : Type 0 where
   pub own : (i : ℕ) → N.had t i ≡ true → i ≡ N.inc
   pub all : undecided S t ≡ true → IsPresent S N t
+
+-- What the servers' locks give: what the top wrote is one version above the last state, while its outcome is open.
+abbrev pub IsNext : State → ℕ → Type 0
+IsNext S t = undecided S t ≡ true → (w : Packed) → (S.plan t).writes ≡ Some w → w.version ≡ (last S).version + 1
 
 -- what a confirmation looks at in each case: a top with a part in the object wasn't confirmed before
 pub record MayConfirm (A : Office) (t : ℕ) : Type 0 where
@@ -72,6 +73,7 @@ pub record MayAgree (A : Office) (t : ℕ) : Type 0 where
   pub present : HasPresent A.world.disk A.names t
   pub writes : is_some (A.world.disk.plan t).writes ≡ true
   pub same : bytes_eq (new_list A.world.disk t) A.world.disk.entry.content ≡ true
+  pub next : IsNext A.world.disk t
 
 -- A Confirm may pass that changes nothing of the entry: its top wrote nothing, no store took a state of it, and it includes none that is listed.
 pub record MayPass (A : Office) (t : ℕ) : Type 0 where
@@ -81,14 +83,13 @@ pub record MayPass (A : Office) (t : ℕ) : Type 0 where
   pub none : (s : ℕ) → A.world.disk.got t s ≡ false
   pub idle : NoneIsListed A.world.disk t
 
--- The last condition is what the servers give where the top wrote and includes a store: while its outcome is open, its state is one
--- version above the one that it loaded.
+-- A Confirm may enter that changes the list, where the new one has a store.
 pub record MayEnter (A : Office) (t : ℕ) : Type 0 where
   pub confirm : MayConfirm A t
   pub present : HasPresent A.world.disk A.names t
   pub other : bytes_eq (new_list A.world.disk t) A.world.disk.entry.content ≡ false
   pub stores : (s : ℕ) × (has s (new_list A.world.disk t) ≡ true)
-  pub corner : undecided A.world.disk t ≡ true → (w : Packed) (s : ℕ) → (A.world.disk.plan t).writes ≡ Some w → has s (A.world.disk.plan t).joins ≡ true → w.version ≡ (A.world.disk.plan t).loaded.version + 1
+  pub next : IsNext A.world.disk t
 
 -- who acknowledges at the naming node was told there
 abbrev pub IsToldFirst : Names → Message → Type 0

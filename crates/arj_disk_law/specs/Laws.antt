@@ -74,7 +74,7 @@ pub record VersionsCount (S : State) : Type 0 where
   pub state : (last S).version ≡ S.first.version + writes_in S.tops
   pub entry : (last_entry S).version ≡ S.first_entry.version + changes_in S.first_entry S.tops
 
--- A changed state is one version above a known one: what the servers give.
+-- A changed state is one version above a known one.
 pub record BasedIn (first : Packed) (tops : List Done) (w : Packed) : Type 0 where
   pub base : Packed
   pub known : KnownIn first tops base

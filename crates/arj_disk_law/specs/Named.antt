@@ -2,7 +2,6 @@
 use Rattle.std.specs.Prelude.{◌≡◌, ◌⊎◌, ℕ, ◌+◌, ◌≤◌, List, Bool, true, false, Option, Some, is_some}
 use Rattle.arj_disk_law.specs.Effects.{Whole}
 use Rattle.arj_disk_law.specs.Guards.{HasRow, IsUntold, IsPresent, HasPart}
-use Rattle.arj_disk_law.specs.Laws.{IsBased}
 use Rattle.arj_disk_law.specs.Messages.{Message, Acked, IsOver}
 use Rattle.arj_disk_law.specs.Names.{Names, Office, Kept, Answer, Bound, Loaded, load_of}
 use Rattle.arj_disk_law.specs.State.{State, Packed, Hold, naming, is_idle, is_gone, decided, undecided, lists, last, last_entry, Known, Listed}
@@ -87,11 +86,10 @@ AnswerMeans S N (Bound t i b l) = (S.serial t ≡ false) × (i ≤ N.inc) × (is
     → HasRow N t 0 × (N.given t ≡ false) × IsWide S (S.root t) l × (b ≡ true → (N.asked t ≡ true) × ((s : ℕ) → has s l ≡ true → has s (last_entry S).content ≡ true)))
 AnswerMeans S N (Loaded t i g) = (S.serial t ≡ false) × (i ≤ N.inc) × Known S g × (is_idle (S.stage t) ≡ true → i ≡ N.inc → IsUntold S N t → (N.asked t ≡ true) × IsLoad S t g)
 
--- What a commit counts on that has begun: its changed state is based on a known one, and new; what it includes was bound
+-- What a commit counts on that has begun: its changed state is new; what it includes was bound
 -- in an incarnation, and as long as that is the present one, the loaded state is the last, and nobody else is confirmed.
 abbrev pub Plans : State → Names → Type 0
 Plans S N = record {
-  based : (t : ℕ) (w : Packed) → S.begun t ≡ true → (S.plan t).writes ≡ Some w → IsBased S w;
   writer : (t : ℕ) (w : Packed) → S.begun t ≡ true → (S.plan t).writes ≡ Some w → (w.writer ≡ t) × (S.first.writer ≡ t → ⊥);
   asked : (t s : ℕ) → S.begun t ≡ true → has s (S.plan t).joins ≡ true → (i : ℕ) × (N.had t i ≡ true) × (i ≡ N.inc → IsUntold S N t → N.asked t ≡ true);
   loaded : (t s : ℕ) → undecided S t ≡ true → has s (S.plan t).joins ≡ true → IsPresent S N t → ((S.plan t).loaded ≡ last S) × ((z : ℕ) → S.conf z ≡ true → undecided S z ≡ true → z ≡ t);

@@ -60,7 +60,7 @@ abbrev pub PlainEffectsAreActs : Type 0
 PlainEffectsAreActs = (A : Office) (es : List Effect) → Follows A.world es → ArePlain es
     → Runs A (map Do es) × (end_of A (map Do es) ≡ record { world = run A.world es; names = A.names }) × ((run A.world es).disk.tops ≡ A.world.disk.tops)
 
--- The book of locks: what a confirmation counts on, from the naming node's half and the stores; and where it prepares a
+-- The book of locks: what a confirmation counts on, from the naming node's half and the stores, with the next version; and where it prepares a
 -- new entry, no other one is prepared, so that it is never refused.
 pub record IsBooked (A : Office) : Type 0 where
   pub agrees : (t : ℕ) → MayAgree A t → undecided A.world.disk t ≡ true → Locked A.world.disk t

@@ -14,9 +14,8 @@ pub fn naming_stays_whole()
     ensures plain { PlainEffectsAreActs }
 {}
 
-/// All that a confirmation counts on follows from the naming node's half and the stores, with no lock of a server: it is
-/// alone, its version is the next one, what it includes is the last state, and its list names each listed store. It does
-/// nothing when it runs.
+/// All that a confirmation counts on follows from the naming node's half and the stores, but for the next version, which servers
+/// give: it is alone, what it includes is the last state, and its list names each listed store. It does nothing when it runs.
 pub fn confirmations_are_booked()
     ensures booked { (A : Office) → Named A → IsBooked A }
     ensures old { (A : Office) → Named A → OldNeedsRestart A }

@@ -17,7 +17,7 @@ use Rattle.arj_protocol.specs.World.{Labelled, most_labels, numbered}
 use Rattle.arj_disk_law.specs.Core.{Chain}
 use Rattle.arj_disk_law.specs.Effects.{Whole}
 use Rattle.arj_disk_law.specs.Names.{Office}
-use Rattle.arj_disk_law.specs.State.{Done, KnownIn, Packed, decided, decided_in, last_in}
+use Rattle.arj_disk_law.specs.State.{Done, Known, KnownIn, Packed, decided, decided_in, last_in}
 use Rattle.arj_disk_law.specs.Words.{In}
 use Rattle.arj_disk_law.proofs.Base.{never, or_cases, or_left, test_same}
 use Rattle.std.proofs.lemmas.Slice.Eq.{bytes_eq-Decides}
@@ -37,8 +37,7 @@ use Rattle.arj_line_law.proofs.Books.{Sane, sane_lines, sane_new}
 use Rattle.arj_line_law.proofs.Tops.{is_sound}
 use Rattle.arj_run_law.proofs.Labels.{one_name}
 use Rattle.arj_disk_run_law.specs.Bindings.{HasFewLabels}
-use Rattle.arj_disk_run_law.specs.Decided.{AreOnce, NewTops, SeesDecided}
-use Rattle.arj_disk_run_law.specs.Versions.{IsKnownVersion, most_version}
+use Rattle.arj_disk_run_law.specs.Decided.{AreOnce, NewTops, SeesDecided, most_version}
 use Rattle.arj_disk_run_law.proofs.Grows.{called_later, in_both}
 
 -- ---- no more than places
@@ -186,11 +185,11 @@ module _ (x : ℕ) (tops : Kinds) (A : Office) (M : Seen) (both : SeesBoth x top
   few_acts = no_more IsItsLabel (book M.lines).acts M.labels (acts_apart (book M.lines).acts (subst AreDistinct (sym (let r = sound.reads in r.begun)) sound.distinct)) (labels_placed M.labels (book M.lines).acts written.labels)
 
   -- versions that were known are short
-  pub known_short : HasFewLabels M → (v : ℕ) → IsKnownVersion A.world.disk v → v < most_version
-  known_short few v (g, known, is) = short (length A.world.disk.tops) (length (book M.lines).acts) (length M.labels) g.version A.world.disk.first.version (known_low A.world.disk.first A.world.disk.tops (let c = whole.core in c.history.chain) g known) is its.first few_tops few_acts few
+  pub known_short : HasFewLabels M → (g : Packed) → Known A.world.disk g → g.version < most_version
+  known_short few g known = short (length A.world.disk.tops) (length (book M.lines).acts) (length M.labels) g.version A.world.disk.first.version (known_low A.world.disk.first A.world.disk.tops (let c = whole.core in c.history.chain) g known) its.first few_tops few_acts few
     where
-      short : (a b c w f : ℕ) → w ≤ f + a → w ≡ v → f ≡ 0 → a ≤ b → b ≤ c → c ≤ most_labels → v < most_version
-      short a b c w f low is none one two few = omega (arith, low, is, none, one, two, few)
+      short : (a b c v f : ℕ) → v ≤ f + a → f ≡ 0 → a ≤ b → b ≤ c → c ≤ most_labels → v < most_version
+      short a b c v f low none one two few = omega (arith, low, none, one, two, few)
 
 -- ---- along a step
 

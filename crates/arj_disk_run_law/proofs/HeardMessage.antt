@@ -33,7 +33,6 @@ use Rattle.arj_disk_run_law.specs.Heard.{ClaimsAsked, ClaimsGrants, SeesHeard}
 use Rattle.arj_disk_run_law.specs.Part.{HasHeard, HoldsAlong, HoldsFrom}
 use Rattle.arj_disk_run_law.specs.Sound.{IsOwnVote}
 use Rattle.arj_disk_run_law.specs.Decided.{AreCalled, AreOnce}
-use Rattle.arj_disk_run_law.specs.Versions.{HaveVersions, IsKnownVersion}
 use Rattle.arj_disk_run_law.specs.Rest.{GivesNaming, IsHeardAt, answers_commit}
 use Rattle.arj_disk_run_law.proofs.HeardAsk.{Served_by, ask_heard}
 use Rattle.arj_disk_run_law.proofs.HeardCalled.{heard_called}
@@ -116,7 +115,7 @@ heard_message x R runs gives tops e k d t v from m outs M A of at own free uses 
     by (Some b) asking =
         let mine : (n : Naming) → t.naming ≡ Some n → (k ≡ 1) × NamesOwn n = λ n named. ((let w = at.knows in w.naming_here n named).0, own n named) in
         let s : Served_by x tops e k d t v from m outs M (runs _ _ at.run).0 (runs _ _ at.run).1 mine b.0 b.1 sent asking A at.both at.heard (change_by x d t m) = ask_heard x tops e k d t v from m outs M (runs _ _ at.run).0 (runs _ _ at.run).1 mine b.0 b.1 sent asking A at.both at.heard is in
-        let now : IsHeardAt x R tops s.office (k, d, t) M = record { unwalked = at.unwalked; knows = at.knows; run = subst (λ (W : World). R W (up k d t M)) (sym (let z = s.only in z.world)) at.run; both = s.sees; heard = s.heard; versions = subst (λ (W : World). HaveVersions x (IsKnownVersion W.disk) (up k d t M)) (sym (let z = s.only in z.world)) at.versions; decided = (let q = at.decided in let same = sym (let z = s.only in z.world) in record { first = subst (λ (W : World). W.disk.first.version ≡ 0) same q.first; once = subst (λ (W : World). AreOnce W.disk.tops) same q.once; called = subst (λ (W : World). AreCalled M.lines W.disk.tops) same q.called }) } in (
+        let now : IsHeardAt x R tops s.office (k, d, t) M = record { unwalked = at.unwalked; knows = at.knows; run = subst (λ (W : World). R W (up k d t M)) (sym (let z = s.only in z.world)) at.run; both = s.sees; heard = s.heard; decided = (let q = at.decided in let same = sym (let z = s.only in z.world) in record { first = subst (λ (W : World). W.disk.first.version ≡ 0) same q.first; once = subst (λ (W : World). AreOnce W.disk.tops) same q.once; called = subst (λ (W : World). AreCalled M.lines W.disk.tops) same q.called }) } in (
           record { office = s.office; only = s.only; both = s.sees; along = s.along },
           like_goes_on x tops k d t M s.office at.knows s.sees v.coord s.like,
           λ n named. (may_record x R gives tops k d t n from m M s.office now sent named of free, for_grants x R gives tops k d t n from m M s.office now sent named of free),

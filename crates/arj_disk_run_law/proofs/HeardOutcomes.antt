@@ -54,7 +54,6 @@ use Rattle.arj_disk_run_law.specs.Sound.{IsOwnAnswer, IsOwnVote}
 use Rattle.arj_disk_run_law.proofs.Decisions.{goes_along}
 use Rattle.arj_disk_run_law.proofs.HeardDecisions.{heard_decided}
 use Rattle.arj_disk_run_law.proofs.HeardOther.{took_to}
-use Rattle.arj_disk_run_law.proofs.VersionWalks.{voted_based}
 use Rattle.arj_disk_run_law.proofs.HeardVotes.{heard_refused, heard_store, heard_vote}
 use Rattle.arj_disk_law.specs.Guards.{only_decides}
 use Rattle.arj_names_view_law.proofs.BareEnds.{none_ended}
@@ -176,7 +175,6 @@ module _ (x : ℕ) (tops : Kinds) (e k : ℕ) (d : Disk) (t : Parts) (M : Seen) 
   module _ (from : ℕ) (m : Message) (a : Asked) (posted : In (record { from = from; to = k; message = m }) M.sent) (own : IsOwnVote m) (act : a.act ≡ u) (R : World → Seen → Type 0) (at : IsHeardAt x R tops A (k, d, t) M) where
     heard_reply : (y : Machine) (r : Reply) → answers m ≡ Some (a, r) → q.now ≡ Committing y → reply_kind r ≡ ask_kind (ask_of y from) → waits_for_commit from a r y ≡ true → Goal (now_change x u t.coord (Committing y)) (moved_commit u (commit.answered from y r) d.intents t.coord)
     heard_reply (Voting p left) (Reply.Voted (voted.Yes states)) it now kd waits = heard_vote x tops e k d t M A good few knows both h u q at_work p left now from m a states posted it act (subst IsOwnAnswer it own)
-        (λ st found. voted_based x tops k d t M A at.versions u q p left at_work now from m a states posted it st found)
     heard_reply (Voting p left) (Reply.Voted (voted.Changed w)) it now kd waits = heard_refused x tops e k d t M A good few knows both h u q at_work (Voting p left) p (cause.Changed from (differs w)) now
     heard_reply (Voting p left) (Reply.Bound r) it now kd waits = absurd (cc kd)
     heard_reply (Voting p left) (Reply.Loaded r) it now kd waits = absurd (cc kd)

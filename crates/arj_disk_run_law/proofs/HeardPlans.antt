@@ -20,7 +20,6 @@ use Rattle.arj_part_law.proofs.GoodTrees.{found_by}
 use Rattle.arj_run_law.specs.Worlds.{IsGood}
 use Rattle.arj_call_law.specs.Runs.{KnowsFew}
 use Rattle.arj_disk_law.specs.Guards.{IsPresent}
-use Rattle.arj_disk_law.specs.Laws.{BasedIn, IsBased}
 use Rattle.arj_disk_law.specs.Names as machine
 use Rattle.arj_disk_law.specs.Names.{Kept, Office, load_of, newer, written_in}
 use Rattle.arj_disk_law.specs.State.{Packed, undecided}
@@ -177,9 +176,9 @@ module _ (x : ℕ) (tops : Kinds) (k : ℕ) (d : Disk) (t : Parts) (M : Seen) (A
 
 -- ---- a commit that may begin
 
--- A plan changes the object only as it called it, to a state that is based on one that was known, and of a new writer.
+-- A plan changes the object only as it called it, to a state of a new writer.
 abbrev pub MayChange : ℕ → Uid → commit.Plan → Office → Type 0
-MayChange x u q A = (w : Used) (st : ObjectState) → used_at x q.used ≡ Some w → changed_of x q ≡ Some st → (w.called ≡ true) × IsBased A.world.disk (packed st) × (st.writer ≡ u) × (A.world.disk.first.writer ≡ uid_number u → ⊥)
+MayChange x u q A = (w : Used) (st : ObjectState) → used_at x q.used ≡ Some w → changed_of x q ≡ Some st → (w.called ≡ true) × (st.writer ≡ u) × (A.world.disk.first.writer ≡ uid_number u → ⊥)
 
 -- By a plan that was seen while it voted the commit may begin, where no outcome of its root is open.
 pub begins_later : (x : ℕ) (tops : Kinds) (u : Uid) (p q : commit.Plan) (left : List ℕ) (A : Office) → A.world.disk.serial (uid_number u) ≡ false → SeesPlan x tops u (Voting p left) A → IsTidy p → q.used ≡ p.used
@@ -189,17 +188,16 @@ begins_later x tops u p q left A plain plan tidy used shut changes C named names
   root = can.root;
   top = ap (λ f. f (uid_number u)) later.serial ∙ plain;
   first = λ z of. falls_to (undecided C.world.disk z) (λ on. never (opens.opened z on) (shut z (ap (λ f. f z) (sym later.root) ∙ (of ∙ ap (λ f. f (uid_number u)) later.root))));
-  based = λ w is. let c = changed w is in subst (λ f. BasedIn f C.world.disk.tops w) (sym opens.first) (subst (λ ds. BasedIn A.world.disk.first ds w) (sym tops_are) (subst (IsBased A.world.disk) c.2 c.3.1));
-  writer = λ w is. let c = changed w is in (ap (λ (g : Packed). g.writer) (sym c.2) ∙ ap uid_number c.3.2, λ e. c.3.3 (ap (λ (g : Packed). g.writer) (sym opens.first) ∙ e));
+  writer = λ w is. let c = changed w is in (ap (λ (g : Packed). g.writer) (sym c.2) ∙ ap uid_number c.3.1, λ e. c.3.2 (ap (λ (g : Packed). g.writer) (sym opens.first) ∙ e));
   list = list_now;
   loaded = loaded_now;
 }
   where
     -- where it writes, what it uses and changes
-    changed : (w : Packed) → (let y = plan_at x q in y.writes) ≡ Some w → (y : Used) × (st : ObjectState) × (packed st ≡ w) × ((y.called ≡ true) × IsBased A.world.disk (packed st) × (st.writer ≡ u) × (A.world.disk.first.writer ≡ uid_number u → ⊥))
+    changed : (w : Packed) → (let y = plan_at x q in y.writes) ≡ Some w → (y : Used) × (st : ObjectState) × (packed st ≡ w) × ((y.called ≡ true) × (st.writer ≡ u) × (A.world.disk.first.writer ≡ uid_number u → ⊥))
     changed w is = by (used_at x q.used) (changed_of x q) refl refl is
       where
-        by : (o : Option Used) (c : Option ObjectState) → used_at x q.used ≡ o → changed_of x q ≡ c → (let y = plan_by o c in y.writes) ≡ Some w → (y : Used) × (st : ObjectState) × (packed st ≡ w) × ((y.called ≡ true) × IsBased A.world.disk (packed st) × (st.writer ≡ u) × (A.world.disk.first.writer ≡ uid_number u → ⊥))
+        by : (o : Option Used) (c : Option ObjectState) → used_at x q.used ≡ o → changed_of x q ≡ c → (let y = plan_by o c in y.writes) ≡ Some w → (y : Used) × (st : ObjectState) × (packed st ≡ w) × ((y.called ≡ true) × (st.writer ≡ u) × (A.world.disk.first.writer ≡ uid_number u → ⊥))
         by None c at found e = absurd (cc e)
         by (Some y) None at found e = absurd (cc e)
         by (Some y) (Some st) at found e = (y, st, some_is refl e, changes y st at found)

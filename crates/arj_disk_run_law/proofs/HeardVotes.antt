@@ -20,14 +20,13 @@ use Rattle.arj_part_law.proofs.GoodTrees.{found_by}
 use Rattle.arj_run_law.specs.Worlds.{IsGood}
 use Rattle.arj_call_law.specs.Runs.{KnowsFew}
 use Rattle.arj_call_law.proofs.WorldRuns.{votes_used}
-use Rattle.arj_disk_law.specs.Laws.{IsBased}
 use Rattle.arj_disk_law.specs.Names.{Office}
 use Rattle.arj_disk_law.specs.State as disk
 use Rattle.arj_disk_law.proofs.Base.{never, never_some, some_is}
 use Rattle.arj_view_law.specs.Seen.{In, Seen, up}
 use Rattle.arj_disk_view_law.specs.Coordinating.{IsBefore, KnowsNode}
 use Rattle.arj_disk_view_law.specs.Knows.{CommitsAt, KnowsMachine}
-use Rattle.arj_disk_view_law.specs.Pairs.{Among, packed}
+use Rattle.arj_disk_view_law.specs.Pairs.{Among}
 use Rattle.arj_disk_view_law.specs.Plans.{used_at}
 use Rattle.arj_disk_view_law.specs.Sees.{Kinds, SeesCoord}
 use Rattle.arj_disk_view_law.proofs.BeginWalks.{before_idle}
@@ -58,8 +57,7 @@ module _ (x : ℕ) (tops : Kinds) (e k : ℕ) (d : Disk) (t : Parts) (M : Seen) 
 
   -- ---- a vote
 
-  module _ (p : commit.Plan) (left : List ℕ) (now : q.now ≡ Committing (Voting p left)) (from : ℕ) (m : Message) (a : Asked) (states : List ObjectState) (posted : In (record { from = from; to = k; message = m }) M.sent) (answering : answers m ≡ Some (a, Reply.Voted (voted.Yes states))) (act : a.act ≡ u) (own : AreOwnStates a.act states)
-      (gives : (st : ObjectState) → changed_of x (record p { changed = with_states states p.changed }) ≡ Some st → IsBased A.world.disk (packed st)) where
+  module _ (p : commit.Plan) (left : List ℕ) (now : q.now ≡ Committing (Voting p left)) (from : ℕ) (m : Message) (a : Asked) (states : List ObjectState) (posted : In (record { from = from; to = k; message = m }) M.sent) (answering : answers m ≡ Some (a, Reply.Voted (voted.Yes states))) (act : a.act ≡ u) (own : AreOwnStates a.act states) where
     abbrev Next : commit.Plan
     Next = record p { changed = with_states states p.changed }
 
@@ -112,8 +110,7 @@ module _ (x : ℕ) (tops : Kinds) (e k : ℕ) (d : Disk) (t : Parts) (M : Seen) 
         let it : changed_of x Next ≡ Some st = ap (λ ss. find (λ (s : ObjectState). uid_eq s.uid (object x)) ss) (sym g.changed) ∙ found in
         let there = found_among (λ s. uid_eq s.uid (object x)) (with_states states p.changed) st it in
         let c = plan_voted.changed w st (ap (used_at x) (sym g.used) ∙ used) there.0 (uid_is st.uid (object x) there.1) in
-        let b = gives st it in
-        (c.0, b, c.1, λ same. nobody_acts (number_tells nobody u (sym h.first ∙ same)))))
+        (c.0, c.1, λ same. nobody_acts (number_tells nobody u (sym h.first ∙ same)))))
         [] [] (votes_left [] Next) (λ v. tt) g.kind
 
     -- and others are waited for

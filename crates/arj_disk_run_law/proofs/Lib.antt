@@ -79,7 +79,3 @@ pub mod Scripts
 pub mod StateCoords
 pub mod StateEnds
 pub mod StateTicks
-pub mod StateWider
-pub mod VersionNodes
-pub mod VersionServers
-pub mod VersionWalks

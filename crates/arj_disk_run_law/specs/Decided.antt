@@ -1,5 +1,5 @@
 -- What an object's machine decides, by the journal: each top once, whose commit was called.
-use Rattle.std.specs.Prelude.{⊤, ◌≡◌, ◌++◌, true, false, List, [], ◌∷◌}
+use Rattle.std.specs.Prelude.{⊤, ◌≡◌, ◌++◌, ℕ, true, false, List, [], ◌∷◌}
 use Rattle.arj_base.specs.Rows.{is_on}
 use Rattle.arj_protocol.specs.Words.{Line, Uid}
 use Rattle.arj_protocol.specs.Order.{uid_number}
@@ -27,6 +27,10 @@ pub record NewTops (W V : World) (lines : List Line) : Type 0 where
   pub undone : (d : Done) → In d new → decided W.disk d.top ≡ false
   pub once : AreOnce (let S = W.disk in S.tops) → AreOnce (let S = V.disk in S.tops)
   pub called : AreCalled lines new
+
+-- versions have 64 bits
+abbrev pub most_version : ℕ
+most_version = 18446744073709551615
 
 -- Beside the machine's state: the object's versions began with 0; and each top that is decided is so once, and had its commit called.
 pub record SeesDecided (tops : Kinds) (A : Office) (M : Seen) : Type 0 where

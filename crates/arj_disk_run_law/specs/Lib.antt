@@ -12,4 +12,3 @@ pub mod Rest
 pub mod Runs
 pub mod Sound
 pub mod States
-pub mod Versions

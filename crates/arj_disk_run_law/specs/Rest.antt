@@ -1,16 +1,17 @@
 -- What is still taken of what coordinators have of naming's answers: what naming and servers count on beside what messages claim.
-use Rattle.std.specs.Prelude.{◌≡◌, ℕ, Bool, true, List, Some, None}
+use Rattle.std.specs.Prelude.{◌≡◌, ℕ, Bool, true, Some, None}
 use Rattle.arj_protocol.specs.Words.{Asked, Head, Header, Message, asks}
 use Rattle.arj_protocol.specs.Words.ask
 use Rattle.arj_protocol.specs.Ask.{top_of}
 use Rattle.arj_protocol.specs.Coord.{Coord, doing_of}
 use Rattle.arj_protocol.specs.Confirm.{Grants, Marks}
-use Rattle.arj_protocol.specs.Effect.{Disk, Effect}
+use Rattle.arj_protocol.specs.Effect.{Disk}
 use Rattle.arj_protocol.specs.Naming.{Naming}
-use Rattle.arj_protocol.specs.Node.{Parts, Took, handle, is_meant}
+use Rattle.arj_protocol.specs.Node.{Parts}
 use Rattle.arj_protocol.specs.Order.{uid_number}
 use Rattle.arj_protocol.specs.Step.{is_committing}
 use Rattle.arj_disk_law.specs.Effects.{World}
+use Rattle.arj_disk_law.specs.Guards.{IsNext}
 use Rattle.arj_disk_law.specs.Names.{Office}
 use Rattle.arj_line_law.specs.Knows.{IsKept}
 use Rattle.arj_view_law.specs.Keeps.{Keeps}
@@ -18,12 +19,10 @@ use Rattle.arj_view_law.specs.Seen.{In, Seen, up}
 use Rattle.arj_disk_view_law.specs.Confirming.{IsNewConfirm}
 use Rattle.arj_disk_view_law.specs.Coordinating.{KnowsNode}
 use Rattle.arj_disk_view_law.specs.Sees.{Kinds}
-use Rattle.arj_names_view_law.specs.Booked.{IsNext}
 use Rattle.arj_names_view_law.specs.Both.{SeesBoth}
 use Rattle.arj_disk_run_law.specs.Bindings.{AreGoodCounted, KnowsScript}
 use Rattle.arj_disk_run_law.specs.Decided.{SeesDecided}
 use Rattle.arj_disk_run_law.specs.Heard.{SeesHeard}
-use Rattle.arj_disk_run_law.specs.Versions.{EndsRaise, IsKnownVersion, SeesVersions}
 
 -- a node of which is known what the disk half counts on, where the relation holds of the machine's state
 pub record IsHeardAt (x : ℕ) (R : World → Seen → Type 0) (tops : Kinds) (A : Office) (s : ℕ × Disk × Parts) (M : Seen) : Type 0 where
@@ -32,24 +31,16 @@ pub record IsHeardAt (x : ℕ) (R : World → Seen → Type 0) (tops : Kinds) (A
   pub run : R A.world (up s.0 s.1 s.2 M)
   pub both : SeesBoth x tops A (up s.0 s.1 s.2 M)
   pub heard : SeesHeard x tops A (up s.0 s.1 s.2 M)
-  pub versions : SeesVersions x tops A (up s.0 s.1 s.2 M)
   pub decided : SeesDecided tops A (up s.0 s.1 s.2 M)
-
--- versions, and what is decided
-abbrev pub SeesMore : ℕ → Kinds → Office → Seen → Type 0
-SeesMore x tops A M = SeesVersions x tops A M × SeesDecided tops A M
 
 -- what is carried beside the machine's state
 abbrev pub SeesCarried : ℕ → Kinds → Office → Seen → Type 0
-SeesCarried x tops A M = SeesHeard x tops A M × SeesMore x tops A M
+SeesCarried x tops A M = SeesHeard x tops A M × SeesDecided tops A M
 
--- What naming counts on, and servers. Of a new Confirm the locks of servers give the next version; and the ends of a message that is taken raise
--- no copy of the object but to a version that was known.
+-- What naming counts on: of a new Confirm the locks of servers give that what its top wrote is the next version.
 pub record GivesNaming (x : ℕ) (R : World → Seen → Type 0) : Type 0 where
   pub next : (tops : Kinds) (k : ℕ) (d : Disk) (t : Parts) (n : Naming) (from : ℕ) (m : Message) (h : Head) (grants : Grants) (excluded included : Marks) (M : Seen) (A : Office) → IsHeardAt x R tops A (k, d, t) M → In (record { from = from; to = k; message = m }) M.sent → t.naming ≡ Some n → asks m ≡ Some (h, ask.Confirm grants excluded included)
       → IsNewConfirm h.path grants excluded included d.names n → IsNext A.world.disk (uid_number (top_of h.path))
-  pub raised : (tops : Kinds) (k : ℕ) (d : Disk) (t v : Parts) (from : ℕ) (m : Message) (outs : List Effect) (M : Seen) (A : Office) → IsHeardAt x R tops A (k, d, t) M → In (record { from = from; to = k; message = m }) M.sent → is_meant t m ≡ true → handle k d t from m ≡ Took v outs
-      → EndsRaise x (IsKnownVersion A.world.disk) k t.server m
 
 -- the answer is to one whose commit is under way
 abbrev pub answers_commit : Asked → Coord → Bool
@@ -63,7 +54,7 @@ IsCountedWith test M = (AreGoodCounted M × IsKept M) × (test M ≡ true)
 abbrev pub IsKnownWith : (Seen → Bool) → Seen → Type 0
 IsKnownWith test M = IsCountedWith test M × KnowsScript M
 
--- A test that each handler keeps; and where it holds beside what is known in every run, what naming and servers count on is given.
+-- A test that each handler keeps; and where it holds beside what is known in every run, what naming counts on is given.
 pub record KeepsHeard (hd : Header) (x : ℕ) (test : Seen → Bool) : Type 0 where
   pub kept : Keeps hd (λ M. test M ≡ true)
   pub naming : GivesNaming x (λ W M. IsKnownWith test M)

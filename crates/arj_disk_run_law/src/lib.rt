@@ -7,10 +7,9 @@
 //! the paths of requests, of entries at naming, and of commits under way. What servers vote `arj_call_law` has, while few bindings were
 //! made, as in the run of every script (`arj_binding_law`); that bindings are of naming's incarnation `arj_lock_fact_law` gives
 //! (`specs/Bindings.antt`). A relation is kept beside the machine's state (`specs/Part.antt`), of
-//! what coordinators have of naming's answers and what messages claim of them (`specs/Heard.antt`), of the versions that the object's
-//! states have in memory and in messages (`specs/Versions.antt`), and that each decided top had its commit called once
-//! (`specs/Decided.antt`), by which commits begin and Confirms are booked, and versions stay short; what naming and servers
-//! count on beside it is still taken as known (`specs/Rest.antt`). It gives upward `runs_keep_the_disk_half`.
+//! what coordinators have of naming's answers and what messages claim of them (`specs/Heard.antt`), and that each decided top had its
+//! commit called once (`specs/Decided.antt`), by which commits begin and Confirms are booked, and versions stay short; what naming
+//! counts on beside it is still taken as known (`specs/Rest.antt`). It gives upward `runs_keep_the_disk_half`.
 #![tactic(auto)]
 
 mod runs;

@@ -8,7 +8,7 @@ ghost use Rattle.arj_disk_run_law.specs.Runs.{HeardRunsAgree, RunsAgree};
 /// entry isn't in doubt, one state is held or prepared by each store that the entry lists, and held where the object isn't in
 /// doubt; the entry lists some store; no store holds a later version, and stores that hold one version hold one state; and what is in
 /// doubt at a store, or at naming, is so by one action. So it is too with the relation that is built of it, of each object of the
-/// header, where what naming and servers count on beside it is given. And then who waits to load the object, for a binding that naming made
+/// header, where what naming counts on beside it is given. And then who waits to load the object, for a binding that naming made
 /// last for its top and didn't record yet, asks stores that the entry lists: each of them holds the state on which copies agree, where the
 /// object isn't in doubt there. It does nothing when it runs.
 pub fn runs_keep_the_disk_half()

@@ -15,7 +15,7 @@ use Rattle.arj_protocol.specs.Says.{AreAll, is_naming_effect, is_names_work}
 use Rattle.arj_protocol.proofs.PartSays.{all_both, confirm_own}
 use Rattle.arj_disk_law.specs.Effects as machine
 use Rattle.arj_disk_law.specs.Effects.{World, Allowed, after}
-use Rattle.arj_disk_law.specs.Guards.{end_of}
+use Rattle.arj_disk_law.specs.Guards.{IsNext, end_of}
 use Rattle.arj_disk_law.specs.Named.{Named}
 use Rattle.arj_disk_law.specs.Names.{Names, Office}
 use Rattle.arj_disk_law.proofs.Acts.{runs_keep}
@@ -30,7 +30,7 @@ use Rattle.arj_disk_view_law.specs.Sees.{Along, ClaimsAsk, IsLater, Kinds, IsSee
 use Rattle.arj_disk_view_law.proofs.ConfirmWalks.{confirms_walk_once}
 use Rattle.arj_disk_view_law.proofs.Frames.{node_here}
 use Rattle.arj_disk_view_law.proofs.StoreWalks.{took_is}
-use Rattle.arj_names_view_law.specs.Booked.{IsConfirmedBy, IsNext, CountsOnGrants}
+use Rattle.arj_names_view_law.specs.Booked.{IsConfirmedBy, CountsOnGrants}
 use Rattle.arj_names_view_law.specs.Both.{ConfirmsKeepBoth, IsSeenFrom, OnlyMemory, SeesBoth, leaves_the_inc}
 use Rattle.arj_names_view_law.specs.Memory.{IsOfTop, SeesNaming}
 use Rattle.arj_names_view_law.proofs.Binding.{path_untold}

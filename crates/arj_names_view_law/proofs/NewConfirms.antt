@@ -18,7 +18,7 @@ use Rattle.arj_protocol.specs.Values.{state_entry}
 use Rattle.arj_protocol.proofs.Numbers.{number_tells}
 use Rattle.arj_protocol.proofs.Payloads.{entry_back}
 use Rattle.arj_disk_law.specs.Effects.{Effect, Agree, Pass, Enter, Allowed, CanAgree, CanPass, CanEnter, IsUnlisted, after, changed, new_list}
-use Rattle.arj_disk_law.specs.Guards.{HasPart, HasPresent, IsUntold, May, MayAgree, MayConfirm, MayEnter, MayExclude, MayPass, end_of}
+use Rattle.arj_disk_law.specs.Guards.{HasPart, HasPresent, IsNext, IsUntold, May, MayAgree, MayConfirm, MayEnter, MayExclude, MayPass, end_of}
 use Rattle.arj_disk_law.specs.Named as names
 use Rattle.arj_disk_law.specs.Names.{Names, Office, Do, acted}
 use Rattle.arj_disk_law.specs.State.{State, Packed, Hold, target, undecided}
@@ -35,7 +35,7 @@ use Rattle.arj_disk_view_law.specs.Sees.{Kinds, ClaimsConfirm}
 use Rattle.arj_disk_view_law.proofs.ConfirmSteps.{Held, held_is, marked_is, stands_there}
 use Rattle.arj_disk_view_law.proofs.ConfirmWalks.{are_new, both_none, each_none, has_listed, last_two, new_not, not_empty, not_there}
 use Rattle.arj_disk_view_law.proofs.Keys as keys
-use Rattle.arj_names_view_law.specs.Booked.{CountsOnGrants, HasGrant, IsConfirmedBy, IsNext, NewConfirmsAreActs, NewConfirmsAreBooked, OldConfirmsAreNothing}
+use Rattle.arj_names_view_law.specs.Booked.{CountsOnGrants, HasGrant, IsConfirmedBy, NewConfirmsAreActs, NewConfirmsAreBooked, OldConfirmsAreNothing}
 use Rattle.arj_names_view_law.specs.Calls.{HasExclude, OnlyLocks}
 use Rattle.arj_names_view_law.specs.Memory.{IsOfTop, NamesGo, SeesNaming, SeesRows}
 use Rattle.arj_names_view_law.proofs.Binding.{path_untold, with_is}
@@ -57,8 +57,8 @@ module _ (B : Office) (c : names.Named B) (t : ℕ) (may : MayConfirm B t) (pres
   is_booked = record {
     clear = clear B c t may present;
     locked = λ what u. ⊎_elim
-        (λ same. ⊎_elim (λ writes. (booked B c).agrees t (record { confirm = may; present = present (inl writes); writes = writes; same = same }) u) (λ other. absurd (never same other)) what)
-        (λ other. (booked B c).enters t (record { confirm = may; present = present (changes_part B c t may present other); other = other; stores = stores other; corner = next }) u)
+        (λ same. ⊎_elim (λ writes. (booked B c).agrees t (record { confirm = may; present = present (inl writes); writes = writes; same = same; next = next }) u) (λ other. absurd (never same other)) what)
+        (λ other. (booked B c).enters t (record { confirm = may; present = present (changes_part B c t may present other); other = other; stores = stores other; next = next }) u)
         (bool_cases (bytes_eq (new_list B.world.disk t) B.world.disk.entry.content));
     undone = λ other. undone B c t may present (changes_part B c t may present other);
     unconfirmed = λ u. falls_to (B.world.disk.conf t) (λ h. unconfirmed B c t may present (has_part u h) (inl h));
@@ -270,7 +270,7 @@ module _ (x : ℕ) (tops : Kinds) (p : Path) (grants : Grants) (excluded include
   may_do e (inl is) allowed = subst (λ z. May (record { world = A.world; names = M }) (Do z)) (sym is) (agrees (subst (Allowed A.world) is allowed))
     where
       agrees : CanAgree A.world t → MayAgree (record { world = A.world; names = M }) t
-      agrees a = record { confirm = may; present = present (inl a.writes); writes = a.writes; same = a.same }
+      agrees a = record { confirm = may; present = present (inl a.writes); writes = a.writes; same = a.same; next = next }
   may_do e (inr (inl is)) allowed = subst (λ z. May (record { world = A.world; names = M }) (Do z)) (sym is) (passes (subst (Allowed A.world) is allowed))
     where
       passes : CanPass A.world t → MayPass (record { world = A.world; names = M }) t
@@ -278,7 +278,7 @@ module _ (x : ℕ) (tops : Kinds) (p : Path) (grants : Grants) (excluded include
   may_do e (inr (inr is)) allowed = subst (λ z. May (record { world = A.world; names = M }) (Do z)) (sym is) (enters (subst (Allowed A.world) is allowed))
     where
       enters : CanEnter A.world t → MayEnter (record { world = A.world; names = M }) t
-      enters a = record { confirm = may; present = present (changes_part (record { world = A.world; names = M }) named_then t may present a.other); other = a.other; stores = a.stores; corner = next }
+      enters a = record { confirm = may; present = present (changes_part (record { world = A.world; names = M }) named_then t may present a.other); other = a.other; stores = a.stores; next = next }
 
   abbrev Part : Naming
   Part = let l = lock_all (wanted (top_of p) grants excluded d) p n in l.part

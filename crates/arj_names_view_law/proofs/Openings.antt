@@ -7,7 +7,6 @@ use Rattle.arj_protocol.specs.Commit.{Used, changed_of}
 use Rattle.arj_protocol.specs.Coord.{Coord, Joined, Root, joins_on, known_for, later_state, latest_of, nothing_known, objects_in, or_kept_state, used_of}
 use Rattle.arj_protocol.specs.Order.{at_number, number_set, uid_number}
 use Rattle.arj_disk_law.specs.Guards.{IsPresent, MayBegin}
-use Rattle.arj_disk_law.specs.Laws.{BasedIn}
 use Rattle.arj_disk_law.specs.Named as names
 use Rattle.arj_disk_law.specs.Names as machine
 use Rattle.arj_disk_law.specs.Names.{Names, Office, Kept, load_of}
@@ -93,7 +92,6 @@ module _ (x : ℕ) (tops : Kinds) (root t : Uid) (c : Coord) (r : Root) (p : com
     root = opening.root;
     top = ap (λ f. f (uid_number t)) fixed.serial ∙ top.plain;
     first = opening.first;
-    based = opening.based;
     writer = opening.writer;
     list = list_now;
     loaded = loaded_now;
@@ -108,6 +106,5 @@ openings_stay x t c r p A C later tops none can o = record {
   root = can.root;
   first = λ z of. falls_to (undecided C.world.disk z) (λ u. never (none.opened z u) (o.first z (ap (λ f. f z) (sym later.root) ∙ of ∙ ap (λ f. f (uid_number t)) later.root)));
   called = o.called;
-  based = λ w is. subst (λ f. BasedIn f C.world.disk.tops w) (sym none.first) (subst (λ ds. BasedIn A.world.disk.first ds w) (sym tops) (o.based w is));
   writer = λ w is. let q = o.writer w is in (q.0, λ e. q.1 (ap (λ (g : Packed). g.writer) (sym none.first) ∙ e));
 }

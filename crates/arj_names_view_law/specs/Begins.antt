@@ -7,7 +7,6 @@ use Rattle.arj_protocol.specs.Order.{uid_number}
 use Rattle.arj_protocol.specs.Tree.{is_spent}
 use Rattle.arj_disk_law.specs.Effects.{Allowed, Begin}
 use Rattle.arj_disk_law.specs.Guards.{MayBegin}
-use Rattle.arj_disk_law.specs.Laws.{IsBased}
 use Rattle.arj_disk_law.specs.Named.{Named}
 use Rattle.arj_disk_law.specs.Names.{Office}
 use Rattle.arj_disk_law.specs.State.{Packed, Plan, Idle, is_gone, undecided}
@@ -27,13 +26,12 @@ pub record SeesRoot (x : ℕ) (tops : Kinds) (root t : Uid) (c : Coord) (r : Roo
   pub state : KeepsState x root r A.world.disk
 
 -- A commit of a working top while no other of its root is open: an object that it changes it had called, and the new state names it
--- as writer and builds on a known state. The coordinator and the servers give that.
+-- as writer. The coordinator and the servers give that.
 pub record IsOpening (x : ℕ) (t : Uid) (c : Coord) (r : Root) (p : Plan) (A : Office) : Type 0 where
   pub idle : A.world.disk.stage (uid_number t) ≡ Idle
   pub root : is_gone (A.world.disk.stage (A.world.disk.root (uid_number t))) ≡ false
   pub first : (z : ℕ) → A.world.disk.root z ≡ A.world.disk.root (uid_number t) → undecided A.world.disk z ≡ false
   pub called : is_some p.writes ≡ true → is_called x t r c ≡ true
-  pub based : (w : Packed) → p.writes ≡ Some w → IsBased A.world.disk w
   pub writer : (w : Packed) → p.writes ≡ Some w → (w.writer ≡ uid_number t) × (A.world.disk.first.writer ≡ uid_number t → ⊥)
 
 -- so a commit may begin in the machine by what its root has of the object

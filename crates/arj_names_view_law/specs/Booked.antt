@@ -7,10 +7,10 @@ use Rattle.arj_protocol.specs.Effect.{Pair}
 use Rattle.arj_protocol.specs.Naming.{Naming}
 use Rattle.arj_protocol.specs.Order.{uid_number}
 use Rattle.arj_disk_law.specs.Effects.{Effect, Allowed, after}
-use Rattle.arj_disk_law.specs.Guards.{HasPart}
+use Rattle.arj_disk_law.specs.Guards.{HasPart, IsNext}
 use Rattle.arj_disk_law.specs.Named.{Named}
 use Rattle.arj_disk_law.specs.Names.{Names, Office, Answer}
-use Rattle.arj_disk_law.specs.State.{State, Packed, undecided}
+use Rattle.arj_disk_law.specs.State.{State, undecided}
 use Rattle.arj_disk_law.specs.Words.{has, In}
 use Rattle.arj_disk_view_law.specs.Confirming.{IsBooked, IsConfirmation, IsNewConfirm}
 use Rattle.arj_disk_view_law.specs.Entries.{SeesEntry}
@@ -35,12 +35,6 @@ pub record CountsOnGrants (x : ℕ) (S : State) (N : Names) (t : ℕ) (grants : 
   pub unsettled : undecided S t ≡ true → NamesGrants x S N t grants
   pub taken : HasPart (S.plan t) → (S.conf t ≡ true) ⊎ (S.light t ≡ true) → (g : ℕ) × HasGrant x g grants × (g ≤ N.inc) × (g ≡ N.inc → N.confd t ≡ true)
 
--- What the servers' locks give: where a top wrote and includes a store, its state is one version above the one that it loaded, while
--- its outcome is open.
-abbrev pub IsNext : State → ℕ → Type 0
-IsNext S t = undecided S t ≡ true → (w : Packed) (s : ℕ) → (S.plan t).writes ≡ Some w → has s (S.plan t).joins ≡ true → w.version ≡ (S.plan t).loaded.version + 1
-
--- so a new Confirm that names its grants is booked
 abbrev pub NewConfirmsAreBooked : Type 0
 NewConfirmsAreBooked = (x : ℕ) (tops : Kinds) (p : Path) (grants : Grants) (excluded included : Marks) (d : Pair) (n : Naming) (A : Office) → Named A → SeesNaming x tops n A.world.disk A.names → SeesEntry x d A.world.disk
     → IsOfTop tops A.world.disk p → ClaimsConfirm x A.world (uid_number (top_of p)) grants excluded included → CountsOnGrants x A.world.disk A.names (uid_number (top_of p)) grants → IsNext A.world.disk (uid_number (top_of p))

@@ -16,7 +16,7 @@ use Rattle.arj_protocol.specs.Coord.{Coord, Root}
 use Rattle.arj_protocol.specs.Step.{Node, first_disk, parts_in, restart_outs}
 use Rattle.arj_protocol.specs.World.{Labelled, format}
 use Rattle.arj_disk_law.specs.Effects.{World, Allowed, Begin}
-use Rattle.arj_disk_law.specs.Guards.{Note, MayBegin, only_acks, only_begins, only_decides}
+use Rattle.arj_disk_law.specs.Guards.{IsNext, Note, MayBegin, only_acks, only_begins, only_decides}
 use Rattle.arj_disk_law.specs.Messages.{ToldSerial}
 use Rattle.arj_disk_law.specs.Named.{Named}
 use Rattle.arj_disk_law.specs.Names.{Answer, Bound, Loaded, Names, Office, lists_after, retained, written_in}
@@ -28,7 +28,7 @@ use Rattle.arj_view_law.specs.Walks.{Walks, Up, halted}
 use Rattle.arj_disk_view_law.specs.Entries.{SeesEntry}
 use Rattle.arj_disk_view_law.specs.Confirming.{IsNewConfirm}
 use Rattle.arj_disk_view_law.specs.Sees.{Along, ClaimsAsk, IsFixed, IsLater, IsNested, Kinds, SeesDisks, IsSeenByDisks, followed}
-use Rattle.arj_names_view_law.specs.Booked.{CountsOnGrants, IsNext}
+use Rattle.arj_names_view_law.specs.Booked.{CountsOnGrants}
 use Rattle.arj_names_view_law.specs.Calls.{ClaimsBound, ClaimsTop, MayNote}
 use Rattle.arj_names_view_law.specs.Memory.{IsOfTop, SeesNaming}
 use Rattle.arj_disk_view_law.specs.Formats.{HasObject}

@@ -19,7 +19,7 @@ use Rattle.arj_protocol.specs.Words.{is_on}
 use Rattle.arj_protocol.specs.World.{Labelled}
 use Rattle.std.specs.List.{AllByRecursion}
 use Rattle.arj_disk_law.specs.Effects.{Allowed, Begin}
-use Rattle.arj_disk_law.specs.Guards.{MayBegin}
+use Rattle.arj_disk_law.specs.Guards.{IsNext, MayBegin}
 use Rattle.arj_disk_law.specs.Named.{Named}
 use Rattle.arj_disk_law.specs.Names.{Office}
 use Rattle.arj_view_law.specs.Keeps.{is_act}
@@ -31,7 +31,7 @@ use Rattle.arj_disk_view_law.specs.Entries.{SeesEntry}
 use Rattle.arj_disk_view_law.specs.Knows.{KnowsCoord, KnowsKinds, IsOfKind}
 use Rattle.arj_disk_view_law.specs.Plans.{plan_at}
 use Rattle.arj_disk_view_law.specs.Sees.{IsLater, Kinds, was_begun}
-use Rattle.arj_names_view_law.specs.Booked.{CountsOnGrants, IsNext}
+use Rattle.arj_names_view_law.specs.Booked.{CountsOnGrants}
 use Rattle.arj_names_view_law.specs.Both.{BothWalk, OnlyDecided, OnlyMemory, OpensNone, SeesBoth, has_part}
 use Rattle.arj_names_view_law.specs.Calls.{HasGiven, MayNote}
 use Rattle.arj_names_view_law.specs.Memory.{IsOfTop}
