@@ -96,7 +96,7 @@ module _ (S : List Line → Type 0) (before : (lines more : List Line) → S (li
   abbrev While : Seen → Type 0
   While M = S M.lines → P M
 
-  while_walk : (e k : ℕ) (outs : List Effect) (v : Parts) (d : Disk) (M : Seen) → (S M.lines → Walks P e k outs (Up P k v) d M) → Walks While e k outs (Up While k v) d M
+  pub while_walk : (e k : ℕ) (outs : List Effect) (v : Parts) (d : Disk) (M : Seen) → (S M.lines → Walks P e k outs (Up P k v) d M) → Walks While e k outs (Up While k v) d M
   while_walk e k [] v d M walk = walk
   while_walk e k (Do w ∷ es) v d M walk = (λ how s. (walk (before M.lines (numbered e (body.Halted k ∷ [])) s)).0 how, while_walk e k es v (worked w d) M (λ s. (walk s).1))
   while_walk e k (Say b ∷ es) v d M walk = while_walk e k es v d (said e (b ∷ []) M) (λ s. walk (before M.lines (numbered e (b ∷ [])) s))

@@ -213,6 +213,13 @@ calls_go hd G good fits = both_given hd G LivesRun KnowsRun
     (lives_given hd (λ M. G M × KnowsRun M) (λ M g. good M g.0) (λ M g. g.1) (λ k d t M g. fits k d t M g.0))
     (calls_given hd (λ M. G M × LivesRun M) (record { reached = λ M g. reached_of M g.1; homes = λ k d t M g. homes_of k d t M g.1 }))
 
+-- a journal with few bindings had few before
+pub few_before : (lines more : List Line) → HasFewBindings (lines ++ more) → HasFewBindings lines
+few_before lines more less = below (bindings_made lines) (bindings_made (lines ++ more)) (fewer lines more) less
+  where
+    below : (a b : ℕ) → a ≤ b → b < 4294967295 → a < 4294967295
+    below a b le less = omega (arith, le, less)
+
 -- as long as few bindings were made, with what is kept beside it
 abbrev pub WhileFew : (Seen → Type 0) → Seen → Type 0
 WhileFew P M = (IsGood M × AreSaid M) × (HasFewBindings M.lines → (LivesRun M × KnowsRun M) × P M)
@@ -236,12 +243,6 @@ few_go hd P kept = kept_both hd Counted (λ M. HasFewBindings M.lines → Known 
 
     few : (n c : ℕ) → c ≤ n → n < 4294967295 → c + 1 < 4294967296
     few n c le less = omega (arith, le, less)
-
-    below : (a b : ℕ) → a ≤ b → b < 4294967295 → a < 4294967295
-    below a b le less = omega (arith, le, less)
-
-    few_before : (lines more : List Line) → HasFewBindings (lines ++ more) → HasFewBindings lines
-    few_before lines more less = below (bindings_made lines) (bindings_made (lines ++ more)) (fewer lines more) less
 
 -- what is known of servers and of calls after a run
 known_in : (hd : Header) (es : List Asked) (P : Seen → Type 0) → ((M : Seen) → LivesRun M × KnowsRun M → P M) → HasFewBindings (run_all es (format hd)).lines → Holds hd P (run_all es (format hd))

@@ -88,6 +88,7 @@ module _ (f : Fixed) (x : ℕ) (begun : List Action) (a : Action) (S : State) wh
   others_more k e M home z = record {
     run = z.run;
     nodes = λ j n other is. memory_more j n.disk n.live (λ at. other (sym at ∙ home)) (z.nodes j n other is);
+    absent = λ j other is. (let q = z.absent j other is in (q.0, memory_more j q.0 None (λ at. other (sym at ∙ home)) q.1));
     confirms = z.confirms;
     posts = λ p there. posts_stay f x begun (a ∷ begun) M.sent M.sent p S S more (λ r i. i) (reached_of f x begun k S M z) stay (z.posts p there);
     fresh = fresh_more z.fresh;
@@ -182,7 +183,7 @@ begins_go c s e l g how parent above is_seen begins may empty = λ agrees. (
   with_here c.fixed c.x (beginning how above (coord_at s) ∷ c.begun) s.node s.disk (Some (with_coord s.parts (let D = begin_action l how parent above (coord_at s) in D.part))) c.state (said e (began_line l how (next_uid (let q = coord_at s in q.tree)) parent ∷ []) (given l g s.seen))
       (others_with c s is_seen l how parent above begins may empty e (said e (began_line l how (next_uid (let q = coord_at s in q.tree)) parent ∷ []) (given l g s.seen))
       (said_others c.fixed c.x c.begun s.node e (began_line l how (next_uid (let q = coord_at s in q.tree)) parent ∷ []) c.state (given l g s.seen)
-      (let z = others_of c.fixed c.x c.begun s.node s.disk (Some s.parts) c.state s.seen is_seen.sees in record { run = z.run; nodes = z.nodes; confirms = z.confirms; posts = z.posts; fresh = z.fresh; now = z.now })))
+      (let z = others_of c.fixed c.x c.begun s.node s.disk (Some s.parts) c.state s.seen is_seen.sees in record { run = z.run; nodes = z.nodes; absent = z.absent; confirms = z.confirms; posts = z.posts; fresh = z.fresh; now = z.now })))
       (up_more c s is_seen l how parent above begins may empty)
       (confirms_same c.fixed c.x c.state (let M = s.seen in M.sent) s.disk s.disk s.parts (with_coord s.parts (let D = begin_action l how parent above (coord_at s) in D.part)) refl refl (confirms_of c.fixed c.x c.begun s.node s.disk (Some s.parts) c.state s.seen is_seen.sees)),
   tied_more c s is_seen l how parent above begins may empty e,

@@ -17,6 +17,7 @@ use Rattle.arj_lock_law.specs.State.{State}
 use Rattle.arj_run_law.proofs.Starts.{first_at}
 use Rattle.arj_view_law.specs.Seen.{Post, Seen, see, up}
 use Rattle.arj_lock_line_law.specs.Lines.{AreCallsOf, AreIncludesOf, included_on, said_on}
+use Rattle.arj_lock_view_law.proofs.ServerSteps.{servers_are_down}
 use Rattle.arj_lock_view_law.proofs.StartNamingSteps.{naming_is_down}
 use Rattle.arj_lock_run_law.specs.Beside.{KnowsEntry}
 use Rattle.arj_lock_run_law.specs.Fixed.{Fixed, view_of}
@@ -49,7 +50,7 @@ module _ (hd : Header) (f : Fixed) (x : ℕ) (entry : KnowsEntry x 1 (first_disk
 
   down_start : (k : ℕ) → SeesDown (view_of f x [] k) (start f.first) (before k)
   down_start k = record {
-    server = omega arith;
+    server = servers_are_down (view_of f x [] k) f.first 0;
     naming = λ one. naming_is_down f.first 0;
     tree = new_tree k 0;
     last = None;
@@ -84,6 +85,11 @@ module _ (hd : Header) (f : Fixed) (x : ℕ) (entry : KnowsEntry x 1 (first_disk
   unfolding some_up
   down_at zero k low = refl
   down_at (suc j) k low = node_there f x [] (j + 1) (first_disk hd (j + 1)) (Some (parts_in (j + 1) 1 (first_disk hd (j + 1)))) (some_up j) k (λ same. omega (arith, same, low)) ∙ down_at j k (omega (arith, low))
+
+  zero_down : (j : ℕ) → (let N = some_up j in N.nodes 0) ≡ Some (record { number = 0; disk = before 0; live = None })
+  unfolding some_up
+  zero_down zero = refl
+  zero_down (suc j) = node_there f x [] (j + 1) (first_disk hd (j + 1)) (Some (parts_in (j + 1) 1 (first_disk hd (j + 1)))) (some_up j) 0 (λ same. omega (arith, same)) ∙ zero_down j
 
   none_decided : (k : ℕ) (S : State) (s : SeesDown (view_of f x [] k) S (before k)) → s.last ≡ None
   none_decided k S s = by s.last refl
@@ -141,6 +147,7 @@ module _ (hd : Header) (f : Fixed) (x : ℕ) (entry : KnowsEntry x 1 (first_disk
     record {
       run = machine.stay;
       nodes = λ k n is. subst (λ (m : Node). SeesMemory (view_of f x [] k) (start f.first) m.disk m.live) (its k n is) (down_start k);
+      absent = λ k is. absurd (cc is);
       confirms = λ k n is. subst (λ (m : Node). HaveConfirms f x (start f.first) [] m.disk m.live) (its k n is) (none_down k (start f.first) []);
       posts = λ p there. absurd there;
       fresh = fresh_start;
@@ -156,7 +163,7 @@ module _ (hd : Header) (f : Fixed) (x : ℕ) (entry : KnowsEntry x 1 (first_disk
       let k : ℕ = j + 1 in
       let s = h.1 in
       let down : SeesDown (view_of f x [] k) h.0 (before k) = s.nodes k _ (down_at j k (omega arith)) in
-      let g = started f x [] k h.0 (before k) (some_up j) (record { run = s.run; nodes = λ i n other is. s.nodes i n is; confirms = λ i n other is. s.confirms i n is; posts = s.posts; fresh = s.fresh; now = s.now }) down (none_decided k h.0 down)
+      let g = started f x [] k h.0 (before k) (some_up j) (record { run = s.run; nodes = λ i n other is. s.nodes i n is; absent = λ i other is. s.absent i is; confirms = λ i n other is. s.confirms i n is; posts = s.posts; fresh = s.fresh; now = s.now }) down (none_decided k h.0 down)
       (λ one inc. subst (λ (i : ℕ). is_some (at_number x (let n = recovered_naming inc (let d = first_disk hd i in d.names) in n.objects)) ≡ true) (sym one) (entry refl inc)) in
       (g.0, (let t = g.1 in with_here f x [] k (first_disk hd k) (Some (parts_in k 1 (first_disk hd k))) g.0 (some_up j) t.others t.up (none_up k g.0 (let N = some_up j in N.sent))), tied_still h.0 g.0 (let t = g.1 in t.moved) h.2)
 
@@ -173,6 +180,16 @@ module _ (hd : Header) (f : Fixed) (x : ℕ) (entry : KnowsEntry x 1 (first_disk
   placed zero n is = absurd (let no_way : ◌≡◌ {A = Option Node} None (Some n) = is in cc no_way)
   placed (suc k) n is = (omega arith, (let h = within all k n is in omega (arith, h)))
 
+  -- who has no place is behind the last one, or is 0
+  outside : {A : Type 0} (items : List A) (k : ℕ) → slice_get items k ≡ None → length items ≤ k
+  outside {A} [] k is = omega arith
+  outside {A} (i ∷ items) zero is = absurd (let no_way : ◌≡◌ {A = Option A} (Some i) None = is in cc no_way)
+  outside {A} (i ∷ items) (suc k) is = let h = outside items k is in omega (arith, h)
+
+  still_down : (k : ℕ) → at_place k all ≡ None → (let N = some_up (length all) in N.nodes k) ≡ Some (record { number = k; disk = before k; live = None })
+  still_down zero is = zero_down (length all)
+  still_down (suc k) is = down_at (length all) (suc k) (let h = outside all k is in omega (arith, h))
+
   pub first_goes_here : let M = see [] (format hd) in (S : State) × SeesLocks f x [] S M × AreTied f x M.lines S
   first_goes_here =
       let h = first_seen (length all) in
@@ -181,6 +198,7 @@ module _ (hd : Header) (f : Fixed) (x : ℕ) (entry : KnowsEntry x 1 (first_disk
         record {
           run = s.run;
           nodes = λ k n is. (let p = placed k n is in s.nodes k n (up_at (length all) k p.0 p.1 ∙ ap Some (first_at hd k n is)));
+          absent = λ k is. (before k, s.nodes k (record { number = k; disk = before k; live = None }) (still_down k is));
           confirms = λ k n is. (let p = placed k n is in subst (λ (ps : List Post). HaveConfirms f x h.0 ps n.disk n.live) (sent_none (length all)) (s.confirms k n (up_at (length all) k p.0 p.1 ∙ ap Some (first_at hd k n is))));
           posts = λ p there. absurd there;
           fresh = s.fresh;

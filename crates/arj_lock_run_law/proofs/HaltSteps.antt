@@ -1,10 +1,9 @@
 -- A node stops: its open actions are aborted in the machine, and all others are seen as they were.
-use Rattle.std.proofs.Common.{◌≡◌, ◌≤◌, ◌∙◌, ◌==◌, ℕ, List, [], ◌∷◌, true, false, Option, Some, None, refl, sym, ap, subst, ⊎_elim, arith, Contains}
+use Rattle.std.proofs.Common.{◌≡◌, ◌≤◌, ◌∙◌, ℕ, List, [], ◌∷◌, true, false, Option, Some, None, refl, sym, ap, subst, ⊎_elim, arith, Contains}
 use Rattle.std.specs.Prelude.{is_some}
 use Rattle.arj_protocol.specs.Words.{Uid, is_on}
 use Rattle.arj_protocol.specs.Words.body
 use Rattle.arj_protocol.specs.Effect.{Disk}
-use Rattle.arj_protocol.specs.Naming.{Naming}
 use Rattle.arj_protocol.specs.Node.{Parts}
 use Rattle.arj_protocol.specs.Order.{at_uid}
 use Rattle.arj_protocol.specs.Tree.{Branch, branch_of}
@@ -12,29 +11,26 @@ use Rattle.arj_lock_law.specs.Actions.{Act, In, Root, is_action, on, root}
 use Rattle.arj_lock_law.specs.Machine.{Run, stay}
 use Rattle.arj_lock_law.specs.State as state
 use Rattle.arj_lock_law.specs.State.{State}
+use Rattle.arj_lock_law.proofs.Order.{go_on}
 use Rattle.arj_lock_law.proofs.Paths.{by_cases, on_base, root_is}
 use Rattle.arj_part_law.specs.Actions.{Action, act_of, action_of}
 use Rattle.arj_view_law.specs.Seen.{Seen}
 use Rattle.arj_view_law.specs.Walks.{halted}
 use Rattle.arj_lock_view_law.specs.Actions.{IsIdle, IsSteady}
 use Rattle.arj_lock_view_law.specs.Begins.{IsUntouched}
-use Rattle.arj_lock_view_law.specs.Ends.{SeesNothing}
-use Rattle.arj_lock_view_law.specs.Hearing.{SeesNamingIn}
 use Rattle.arj_lock_view_law.specs.Stops.{IfDecided, IsUnitOf, OnlyStopped}
 use Rattle.arj_lock_view_law.specs.Telling.{View}
-use Rattle.arj_lock_view_law.proofs.ServerSteps.{servers_stop}
-use Rattle.arj_lock_view_law.proofs.StartNamingSteps.{naming_stops}
-use Rattle.arj_lock_view_law.proofs.StopSteps.{stops_are_taken}
+use Rattle.arj_lock_view_law.proofs.StopSteps.{stops_are_taken, stops_stay}
 use Rattle.arj_lock_view_law.proofs.TreeSteps.{above_there}
-use Rattle.arj_part_law.specs.Actions.{owners_of}
 use Rattle.arj_lock_run_law.specs.Beside.{HoldsNamingIn}
 use Rattle.arj_lock_run_law.specs.Fixed.{Fixed, view_of}
 use Rattle.arj_lock_run_law.specs.Sees.{AreRecordsOf, HaveConfirms, IsFresh, IsUnbegun, SeesDown, SeesLocks, SeesUp}
-use Rattle.arj_lock_run_law.proofs.MoveSteps.{memory_stopped, nothing_on}
+use Rattle.arj_lock_run_law.proofs.FallSteps.{fallen}
+use Rattle.arj_lock_run_law.proofs.MoveSteps.{memory_stopped, up_stopped}
 use Rattle.arj_lock_run_law.specs.Tied.{AreTied}
 use Rattle.arj_lock_run_law.proofs.NameSteps.{confirms_later}
 use Rattle.arj_lock_run_law.proofs.OtherSteps.{SeesOthers, others_go, past_on, reached_of, records_on, said_others, with_here}
-use Rattle.arj_lock_run_law.proofs.TieSteps.{IsTiedNow, tied_down, tied_halts}
+use Rattle.arj_lock_run_law.proofs.TieSteps.{IsTiedNow, tied_behind, tied_down, tied_halts, tied_moved}
 
 module _ (f : Fixed) (x : ℕ) (begun : List Action) (k : ℕ) where
   abbrev v : View
@@ -88,13 +84,6 @@ module _ (f : Fixed) (x : ℕ) (begun : List Action) (k : ℕ) where
         same_in : (n : ℕ) → ((a : Action) → Contains begun a → root (f.act (act_of a)) ≡ n → ⊥) → (a : Act) → root a ≡ n → T.action a ≡ S.action a
         same_in n none a home = only.others a (λ (w, b, found, same). (let q = was_begun w b found in none q.0 q.1 (ap (λ (z : Uid). root (f.act z)) q.2 ∙ sym same ∙ home)))
 
-  -- where the node has naming, that stops
-  naming_down : (R S T : State) (d : Disk) (o : Option Naming) → is_some o ≡ (k == 1) → HoldsNamingIn (record { fixed = f; x = x; begun = begun; state = R }) k o → ((n : Naming) → o ≡ Some n → n.inc ≡ d.inc) → T.naming ≡ S.naming → SeesNamingIn v S o → k ≡ 1 → SeesNothing d.inc T
-  naming_down R S T d None place holds inc same sees one = absurd (let no_naming : false ≡ true = place ∙ ap (λ (j : ℕ). j == 1) one in cc no_naming)
-  naming_down R S T d (Some n) place holds inc same sees one =
-      let h = holds n refl in
-      nothing_on d.inc S T same (subst (λ (i : ℕ). SeesNothing i S) (inc n refl) (naming_stops v (owners_of begun) n S h.count h.good sees))
-
   -- where a top's record is on the disk that is left, it is decided, and has no line yet
   pub halt_last : (last : Option Uid) (e : ℕ) (R S : State) (d g : Disk) (t : Parts) (M : Seen) → IfDecided f.act t.coord last S → g.inc ≡ d.inc → ((u : Uid) → last ≡ Some u → is_some (at_uid u g.intents) ≡ true) → AreRecordsOf v last g.intents S
       → IsSteady f.act f.paths t.coord → ((u : Uid) (b : Branch) → branch_of u t.coord.tree ≡ Some b → Contains begun (action_of b)) → t.server.inc ≡ d.inc → t.coord.tree.node ≡ k
@@ -103,21 +92,27 @@ module _ (f : Fixed) (x : ℕ) (begun : List Action) (k : ℕ) where
       let h = stops_are_taken f.act f.code f.paths x t.coord last S steady decided s.coord in
       let T = h.state in
       let only = h.holds.1 in
-      let next = others_go f x begun k S T M others h.run (λ j n other is seen. memory_stopped S T (reached_of f x begun k S M others) h.run v t.coord.tree steady.alike s.home only j n.disk n.live other seen) (fresh_stopped S T t steady of only others.fresh) (let q = others.now in let e : T.now ≡ S.now = ap (λ (z : State). z.now) only.rest in omega (arith, q, e)) in (
-        T,
-        down_halted e T g M next (record {
-          server = subst (λ (i : ℕ). (T.server k).incarnation ≤ i) (level ∙ sym inc) (subst (λ (z : ℕ → state.Server). (z k).incarnation ≤ t.server.inc) (sym (ap (λ (z : State). z.server) only.rest)) (servers_stop v t.server S s.server));
-          naming = naming_down R S T g t.naming s.place holds (λ n is. s.inc n is ∙ sym inc) (ap (λ (z : State). z.naming) only.rest) s.naming;
+      let reached = reached_of f x begun k S M others in
+      let next = others_go f x begun k S T M others h.run (λ j disk live other seen. memory_stopped S T reached h.run v t.coord.tree steady.alike s.home only j disk live other seen) (fresh_stopped S T t steady of only others.fresh) (let q = others.now in let e : T.now ≡ S.now = ap (λ (z : State). z.now) only.rest in omega (arith, q, e)) in
+      let sees = up_stopped S T reached h.run v t.coord.tree only d t s in
+      let fall = fallen f x begun k R T M t g.inc next (level ∙ sym inc) holds s.place (λ n is. s.inc n is ∙ sym inc) sees.0 sees.1 in
+      let U = fall.0 in
+      let z = fall.1 in
+      let ends : (a : Act) → 3 ≤ (S.action a).stage → U.action a ≡ S.action a = λ a ended. ap (λ (q : Act → state.Action). q a) (let y = z.moved in y.action) ∙ only.ended a ended in (
+        U,
+        down_halted e U g M z.others (record {
+          server = z.server;
+          naming = z.naming;
           tree = t.coord.tree;
           last = last;
-          stopped = h.holds.0;
+          stopped = stops_stay f.act t.coord.tree last T U (λ a its. ap (λ (q : Act → state.Action). q a) (let y = z.moved in y.action)) h.holds.0;
           decided = there;
           home = s.home;
-          past = past_on S T only.ended v t.coord.tree s.past;
-          records = records_on S T only.ended v last g.intents records;
-        }) (confirms_later f x S T (reached_of f x begun k S M others) h.run M.sent M.sent (λ r i. i) g None confirms),
-        tied_halts f x begun e k t.coord.tree last S T M.lines node s.past h.holds.0 only now,
-        h.run,
+          past = past_on S U ends v t.coord.tree s.past;
+          records = records_on S U ends v last g.intents records;
+        }) (confirms_later f x S U reached (go_on h.run z.run) M.sent M.sent (λ r i. i) g None confirms),
+        (let y = tied_moved f x begun T U (let N = halted e k g M in N.lines) z.moved (tied_behind f x begun e (body.Halted k ∷ []) S T M.lines (refl, tt) now (tied_halts f x begun e k t.coord.tree last S T M.lines node s.past h.holds.0 only now)) in y.tied),
+        go_on h.run z.run,
       )
 
   pub halt_up : (e : ℕ) (R S : State) (d : Disk) (t : Parts) (M : Seen) → IsSteady f.act f.paths t.coord → ((u : Uid) (b : Branch) → branch_of u t.coord.tree ≡ Some b → Contains begun (action_of b)) → t.server.inc ≡ d.inc → t.coord.tree.node ≡ k

@@ -148,7 +148,7 @@ module _ (c : Case) (s : Spot) (from : ℕ) (m : Message) (p : Parts) (outs : Li
   reached_behind = (f.first, go_on others_S.run first.run)
 
   others_behind : SeesOthers f c.x c.begun k behind_server M
-  others_behind = others_go f c.x c.begun k S behind_server M others_S first.run (λ j n other at seen_there. memory_serving V m S behind_server only_serving (view_in c j) n.disk n.live other seen_there)
+  others_behind = others_go f c.x c.begun k S behind_server M others_S first.run (λ j disk live other seen_there. memory_serving V m S behind_server only_serving (view_in c j) disk live other seen_there)
       (fresh_on f c.begun S behind_server (action_is V m S behind_server only_serving) (ap (λ (z : State). z.kept) only_serving.rest) (ap (λ (z : State). z.calls) only_serving.rest) (ap (λ (z : State). z.includes) only_serving.rest) others_S.fresh)
       (let o = others_S.now in let e : behind_server.now ≡ S.now = ap (λ (z : State). z.now) only_serving.rest in omega (arith, o, e))
 
@@ -194,7 +194,7 @@ module _ (c : Case) (s : Spot) (from : ℕ) (m : Message) (p : Parts) (outs : Li
         record {
           moved = moved_then S behind_server behind_naming (moved_serving V m S behind_server only_serving) (moved_named behind_server behind_naming only);
           run = go_on first.run g.run;
-          others = others_go f c.x c.begun k behind_server behind_naming M others_behind g.run (λ j n other at seen_there. memory_named behind_server behind_naming reached_behind g.run only (view_in c j) n.disk n.live (λ its. other (its ∙ sym one)) seen_there)
+          others = others_go f c.x c.begun k behind_server behind_naming M others_behind g.run (λ j disk live other seen_there. memory_named behind_server behind_naming reached_behind g.run only (view_in c j) disk live (λ its. other (its ∙ sym one)) seen_there)
               (fresh_named f c.begun behind_server behind_naming only others_behind.fresh)
               (now_named behind_server behind_naming (length M.lines) only others_behind.now);
           up = up_with behind_naming (action_named behind_server behind_naming reached_behind g.run only ∙ action_is V m S behind_server only_serving) (sees_named behind_server behind_naming reached_behind g.run only V p first.holds.0) (coord_named behind_server behind_naming reached_behind g.run only V t.coord coord_behind) g.holds.0;

@@ -3,6 +3,7 @@ pub mod OtherSteps
 pub mod TieSteps
 pub mod MoveSteps
 pub mod GoodSteps
+pub mod FallSteps
 pub mod HaltSteps
 pub mod WalkSteps
 pub mod TopSteps

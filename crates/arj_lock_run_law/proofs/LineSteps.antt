@@ -11,7 +11,7 @@ use Rattle.arj_lock_run_law.proofs.OtherSteps.{confirms_of, here_of, longer, oth
 use Rattle.arj_lock_run_law.proofs.TieSteps.{tied_now, tied_quiet}
 
 pub lines_stay : LinesStay
-lines_stay c e bs M s = record { run = s.run; nodes = s.nodes; confirms = s.confirms; posts = s.posts; fresh = s.fresh; now = (let l = longer c.fixed c.x c.begun M.lines (numbered e bs) in let h = s.now in omega (arith, l, h)) }
+lines_stay c e bs M s = record { run = s.run; nodes = s.nodes; absent = s.absent; confirms = s.confirms; posts = s.posts; fresh = s.fresh; now = (let l = longer c.fixed c.x c.begun M.lines (numbered e bs) in let h = s.now in omega (arith, l, h)) }
 
 pub down_stays : DownStays
 down_stays c e k d M seen agrees = let s = seen.sees in halt_down c.fixed c.x c.begun k e c.state d M (others_of c.fixed c.x c.begun k d None c.state M s) (here_of c.fixed c.x c.begun k d None c.state M s) (confirms_of c.fixed c.x c.begun k d None c.state M s) (tied_now c (down k d M) seen)

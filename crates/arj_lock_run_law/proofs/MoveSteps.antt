@@ -37,8 +37,10 @@ ends_same S T same a ended = ap (λ (g : Act → state.Action). g a) same
 pub nothing_on : (inc : ℕ) (S T : State) → T.naming ≡ S.naming → SeesNothing inc S → SeesNothing inc T
 nothing_on inc S T same s = record {
   bound = subst (λ (n : state.Naming). n.bound ≤ (inc + 1) * 4294967296) (sym same) s.bound;
-  first = subst (λ (n : state.Naming). n.first < (inc + 1) * 4294967296) (sym same) s.first;
+  first = subst (λ (n : state.Naming). n.first ≤ (inc + 1) * 4294967296) (sym same) s.first;
   recorded = subst (λ (n : state.Naming). n.recorded < (inc + 1) * 4294967296) (sym same) s.recorded;
+  empty = subst (λ (n : state.Naming). (a : Act) → (n.rows a ≡ 0) × (n.asked a ≡ false)) (sym same) s.empty;
+  nobody = subst (λ (n : state.Naming). (a : Act) → (n.told a ≡ false) × (n.confirmed a ≡ false)) (sym same) s.nobody;
 }
 
 -- ---- where only memory and machine are at stake
@@ -49,7 +51,7 @@ up_on v S T d t ends server coord naming s = record { server = server; coord = c
 
 pub down_on : (v : View) (S T : State) (d : Disk) → ((a : Act) → 3 ≤ (S.action a).stage → T.action a ≡ S.action a) → T.server v.node ≡ S.server v.node → (v.node ≡ 1 → SeesNothing d.inc T) → ((s : SeesDown v S d) → HasStopped v.family.act s.tree s.last T) → SeesDown v S d → SeesDown v T d
 down_on v S T d ends server naming stopped s = record {
-  server = subst (λ (m : state.Server). m.incarnation ≤ d.inc) (sym server) s.server;
+  server = (let o = s.server in record { last = o.last; low = o.low; empty = server ∙ o.empty });
   naming = naming;
   tree = s.tree;
   last = s.last;
@@ -93,7 +95,7 @@ module _ (S T : State) (reached : IsReached S) (run : Run S T) (only : OnlyNamin
   pub action_named : T.action ≡ S.action
   action_named = ap (λ (s : State). s.action) only.rest
 
-  server_named : T.server ≡ S.server
+  pub server_named : T.server ≡ S.server
   server_named = ap (λ (s : State). s.server) only.rest
 
   pub sees_named : (w : View) (t : Parts) → Sees w t.server S → Sees w t.server T
@@ -160,6 +162,14 @@ module _ (S T : State) (reached : IsReached S) (run : Run S T) (v : View) (t : T
       (servers_stay_seen (record v { node = k }) p.server S T (ap (λ (g : ℕ → state.Server). g k) server_stopped) (let e = ever reached run in e.sent) s.server)
       (stops_elsewhere v.family.act v.code v.x t p.coord S T reached run (λ u b found. apart k other u (s.home u b found)) only s.coord)
       (subst (λ (z : State). SeesNamingIn (record v { node = k }) z p.naming) (sym only.rest) (naming_after S T.action S.now (record v { node = k }) p.naming s.naming)) s
+
+-- of the node itself, server and naming are seen as they were
+module _ (S T : State) (reached : IsReached S) (run : Run S T) (v : View) (t : Tree) (only : OnlyStopped v.family.act t S T) where
+  pub up_stopped : (d : Disk) (p : Parts) → SeesUp v S d p → Sees v p.server T × SeesNamingIn v T p.naming
+  up_stopped d p s = (
+    servers_stay_seen v p.server S T (ap (λ (z : State). z.server v.node) only.rest) (let e = ever reached run in e.sent) s.server,
+    subst (λ (z : State). SeesNamingIn v z p.naming) (sym only.rest) (naming_after S T.action S.now v p.naming s.naming),
+  )
 
 -- ---- a top of another node has its line
 

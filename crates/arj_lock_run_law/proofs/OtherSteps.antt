@@ -1,5 +1,5 @@
 -- The world but one node, as it is seen; and what is seen of a node that does nothing while others go on.
-use Rattle.std.proofs.Common.{◌≡◌, ◌≤◌, ◌⊎◌, ◌∙◌, ◌+◌, ℕ, List, ◌∷◌, ◌++◌, [], cond, Option, Some, sym, ap, subst, inl, inr, ⊎_elim, arith, length}
+use Rattle.std.proofs.Common.{◌≡◌, ◌≤◌, ◌⊎◌, ◌∙◌, ◌+◌, ℕ, List, ◌∷◌, ◌++◌, [], cond, Option, None, Some, sym, ap, subst, inl, inr, ⊎_elim, arith, length}
 use Rattle.arj_protocol.specs.Words.{Body, Line, Uid}
 use Rattle.arj_protocol.specs.Words.ending
 use Rattle.arj_protocol.specs.Effect.{Disk, Intent}
@@ -24,7 +24,7 @@ use Rattle.arj_lock_view_law.specs.Going.{OnlyNaming}
 use Rattle.arj_lock_view_law.specs.Telling.{HasEnded, View}
 use Rattle.arj_lock_run_law.specs.Fixed.{Fixed, view_of}
 use Rattle.arj_lock_run_law.specs.Posts.{IsPostSeen}
-use Rattle.arj_lock_run_law.specs.Sees.{ArePast, AreRecordsOf, HaveConfirms, IsFresh, SeesLocks, SeesMemory}
+use Rattle.arj_lock_run_law.specs.Sees.{ArePast, AreRecordsOf, HaveConfirms, IsFresh, SeesDown, SeesLocks, SeesMemory}
 use Rattle.arj_lock_run_law.proofs.NameSteps.{confirms_later, confirms_more}
 use Rattle.arj_lock_run_law.proofs.PostSteps.{posts_stay}
 
@@ -73,6 +73,7 @@ module _ (f : Fixed) (x : ℕ) (begun : List Action) where
   pub record SeesOthers (k : ℕ) (S : State) (M : Seen) : Type 0 where
     pub run : Run (start f.first) S
     pub nodes : (j : ℕ) (n : Node) → (j ≡ k → ⊥) → M.nodes j ≡ Some n → SeesMemory (view_of f x begun j) S n.disk n.live
+    pub absent : (j : ℕ) → (j ≡ k → ⊥) → M.nodes j ≡ None → (d : Disk) × SeesDown (view_of f x begun j) S d
     pub confirms : (j : ℕ) (n : Node) → (j ≡ k → ⊥) → M.nodes j ≡ Some n → HaveConfirms f x S M.sent n.disk n.live
     pub posts : (p : Post) → seen.In p M.sent → IsPostSeen f x begun M.sent S p
     pub fresh : IsFresh f begun S
@@ -85,7 +86,7 @@ module _ (f : Fixed) (x : ℕ) (begun : List Action) where
   node_there k d live M j other = λ i. cond (other_number j k other i) (Some (record { number = k; disk = d; live = live })) (M.nodes j)
 
   pub others_of : (k : ℕ) (d : Disk) (live : Option Parts) (S : State) (M : Seen) → SeesLocks f x begun S (at k d live M) → SeesOthers k S M
-  others_of k d live S M s = record { run = s.run; nodes = λ j n other is. s.nodes j n (node_there k d live M j other ∙ is); confirms = λ j n other is. s.confirms j n (node_there k d live M j other ∙ is); posts = s.posts; fresh = s.fresh; now = s.now }
+  others_of k d live S M s = record { run = s.run; nodes = λ j n other is. s.nodes j n (node_there k d live M j other ∙ is); absent = λ j other is. s.absent j (node_there k d live M j other ∙ is); confirms = λ j n other is. s.confirms j n (node_there k d live M j other ∙ is); posts = s.posts; fresh = s.fresh; now = s.now }
 
   pub here_of : (k : ℕ) (d : Disk) (live : Option Parts) (S : State) (M : Seen) → SeesLocks f x begun S (at k d live M) → SeesMemory (view_of f x begun k) S d live
   here_of k d live S M s = s.nodes k (record { number = k; disk = d; live = live }) (node_here k d live M)
@@ -97,6 +98,7 @@ module _ (f : Fixed) (x : ℕ) (begun : List Action) where
   with_here k d live S M s here confirms = record {
     run = s.run;
     nodes = λ j n is. ⊎_elim (λ (same : j ≡ k). its j same n is) (λ (other : j ≡ k → ⊥). s.nodes j n other (sym (node_there k d live M j other) ∙ is)) (apart j k);
+    absent = λ j is. ⊎_elim (λ (same : j ≡ k). absurd (there (sym (node_here k d live M) ∙ ap (λ (i : ℕ). (let N = at k d live M in N.nodes i)) (sym same) ∙ is))) (λ (other : j ≡ k → ⊥). s.absent j other (sym (node_there k d live M j other) ∙ is)) (apart j k);
     confirms = λ j n is. ⊎_elim (λ (same : j ≡ k). subst (λ (m : Node). HaveConfirms f x S M.sent m.disk m.live) (node_is j same n is) confirms) (λ (other : j ≡ k → ⊥). s.confirms j n other (sym (node_there k d live M j other) ∙ is)) (apart j k);
     posts = s.posts;
     fresh = s.fresh;
@@ -105,6 +107,9 @@ module _ (f : Fixed) (x : ℕ) (begun : List Action) where
     where
       apart : (j m : ℕ) → (j ≡ m) ⊎ (j ≡ m → ⊥)
       apart j m = grind arith
+
+      there : ◌≡◌ {A = Option Node} (Some (record { number = k; disk = d; live = live })) None → ⊥
+      there is = cc is
 
       node_is : (j : ℕ) → j ≡ k → (n : Node) → (let N = at k d live M in N.nodes j) ≡ Some n → record { number = k; disk = d; live = live } ≡ n
       node_is j same n is =
@@ -122,12 +127,13 @@ module _ (f : Fixed) (x : ℕ) (begun : List Action) where
   longer (l ∷ a) b = let h = longer a b in omega (arith, h)
 
   pub said_others : (k e : ℕ) (bs : List Body) (S : State) (M : Seen) → SeesOthers k S M → SeesOthers k S (said e bs M)
-  said_others k e bs S M s = record { run = s.run; nodes = s.nodes; confirms = s.confirms; posts = s.posts; fresh = s.fresh; now = (let l = longer M.lines (numbered e bs) in let h = s.now in omega (arith, l, h)) }
+  said_others k e bs S M s = record { run = s.run; nodes = s.nodes; absent = s.absent; confirms = s.confirms; posts = s.posts; fresh = s.fresh; now = (let l = longer M.lines (numbered e bs) in let h = s.now in omega (arith, l, h)) }
 
   pub posted_others : (k : ℕ) (p : Post) (S : State) (M : Seen) → SeesOthers k S M → IsPostSeen f x begun (p ∷ M.sent) S p → SeesOthers k S (posted p M)
   posted_others k p S M s its = record {
     run = s.run;
     nodes = s.nodes;
+    absent = s.absent;
     confirms = λ j n other is. confirms_more f x S M.sent (p ∷ M.sent) (λ r i. inr i) n.disk n.live (s.confirms j n other is);
     posts = λ q there. ⊎_elim (λ (same : p ≡ q). subst (IsPostSeen f x begun (p ∷ M.sent) S) same its) (λ (old : seen.In q M.sent). posts_stay f x begun begun M.sent (p ∷ M.sent) q S S (λ a c. c) (λ r i. inr i) (reached_of k S M s) machine.stay (s.posts q old)) there;
     fresh = s.fresh;
@@ -135,10 +141,11 @@ module _ (f : Fixed) (x : ℕ) (begun : List Action) where
   }
 
   -- the machine goes along
-  pub others_go : (k : ℕ) (S T : State) (M : Seen) → SeesOthers k S M → Run S T → ((j : ℕ) (n : Node) → (j ≡ k → ⊥) → M.nodes j ≡ Some n → SeesMemory (view_of f x begun j) S n.disk n.live → SeesMemory (view_of f x begun j) T n.disk n.live) → IsFresh f begun T → T.now ≤ length M.lines + 1 → SeesOthers k T M
+  pub others_go : (k : ℕ) (S T : State) (M : Seen) → SeesOthers k S M → Run S T → ((j : ℕ) (d : Disk) (live : Option Parts) → (j ≡ k → ⊥) → SeesMemory (view_of f x begun j) S d live → SeesMemory (view_of f x begun j) T d live) → IsFresh f begun T → T.now ≤ length M.lines + 1 → SeesOthers k T M
   others_go k S T M s run nodes fresh now = record {
     run = go_on s.run run;
-    nodes = λ j n other is. nodes j n other is (s.nodes j n other is);
+    nodes = λ j n other is. nodes j n.disk n.live other (s.nodes j n other is);
+    absent = λ j other is. (let a = s.absent j other is in (a.0, nodes j a.0 None other a.1));
     confirms = λ j n other is. confirms_later f x S T (reached_of k S M s) run M.sent M.sent (λ r i. i) n.disk n.live (s.confirms j n other is);
     posts = λ p there. posts_stay f x begun begun M.sent M.sent p S T (λ a c. c) (λ r i. i) (reached_of k S M s) run (s.posts p there);
     fresh = fresh;

@@ -1,5 +1,5 @@
 -- A node restarts: who was decided has its line, and its server and naming start anew in the machine.
-use Rattle.std.proofs.Common.{◌≡◌, ◌≢◌, ◌≤◌, ◌∙◌, ◌+◌, ℕ, List, [], ◌∷◌, Bool, true, false, Option, Some, None, refl, sym, ap, subst, inr, ⊎_elim, arith, length, Contains}
+use Rattle.std.proofs.Common.{◌≡◌, ◌≢◌, ◌∙◌, ◌+◌, ℕ, List, [], ◌∷◌, Bool, true, false, Option, Some, None, refl, sym, ap, subst, inr, ⊎_elim, arith, length, Contains}
 use Rattle.std.proofs.lemmas.List.{length-append}
 use Rattle.arj_lock.proofs.Members.{in_from, in_to}
 use Rattle.arj_protocol.specs.Words.{Body, Kind, Uid, is_on, uids_of}
@@ -109,7 +109,7 @@ module _ (f : Fixed) (x : ℕ) (begun : List Action) (k : ℕ) (whole : AreOneTr
     pub others_found : SeesOthers f x begun k T N
     others_found =
         let o = said_others f x begun k e (line ∷ []) S M others in
-        others_go f x begun k S T N o g.run (λ j n other is seen_there. memory_acted S T (reached_of f x begun k S N o) g.run v w whole.alike (s.home w branch found) only j n.disk n.live other seen_there) fresh_found
+        others_go f x begun k S T N o g.run (λ j disk live other seen_there. memory_acted S T (reached_of f x begun k S N o) g.run v w whole.alike (s.home w branch found) only j disk live other seen_there) fresh_found
         (let h = g.holds.2 in let l : length N.lines ≡ length M.lines + 1 = length-append M.lines _ in omega (arith, h, l))
 
     -- the journal is tied with the line
@@ -133,7 +133,7 @@ module _ (f : Fixed) (x : ℕ) (begun : List Action) (k : ℕ) (whole : AreOneTr
     pub down_found : (z : SeesDown v T d) × (z.last ≡ None)
     down_found = (
       record {
-        server = subst (λ (z : State). (z.server k).incarnation ≤ d.inc) (sym only.rest) s.server;
+        server = (let o = s.server in record { last = o.last; low = o.low; empty = ap (λ (z : State). z.server k) only.rest ∙ o.empty });
         naming = λ one. nothing_on d.inc S T (ap (λ (z : State). z.naming) only.rest) (s.naming one);
         tree = s.tree;
         last = None;

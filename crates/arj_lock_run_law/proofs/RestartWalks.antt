@@ -203,8 +203,8 @@ module _ (hd : Header) (c : Case) (e k : ℕ) (d : Disk) (M : Seen) (is_seen : I
   -- the incarnation has risen on the disk
   here_risen : SeesDown v S risen
   here_risen = record {
-    server = (let s = here.server in omega (arith, s));
-    naming = λ one. (let n = here.naming one in record { bound = (let b = n.bound in omega (arith, b)); first = (let b = n.first in omega (arith, b)); recorded = (let b = n.recorded in omega (arith, b)) });
+    server = (let s = here.server in record { last = s.last; low = (let l = s.low in omega (arith, l)); empty = s.empty });
+    naming = λ one. (let n = here.naming one in record { bound = (let b = n.bound in omega (arith, b)); first = (let b = n.first in omega (arith, b)); recorded = (let b = n.recorded in omega (arith, b)); empty = n.empty; nobody = n.nobody });
     tree = here.tree;
     last = here.last;
     stopped = here.stopped;

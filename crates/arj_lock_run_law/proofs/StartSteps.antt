@@ -40,7 +40,7 @@ use Rattle.arj_lock_run_law.proofs.TieSteps.{IsMoved, moved_named, moved_serving
 use Rattle.arj_lock_run_law.proofs.OtherSteps.{SeesOthers, fresh_named, fresh_on, now_named, others_go, past_on, reached_of, records_on}
 
 -- a server that starts changes as one that takes a message
-serving_of : (v : View) (m : Message) (S T : State) → OnlyServer v.node S T → OnlyServing v m S T
+pub serving_of : (v : View) (m : Message) (S T : State) → OnlyServer v.node S T → OnlyServing v m S T
 serving_of v m S T only = record {
   rest = only.rest ∙ (λ i. record S { server = T.server; yes = sym yes_is i; vote = sym vote_is i; net = T.net });
   others = only.others;
@@ -100,7 +100,7 @@ module _ (f : Fixed) (x : ℕ) (begun : List Action) (k : ℕ) where
       serving = serving_of v m S behind_server only
 
       others_behind : SeesOthers f x begun k behind_server M
-      others_behind = others_go f x begun k S behind_server M others run_serving (λ j n other is seen_there. memory_serving v m S behind_server serving (view_of f x begun j) n.disk n.live other seen_there)
+      others_behind = others_go f x begun k S behind_server M others run_serving (λ j disk live other seen_there. memory_serving v m S behind_server serving (view_of f x begun j) disk live other seen_there)
           (fresh_on f begun S behind_server (action_is v m S behind_server serving) (ap (λ (z : State). z.kept) only.rest) (ap (λ (z : State). z.calls) only.rest) (ap (λ (z : State). z.includes) only.rest) others.fresh)
           (let o = others.now in let e : behind_server.now ≡ S.now = ap (λ (z : State). z.now) only.rest in omega (arith, o, e))
 
@@ -138,7 +138,7 @@ module _ (f : Fixed) (x : ℕ) (begun : List Action) (k : ℕ) where
       named one behind_naming run seen_naming only_named = record {
         moved = moved_then S behind_server behind_naming (moved_serving v m S behind_server serving) (moved_named behind_server behind_naming only_named);
         run = go_on run_serving run;
-        others = others_go f x begun k behind_server behind_naming M others_behind run (λ j n other is seen_there. memory_named behind_server behind_naming reached_behind run only_named (view_of f x begun j) n.disk n.live (λ its. other (its ∙ sym (eqb-true k 1 one))) seen_there) (fresh_named f begun behind_server behind_naming only_named others_behind.fresh) (now_named behind_server behind_naming (length M.lines) only_named others_behind.now);
+        others = others_go f x begun k behind_server behind_naming M others_behind run (λ j disk live other seen_there. memory_named behind_server behind_naming reached_behind run only_named (view_of f x begun j) disk live (λ its. other (its ∙ sym (eqb-true k 1 one))) seen_there) (fresh_named f begun behind_server behind_naming only_named others_behind.fresh) (now_named behind_server behind_naming (length M.lines) only_named others_behind.now);
         up = up_with behind_naming (action_named behind_server behind_naming reached_behind run only_named ∙ action_is v m S behind_server serving) (sees_named behind_server behind_naming reached_behind run only_named v (parts_in k inc d) server_behind) (subst (λ (b : Bool). SeesNamingIn v behind_naming (cond b (Some (recovered_naming inc d.names)) None)) (sym one) seen_naming);
       }
 

@@ -150,4 +150,4 @@ module _ (f : Fixed) (x unit : ℕ) (begun : List Action) (S T : State) (only : 
 module _ (f : Fixed) (x unit : ℕ) (begun : List Action) (k : ℕ) (S T : State) (M : Seen) (run : Run S T) (only : OnlyUnit f x unit S T) (home : (u : Uid) → root (f.act u) ≡ unit → (let r = first_uid (f.paths u) in r.node) ≡ k)
     (one : (a : Action) × Contains begun a × (root (f.act (act_of a)) ≡ unit)) (changed : (u : Uid) → IsUnbegun begun u → T.action (f.act u) ≡ S.action (f.act u)) where
   pub others_unit : T.now ≤ length M.lines + 1 → SeesOthers f x begun k S M → SeesOthers f x begun k T M
-  others_unit now s = others_go f x begun k S T M s run (λ j n other is seen. memory_unit f x unit S T only begun k home j n.disk n.live other seen) (fresh_unit f x unit begun S T only one changed s.fresh) now
+  others_unit now s = others_go f x begun k S T M s run (λ j disk live other seen. memory_unit f x unit S T only begun k home j disk live other seen) (fresh_unit f x unit begun S T only one changed s.fresh) now

@@ -65,7 +65,7 @@ pub record SeesUp (v : View) (S : State) (d : Disk) (t : Parts) : Type 0 where
 -- A node that is down: of the actions of its last coordinator all have ended, but for one top, of which the decision is on the disk and
 -- that has no line yet; all others are past, and each other top with a record is committed.
 pub record SeesDown (v : View) (S : State) (d : Disk) : Type 0 where
-  pub server : IsDown v d.inc S
+  pub server : IsDown v.node d.inc S
   pub naming : v.node ≡ 1 → SeesNothing d.inc S
   pub tree : Tree
   pub last : Option Uid
@@ -115,11 +115,13 @@ pub record IsFresh (f : Fixed) (begun : List Action) (S : State) : Type 0 where
 
 -- ---- the world
 
--- The object in the whole world: a run of the machine from its first value, whose state is seen at each node, in whom nodes confirmed, in
--- each message that was sent, and of what wasn't begun; and no line of the machine stands behind the journal's.
+-- The object in the whole world: a run of the machine from its first value, whose state is seen at each node, and where there is none as at
+-- one that never starts, in whom nodes confirmed, in each message that was sent, and of what wasn't begun; and no line of the machine stands
+-- behind the journal's.
 pub record SeesLocks (f : Fixed) (x : ℕ) (begun : List Action) (S : State) (M : Seen) : Type 0 where
   pub run : Run (start f.first) S
   pub nodes : (k : ℕ) (n : Node) → M.nodes k ≡ Some n → SeesMemory (view_of f x begun k) S n.disk n.live
+  pub absent : (k : ℕ) → M.nodes k ≡ None → (d : Disk) × SeesDown (view_of f x begun k) S d
   pub confirms : (k : ℕ) (n : Node) → M.nodes k ≡ Some n → HaveConfirms f x S M.sent n.disk n.live
   pub posts : (p : Post) → In p M.sent → IsPostSeen f x begun M.sent S p
   pub fresh : IsFresh f begun S

@@ -1,5 +1,5 @@
 -- A whole server goes: it stops and starts, takes copies, and answers calls.
-use Rattle.std.proofs.Common.{◌≡◌, ◌≢◌, ◌<◌, ◌≤◌, ◌∙◌, ◌==◌, ◌||◌, ℕ, List, [], ◌∷◌, length, Bool, true, false, cond, nat_lt, Option, Some, None, refl, sym, ap, subst, inl, inr, ⊎_elim, arith, eqb-true}
+use Rattle.std.proofs.Common.{◌≡◌, ◌≢◌, ◌<◌, ◌≤◌, ◌⊎◌, ◌+◌, ◌∙◌, ◌==◌, ◌||◌, ℕ, List, [], ◌∷◌, length, Bool, true, false, cond, nat_lt, Option, Some, None, refl, sym, ap, subst, inl, inr, ⊎_elim, arith, eqb-true}
 use Rattle.std.specs.List.{list_any}
 use Rattle.std.proofs.lemmas.Bool.{or_parts}
 use Rattle.arj_base.proofs.Uids.{uid_cases}
@@ -11,7 +11,7 @@ use Rattle.arj_protocol.specs.Ask.{actor}
 use Rattle.arj_protocol.specs.Copy.{Copy, ask_copy, current, invoke_copy, run_copy, taken_copy}
 use Rattle.arj_protocol.specs.Effect.{Served, either, reply, void}
 use Rattle.arj_protocol.specs.Order.{at_number, at_uid, binding_eq, binding_less, binding_number, put_number, put_uid, unbound}
-use Rattle.arj_protocol.specs.Server.{Kept, Server, activate, active_binding, apply_ends, binding_of, changed_by, changed_copy, has_ended, invoke, invoke_kept, invoke_new, invoke_now, is_below, is_told, kept_after, on_copy, took_copy}
+use Rattle.arj_protocol.specs.Server.{Kept, Server, activate, active_binding, apply_ends, binding_of, changed_by, changed_copy, has_ended, invoke, invoke_kept, invoke_new, invoke_now, is_below, is_told, kept_after, new_server, on_copy, took_copy}
 use Rattle.arj_protocol.proofs.Maps.{put_other as put_number_other, put_same as put_number_same}
 use Rattle.arj_protocol.proofs.RowSteps.{one_or_two}
 use Rattle.arj_lock_law.specs.Actions.{Act, In, at_act, same, top}
@@ -45,30 +45,38 @@ only_itself n S = record { rest = refl; others = λ k other. refl; sent = λ m i
 
 -- ---- it starts
 
+-- a server of the machine that has just started is seen as a new one
+started : (v : View) (i : ℕ) (S : State) → S.server v.node ≡ after_crash i → Sees v (new_server i) S
+started v i S empty = record {
+  incarnation = ap (λ (m : machine.Server). m.incarnation) empty;
+  object = (ap (λ (m : machine.Server). m.active) empty, ap (λ (m : machine.Server). m.log) empty, λ a. ap (λ (m : machine.Server). m.rows a) empty);
+  latest = λ u fresh. subst (λ (m : machine.Server). m.request (v.family.act u) ≤ 0) (sym empty) (omega arith);
+  kept = λ u k w found. absurd (let no_way : ◌≡◌ {A = Option Kept} None (Some k) = found in cc no_way);
+  voted = λ u fresh off. ap (λ (m : machine.Server). m.voted (v.family.act u)) empty;
+}
+
+-- the machine's server stops, and starts in a later incarnation
+crashes : (n i : ℕ) (S : State) → (S.server n).incarnation < i → Goes S (λ T. (T.server n ≡ after_crash i) × OnlyServer n S T)
+crashes n i S low = record {
+  state = next (CrashServer n i) S;
+  run = step (CrashServer n i) low stay;
+  holds = (at_here S.server n (after_crash i), record { rest = refl; others = λ k other. server_else S n k (after_crash i) other; sent = λ m i. i });
+}
+
 pub servers_stop : ServersStop
-servers_stop v s S sees = let i = sees.incarnation in omega (arith, i)
+servers_stop v s S sees = goes_to (crashes v.node (s.inc + 1) S (let i = sees.incarnation in omega (arith, i))) (λ T g. (record { last = s.inc + 1; low = omega arith; empty = g.0 }, g.1))
 
 pub servers_are_down : ServersAreDown
-servers_are_down v first inc = omega arith
+servers_are_down v first inc = record { last = 0; low = omega arith; empty = refl }
 
 pub servers_start : ServersStart
-servers_start v inc i S up down = record {
-  state = next (CrashServer n i) S;
-  run = step (CrashServer n i) (omega (arith, up, down)) stay;
-  holds = (
-    record {
-      incarnation = ap (λ (m : machine.Server). m.incarnation) (at_here S.server n (after_crash i));
-      object = (ap (λ (m : machine.Server). m.active) (at_here S.server n (after_crash i)), ap (λ (m : machine.Server). m.log) (at_here S.server n (after_crash i)));
-      latest = λ u fresh. subst (λ (m : machine.Server). m.request (v.family.act u) ≤ 0) (sym (at_here S.server n (after_crash i))) (omega arith);
-      kept = λ u k w found. absurd (let no_way : ◌≡◌ {A = Option Kept} None (Some k) = found in cc no_way);
-      voted = λ u fresh off. ap (λ (m : machine.Server). m.voted (v.family.act u)) (at_here S.server n (after_crash i));
-    },
-    record { rest = refl; others = λ k other. server_else S n k (after_crash i) other; sent = λ m i. i },
-  );
-}
+servers_start v inc i S up down = ⊎_elim
+    (λ less. goes_to (crashes v.node i S (let e = ap (λ (m : machine.Server). m.incarnation) down.empty in omega (arith, e, less))) (λ T g. (started v i T g.0, g.1)))
+    (λ same. record { state = S; run = stay; holds = (started v i S (down.empty ∙ ap after_crash same), only_itself v.node S) })
+    (order down.last i (let l = down.low in omega (arith, l, up)))
   where
-    n : ℕ
-    n = v.node
+    order : (m k : ℕ) → m ≤ k → (m < k) ⊎ (m ≡ k)
+    order m k le = grind (arith, le)
 
 -- ---- it takes a copy
 

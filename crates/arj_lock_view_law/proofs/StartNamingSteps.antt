@@ -26,7 +26,7 @@ pub naming_stops : NamingStops
 naming_stops v owner n S few good sees = falls_are_seen v.family.act owner v.x (place_of n) sees.named S few (good sees.named sees.there) sees.seen
 
 pub naming_is_down : NamingIsDown
-naming_is_down first inc = record { bound = omega arith; first = omega arith; recorded = omega arith }
+naming_is_down first inc = record { bound = omega arith; first = omega arith; recorded = omega arith; empty = λ a. (refl, refl); nobody = λ a. (refl, refl) }
 
 pub naming_starts : NamingStarts
 naming_starts v inc i d o S up there down = goes_to

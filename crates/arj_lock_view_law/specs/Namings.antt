@@ -126,9 +126,9 @@ ConfirmsAreTaken = (v : View) (owner : Owners) (p : Path) (grants : Grants) (exc
 
 -- ---- it stops and starts
 
--- It stops: the machine waits. Counts of bindings have 32 bits.
+-- It stops: so does the machine's naming. Counts of bindings have 32 bits.
 abbrev pub NamingStops : Type 0
-NamingStops = (v : View) (owner : Owners) (n : Naming) (S : State) → n.count < 4294967296 → IsGoodAt v owner n → SeesNaming v n S → SeesNothing n.inc S
+NamingStops = (v : View) (owner : Owners) (n : Naming) (S : State) → n.count < 4294967296 → IsGoodAt v owner n → SeesNaming v n S → Goes S (λ T. SeesNothing n.inc T × OnlyNaming S T)
 
 -- Before it first starts it is down too.
 abbrev pub NamingIsDown : Type 0

@@ -5,7 +5,7 @@ use Rattle.arj_protocol.specs.Words.invoked
 use Rattle.arj_protocol.specs.Copy.{Copy}
 use Rattle.arj_protocol.specs.Order.{at_number, at_uid, binding_number}
 use Rattle.arj_protocol.specs.Server.{Kept, Server, is_told}
-use Rattle.arj_lock_law.specs.Actions.{In}
+use Rattle.arj_lock_law.specs.Actions.{Act, In}
 use Rattle.arj_lock_law.specs.State as machine
 use Rattle.arj_lock_law.specs.State.{Request, State}
 use Rattle.arj_lock_view_law.specs.Acts.{Acts}
@@ -40,9 +40,9 @@ ShowsIfInvoked act code u number w S (Some a) = ShowsInvoked act code u number w
 
 -- ---- a server
 
--- Its copy of the object, with the answer that said so; or nothing since it started.
+-- Its copy of the object, with the answer that said so; or nothing since it started, and no row.
 abbrev pub SeesObject : Acts → Codes → ℕ → ℕ → Option Copy → machine.Server → State → Type 0
-SeesObject act code x i None m S = (m.active ≡ 0) × (m.log ≡ [])
+SeesObject act code x i None m S = (m.active ≡ 0) × (m.log ≡ []) × ((a : Act) → m.rows a ≡ 0)
 SeesObject act code x i (Some c) m S = SeesCopy act code x c m × In (machine.Activated (binding_number c.binding) i) S.net
 
 -- the number of the last request that was answered

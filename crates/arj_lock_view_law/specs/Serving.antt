@@ -1,5 +1,5 @@
 -- What a server does in the machine of one object: it stops, starts, and takes the messages that are for it.
-use Rattle.std.specs.Prelude.{⊤, ◌≡◌, ◌≢◌, ◌<◌, ◌≤◌, ℕ, List, Option, Some, None, Contains, find}
+use Rattle.std.specs.Prelude.{⊤, ◌≡◌, ◌≢◌, ◌<◌, ◌≤◌, ◌+◌, ℕ, List, Option, Some, None, Contains, find}
 use Rattle.arj_protocol.specs.Words.{Ask, Binding, End, Head, ObjectState, Op, Uid, object, uid_eq}
 use Rattle.arj_protocol.specs.Words.ask
 use Rattle.arj_protocol.specs.Words.voted
@@ -8,7 +8,7 @@ use Rattle.arj_protocol.specs.Copy.{Copy, changed_state}
 use Rattle.arj_protocol.specs.Order.{at_number, binding_number}
 use Rattle.arj_protocol.specs.Server.{Server, activate, invoke, new_server, vote}
 use Rattle.arj_lock_law.specs.Actions.{In}
-use Rattle.arj_lock_law.specs.Machine.{start}
+use Rattle.arj_lock_law.specs.Machine.{after_crash, start}
 use Rattle.arj_lock_law.specs.State as machine
 use Rattle.arj_lock_law.specs.State.{State}
 use Rattle.arj_part_law.specs.Ends.{ask_ends}
@@ -24,21 +24,23 @@ use Rattle.arj_lock_view_law.specs.Acts.{Acts}
 
 -- ---- it stops and starts
 
--- Its node is down, and the machine's server is of no later incarnation than the disk's.
-abbrev pub IsDown : View → ℕ → State → Type 0
-IsDown v inc S = (let m = S.server v.node in m.incarnation) ≤ inc
+-- The node is down: the machine's server has nothing, in an incarnation that is at most the next one.
+pub record IsDown (node inc : ℕ) (S : State) : Type 0 where
+  pub last : ℕ
+  pub low : last ≤ inc + 1
+  pub empty : S.server node ≡ after_crash last
 
--- It stops: the machine waits.
+-- It stops: so does the machine's.
 abbrev pub ServersStop : Type 0
-ServersStop = (v : View) (s : Server) (S : State) → Sees v s S → IsDown v s.inc S
+ServersStop = (v : View) (s : Server) (S : State) → Sees v s S → Goes S (λ T. IsDown v.node s.inc T × OnlyServer v.node S T)
 
 -- Before it first starts it is down too.
 abbrev pub ServersAreDown : Type 0
-ServersAreDown = (v : View) (first inc : ℕ) → IsDown v inc (start first)
+ServersAreDown = (v : View) (first inc : ℕ) → IsDown v.node inc (start first)
 
--- It starts in a later incarnation, with nothing: so does the machine's.
+-- It starts in a later incarnation, with nothing: so does the machine's, unless it did already.
 abbrev pub ServersStart : Type 0
-ServersStart = (v : View) (inc i : ℕ) (S : State) → inc < i → IsDown v inc S → Goes S (λ T. Sees v (new_server i) T × OnlyServer v.node S T)
+ServersStart = (v : View) (inc i : ℕ) (S : State) → inc < i → IsDown v.node inc S → Goes S (λ T. Sees v (new_server i) T × OnlyServer v.node S T)
 
 -- ---- what requests show
 

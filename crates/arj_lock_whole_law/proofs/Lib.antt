@@ -24,3 +24,7 @@ pub mod Whole
 pub mod Gives
 pub mod WholeRuns
 pub mod VotedRuns
+pub mod OnSteps
+pub mod Fronts
+pub mod RowsSeen
+pub mod Holding

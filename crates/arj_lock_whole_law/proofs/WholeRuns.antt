@@ -48,7 +48,7 @@ module _ (hd : Header) (values : Values) (x : ℕ) (has : HasObject hd x) (E : L
 
   -- ---- at the end
 
-  locked : (M : Seen) → KnowsFew M → AreLocksSeen values x Kept M → IsLocked values x M
+  pub locked : (M : Seen) → KnowsFew M → AreLocksSeen values x Kept M → IsLocked values x M
   locked M few seen = (seen.0, seen.1, (λ f agrees. let z = seen.3 f agrees in (z.0, z.1, z.2)), record { one = one_call; numbered = λ p there h a is. (let k = seen.2.0 in let w = k.works in let e = w.1 in e.requests p there h a is) })
     where
       one_call : AreOneCall M.sent

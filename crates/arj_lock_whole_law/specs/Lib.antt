@@ -6,3 +6,4 @@ pub mod Acks
 pub mod Whole
 pub mod Rest
 pub mod Runs
+pub mod Held

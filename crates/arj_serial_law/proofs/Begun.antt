@@ -55,7 +55,7 @@ module _ (begun : List Action) (paths : Paths) (act : Acts) (lines : List Line) 
   the_action : (a : Act) → Began lines a → IsOf begun a (path_of lines a)
   the_action a c = begun_of begun (acts lines) alike sound.distinct a (in_from a (acts lines) c)
 
-  path_same : (a : Act) → Began lines a → paths a.uid ≡ uids (path_of lines a)
+  pub path_same : (a : Act) → Began lines a → paths a.uid ≡ uids (path_of lines a)
   path_same a c = let r = the_action a c in ap paths r.uid ∙ tree.agree r.action (in_to r.action begun r.there) ∙ sym r.path_is
 
   placed : (a : Act) → Began lines a → IsPlaced (act a.uid) a.kind

@@ -5,7 +5,7 @@ use Rattle.std.proofs.Math.Bool.{Bool-set}
 use Rattle.std.proofs.lemmas.Bool.{and_parts}
 use Rattle.std.proofs.lemmas.Bool.Decides.{nat_tests}
 use Rattle.arj_base.proofs.Uids.{uid_is, uid_other, uid_same}
-use Rattle.arj_base.specs.Rows.{Row, last_uid}
+use Rattle.arj_base.specs.Rows.{Row, is_on, last_uid}
 use Rattle.arj_base.specs.Uid.{entry, object, uid_eq, nobody}
 use Rattle.arj_base.specs.declared.mode.Mode.{Mode}
 use Rattle.arj_base.specs.declared.mode.Mode.TheVariants as mode
@@ -44,7 +44,7 @@ use Rattle.arj_lock_law.proofs.Roots.{roots_low, start_low}
 use Rattle.arj_lock_view_law.specs.Acts.{Acts}
 use Rattle.arj_lock_view_law.specs.Rows.{held_in, strength}
 use Rattle.arj_lock_line_law.specs.Lines.{IsCallOf, said_on}
-use Rattle.arj_serial_law.specs.Locked.{AreTiedAlong, EntriesAreHeld, IsLockedAt, IsSeenAt, is_number, is_of_root, locks_entry, ran_at}
+use Rattle.arj_serial_law.specs.Locked.{AreLockedAlong, AreRowsSeen, AreTiedAlong, EntriesAreHeld, IsLockedIn, IsSeenAt, caller_at, is_number, is_of_root, locks_call, locks_entry, ran_at}
 use Rattle.arj_serial_law.specs.Tied.{IsTied, path_of}
 use Rattle.arj_serial_law.proofs.Order.{IsShown, IsTopOf, before_top, find_call, head_of, is_top_in, its_root, its_top, listed, one_unit, place_in, root_of_top, same_number, shown, stage_of_top, top_item, unit_behind}
 use Rattle.arj_serial_law.proofs.Paths.{own_last, own_there}
@@ -82,6 +82,20 @@ read_below {A} f us n (l ∷ ls) s i = by (f us l.body) i (λ j. read_below f (a
     by (Some a) (inl is) ih = let e : n ≡ s.at = ap (λ (z : Placed A). z.at) is in omega (arith, e)
     by (Some a) (inr j) ih = let e = ih j in omega (arith, e)
 
+-- who made a call, by its place
+caller_found : (us : List Act) (n : ℕ) (ls : List Line) (s : Placed Said) → In s (read said_of us n ls) → caller_at s.at (read said_of us n ls) ≡ uids s.it.path
+caller_found us n [] s i = absurd i
+caller_found us n (l ∷ ls) s i = by (said_of us l.body) i (λ j. caller_found (acts_after us l.body) (n + 1) ls s j) (λ j. read_from said_of (acts_after us l.body) (n + 1) ls s j)
+  where
+    off : (m k : ℕ) → m + 1 ≤ k → (m == k) ≡ false
+    off m k less = grind (arith, less)
+
+    by : (o : Option Said) → In s (put n o (read said_of (acts_after us l.body) (n + 1) ls)) → (In s (read said_of (acts_after us l.body) (n + 1) ls) → caller_at s.at (read said_of (acts_after us l.body) (n + 1) ls) ≡ uids s.it.path) → (In s (read said_of (acts_after us l.body) (n + 1) ls) → n + 1 ≤ s.at)
+        → caller_at s.at (put n o (read said_of (acts_after us l.body) (n + 1) ls)) ≡ uids s.it.path
+    by None j ih from = ih j
+    by (Some a) (inl is) ih from = (λ i. cond (eq-eqb n s.at (ap (λ (z : Placed Said). z.at) is) i) (uids a.path) (caller_at s.at (read said_of (acts_after us l.body) (n + 1) ls))) ∙ ap (λ (z : Placed Said). uids z.it.path) is
+    by (Some a) (inr j) ih from = (λ i. cond (off n s.at (from j) i) (uids a.path) (caller_at s.at (read said_of (acts_after us l.body) (n + 1) ls))) ∙ ih j
+
 taken_length : (p : ℕ) (ls : List Line) → length (take p ls) ≤ p
 taken_length zero [] = omega arith
 taken_length (suc p) [] = omega arith
@@ -98,6 +112,18 @@ any_in f x (y ∷ ys) (inr i) e = by (f y) (any_in f x ys i e)
     by : (b : Bool) → list_any f ys ≡ true → (b || list_any f ys) ≡ true
     by true g = refl
     by false g = g
+
+both_true : (a b : Bool) → a ≡ true → b ≡ true → (a && b) ≡ true
+both_true a b f g = (λ i. f i && g i)
+
+-- whatever passes the stronger test passes the weaker one
+any_less : {A : Type 0} (f g : A → Bool) (xs : List A) → list_any (λ a. f a && g a) xs ≡ true → list_any f xs ≡ true
+any_less f g [] e = e
+any_less f g (x ∷ xs) e = by (f x) (g x) e (any_less f g xs)
+  where
+    by : (a b : Bool) → ((a && b) || list_any (λ y. f y && g y) xs) ≡ true → (list_any (λ y. f y && g y) xs ≡ true → list_any f xs ≡ true) → (a || list_any f xs) ≡ true
+    by true b e ih = refl
+    by false b e ih = ih e
 
 -- a row that is seen stands in the table
 record IsRow (act : Acts) (o : Uid) (h : machine.Act) (k : ℕ) (rows : List Row) : Type 0 where
@@ -330,55 +356,72 @@ module _ (values : Values) (lines : List Line) (right : AreRight new_book lines)
     mode_high true = omega arith
     mode_high false = omega arith
 
-    objects : list_any (locks_for lines c) (tables_of lines (ran_at values lines x T t c) p) ≡ true
-    objects =
-        let rows = seen.rows in
-        let server = held.server in
-        let less : machine_rows.mode d.write ≤ held_in t.act (object x) server.0 (table (ran_at values lines x T t c) (take p lines)) =
-        (let a = server.2 in let b = rows.servers (ran_at values lines x T t c) server.0 in let e = ap (λ n. (S.server n).rows server.0) same_node in omega (arith, a, b, e)) in
-        let r = find_row t.act (object x) server.0 (machine_rows.mode d.write) (table (ran_at values lines x T t c) (take p lines)) (mode_high d.write) less in
-        let h = rows.holders (ran_at values lines x T t c) r.row (in_to r.row (table (ran_at values lines x T t c) (take p lines)) r.there) (uid_is (let w = r.row in w.object) (object x) r.of_object) in
-        let b = in_from h.0 (acts lines) h.1 in
-        let last : last_uid (let w = r.row in w.holder) ≡ h.0.uid = ap last_uid h.2 ∙ own_last (acts lines) sound.distinct sound.formed h.0 b in
-        let stands : root (t.act h.0.uid) ≡ root (let e = s.call in e.act) = ap (λ v. root (t.act v)) (sym last) ∙ ap root r.holder ∙ sym (on_root d.act server.0 server.1) ∙ ap root same_act in
-        let root_of_it = of_unit c s h.0 b stands in
-        any_in (locks_for lines c) r.row (table (ran_at values lines x T t c) (take p lines)) r.there
-        (all_true (uid_eq (let w = r.row in w.object) (object c.x)) (uid_eq (holder_root r.row) (root_uid lines c)) (cond (writes c.op) (is_write (let w = r.row in w.mode)) true)
-        (ap (λ y. uid_eq (let w = r.row in w.object) (object y)) s.call_object ∙ r.of_object)
-        (ap (λ us. uid_eq (first_of us) (root_uid lines c)) h.2 ∙ ap (λ v. uid_eq v (root_uid lines c)) root_of_it.first ∙ uid_same (root_uid lines c))
-        (strong (writes c.op) (let w = r.row in w.mode) (subst (λ w. machine_rows.mode w ≤ strength (let z = r.row in z.mode)) same_write r.strong)))
-      where
-        all_true : (a b e : Bool) → a ≡ true → b ≡ true → e ≡ true → (a && (b && e)) ≡ true
-        all_true a b e f g h = (λ i. f i && (g i && h i))
+    -- in these rows
+    module _ (rows : ℕ → List Row) (names : List Row) (sees : AreRowsSeen t.act lines x rows names S) where
+      abbrev node : ℕ
+      node = ran_at values lines x T t c
 
-        strong : (w : Bool) (k : Mode) → machine_rows.mode w ≤ strength k → cond w (is_write k) true ≡ true
-        strong true k e = write_mode k e
-        strong false k e = refl
+      objects : list_any (locks_call lines c) (rows node) ≡ true
+      objects =
+          let server = held.server in
+          let less : machine_rows.mode d.write ≤ held_in t.act (object x) server.0 (rows node) = (let a = server.2 in let b = sees.servers node server.0 in let e = ap (λ n. (S.server n).rows server.0) same_node in omega (arith, a, b, e)) in
+          let r = find_row t.act (object x) server.0 (machine_rows.mode d.write) (rows node) (mode_high d.write) less in
+          let h = sees.holders node r.row (in_to r.row (rows node) r.there) (uid_is (let w = r.row in w.object) (object x) r.of_object) in
+          let b = in_from h.0 (acts lines) h.1 in
+          let last : last_uid (let w = r.row in w.holder) ≡ h.0.uid = ap last_uid h.2 ∙ own_last (acts lines) sound.distinct sound.formed h.0 b in
+          let its : t.act h.0.uid ≡ server.0 = ap t.act (sym last) ∙ r.holder in
+          let stands : root (t.act h.0.uid) ≡ root (let e = s.call in e.act) = ap root its ∙ sym (on_root d.act server.0 server.1) ∙ ap root same_act in
+          let root_of_it = of_unit c s h.0 b stands in
+          any_in (locks_call lines c) r.row (rows node) r.there
+          (both_true (locks_for lines c r.row) (is_on (caller_at c.at (said lines)) (last_uid (let w = r.row in w.holder)))
+          (all_true (uid_eq (let w = r.row in w.object) (object c.x)) (uid_eq (holder_root r.row) (root_uid lines c)) (cond (writes c.op) (is_write (let w = r.row in w.mode)) true)
+          (ap (λ y. uid_eq (let w = r.row in w.object) (object y)) s.call_object ∙ r.of_object)
+          (ap (λ us. uid_eq (first_of us) (root_uid lines c)) h.2 ∙ ap (λ v. uid_eq v (root_uid lines c)) root_of_it.first ∙ uid_same (root_uid lines c))
+          (strong (writes c.op) (let w = r.row in w.mode) (subst (λ w. machine_rows.mode w ≤ strength (let z = r.row in z.mode)) same_write r.strong)))
+          ((λ i. is_on (caller_is i) (last i)) ∙ sym (let q = t.places in q.above maker h.0 (in_to maker (acts lines) (let m = s.made_by in m.there)) h.1)
+          ∙ (λ i. on (by_maker i) (its i)) ∙ server.1))
+        where
+          all_true : (a b e : Bool) → a ≡ true → b ≡ true → e ≡ true → (a && (b && e)) ≡ true
+          all_true a b e f g h = (λ i. f i && (g i && h i))
 
-    unit_root : (h : machine.Act) → OfUnit d.act h → root h ≡ root d.act
-    unit_root h (inl is) = ap root is
-    unit_root h (inr (is, e)) = e
+          strong : (w : Bool) (k : Mode) → machine_rows.mode w ≤ strength k → cond w (is_write k) true ≡ true
+          strong true k e = write_mode k e
+          strong false k e = refl
 
-    entries : list_any (locks_entry lines c) (tables_of lines 1 p) ≡ true
-    entries =
-        let rows = seen.rows in
-        let naming = held.entry in
-        let less : 1 ≤ held_in t.act (entry x) naming.0 (table 1 (take p lines)) = (let a = naming.2 in let b = rows.naming naming.0 in omega (arith, a, b)) in
-        let r = find_row t.act (entry x) naming.0 1 (table 1 (take p lines)) (omega arith) less in
-        let h = rows.askers r.row (in_to r.row (table 1 (take p lines)) r.there) (uid_is (let w = r.row in w.object) (entry x) r.of_object) in
-        let b = in_from h.0 (acts lines) h.1 in
-        let stands : root (t.act h.0.uid) ≡ root (let e = s.call in e.act) = ap (λ v. root (t.act v)) (sym h.2) ∙ ap root r.holder ∙ unit_root naming.0 naming.1 ∙ ap root same_act in
-        let root_of_it = of_unit c s h.0 b stands in
-        any_in (locks_entry lines c) r.row (table 1 (take p lines)) r.there
-        (both_true (uid_eq (let w = r.row in w.object) (entry c.x)) (is_of_root lines (root_of_call lines c) (last_uid (let w = r.row in w.holder)))
-        (ap (λ y. uid_eq (let w = r.row in w.object) (entry y)) s.call_object ∙ r.of_object)
-        (ap (is_of_root lines (root_of_call lines c)) h.2 ∙ ap (λ q. is_number (root_in q) (root_of_call lines c)) (path_of_uid (acts lines) sound.distinct h.0 b) ∙ ap (λ o. is_number o (root_of_call lines c)) root_of_it.number ∙ eq-eqb (root_of_call lines c) (root_of_call lines c) refl))
-      where
-        both_true : (a b : Bool) → a ≡ true → b ≡ true → (a && b) ≡ true
-        both_true a b f g = (λ i. f i && g i)
+          maker : Act
+          maker = let m = s.made_by in m.maker
 
-    pub locked_at : IsLockedAt lines (ran_at values lines x T t c) p c
-    locked_at = record { object = objects; entry = entries }
+          -- who made the call
+          caller_is : caller_at c.at (said lines) ≡ uids (path_of lines maker)
+          caller_is =
+              let i = s.item in
+              let m = s.made_by in
+              let same_place : c.at ≡ i.at = (let a = s.line in let k = s.is in let b = k.line in omega (arith, a, b)) in
+              ap (λ (p : ℕ). caller_at p (said lines)) same_place ∙ caller_found [] 0 lines i s.item_there ∙ ap uids m.path_is
+
+          by_maker : t.act maker.uid ≡ d.act
+          by_maker = let m = s.made_by in sym (same_act ∙ m.caller)
+
+      unit_root : (h : machine.Act) → OfUnit d.act h → root h ≡ root d.act
+      unit_root h (inl is) = ap root is
+      unit_root h (inr (is, e)) = e
+
+      entries : list_any (locks_entry lines c) names ≡ true
+      entries =
+          let naming = held.entry in
+          let less : 1 ≤ held_in t.act (entry x) naming.0 names = (let a = naming.2 in let b = sees.naming naming.0 in omega (arith, a, b)) in
+          let r = find_row t.act (entry x) naming.0 1 names (omega arith) less in
+          let h = sees.askers r.row (in_to r.row names r.there) (uid_is (let w = r.row in w.object) (entry x) r.of_object) in
+          let b = in_from h.0 (acts lines) h.1 in
+          let stands : root (t.act h.0.uid) ≡ root (let e = s.call in e.act) = ap (λ v. root (t.act v)) (sym h.2) ∙ ap root r.holder ∙ unit_root naming.0 naming.1 ∙ ap root same_act in
+          let root_of_it = of_unit c s h.0 b stands in
+          any_in (locks_entry lines c) r.row names r.there
+          (both_true (uid_eq (let w = r.row in w.object) (entry c.x)) (is_of_root lines (root_of_call lines c) (last_uid (let w = r.row in w.holder)))
+          (ap (λ y. uid_eq (let w = r.row in w.object) (entry y)) s.call_object ∙ r.of_object)
+          (ap (is_of_root lines (root_of_call lines c)) h.2 ∙ ap (λ q. is_number (root_in q) (root_of_call lines c)) (path_of_uid (acts lines) sound.distinct h.0 b) ∙ ap (λ o. is_number o (root_of_call lines c)) root_of_it.number ∙ eq-eqb (root_of_call lines c) (root_of_call lines c) refl))
+
+      pub locked_in : IsLockedIn lines (rows (ran_at values lines x T t c)) names c
+      locked_in = record { object = objects; entry = entries }
 
   -- ---- one node, and roots
 
@@ -405,12 +448,16 @@ module _ (values : Values) (lines : List Line) (right : AreRight new_book lines)
 
 -- ---- all objects
 
+-- a call's object is called
+pub called_by : (values : Values) (lines : List Line) (c : Call) → In c (committed_calls lines) → list_any (λ (s : Placed Said). s.it.x == c.x) (said lines) ≡ true
+called_by values lines c i =
+    let f = in_filter_map (kept (committed lines) (recovered lines)) c (said lines) i in
+    let k = kept_shape values lines c.x f.0 c f.2 in
+    any_said c.x f.0 (said lines) f.1 (sym k.1)
+
 module _ (values : Values) (lines : List Line) (right : AreRight new_book lines) (tied : AreTiedAlong values lines) where
   of_call : (c : Call) → In c (committed_calls lines) → list_any (λ (s : Placed Said). s.it.x == c.x) (said lines) ≡ true
-  of_call c i =
-      let f = in_filter_map (kept (committed lines) (recovered lines)) c (said lines) i in
-      let k = kept_shape values lines c.x f.0 c f.2 in
-      any_said c.x f.0 (said lines) f.1 (sym k.1)
+  of_call c i = called_by values lines c i
 
   abbrev is_called : ℕ → Bool
   is_called x = list_any (λ (s : Placed Said). s.it.x == x) (said lines)
@@ -442,17 +489,21 @@ module _ (values : Values) (lines : List Line) (right : AreRight new_book lines)
   each P [] f = tt
   each P (c ∷ cs) f = (f c (inl refl), each P cs (λ d i. f d (inr i)))
 
-  lock_at : (c : Call) → In c (committed_calls lines) → (p : ℕ) → c.at < p → p ≤ unit_end lines c → IsLockedAt lines (node_of c) p c
+  lock_at : (c : Call) → In c (committed_calls lines) → (p : ℕ) → c.at < p → p ≤ unit_end lines c → IsLockedIn lines (tables_of lines (node_of c) p) (tables_of lines 1 p) c
   lock_at c i p behind within =
       let t = tied c.x (of_call c i) in
       let seen = t.2 p (let e = end_there c in omega (arith, e, within)) in
-      subst (λ n. IsLockedAt lines n p c) (sym (node_same c.x (is_called c.x) refl c (of_call c i))) (locked_at values lines right c.x t.0 t.1 p seen c (shown_of c i) behind within)
+      subst (λ n. IsLockedIn lines (tables_of lines n p) (tables_of lines 1 p) c) (sym (node_same c.x (is_called c.x) refl c (of_call c i)))
+      (locked_in values lines right c.x t.0 t.1 p seen.0 c (shown_of c i) behind within (λ n. table n (take p lines)) (table 1 (take p lines)) seen.1)
 
   pub are_held : AreHeld lines (tables_of lines) node_of
   are_held = each (λ c. IsHeldAt lines (tables_of lines) (node_of c) c) (committed_calls lines) (λ c i. record {
     answered = let t = tied c.x (of_call c i) in answered values lines right c.x t.0 t.1 c (shown_of c i);
-    locked = λ p behind within. let l = lock_at c i p behind within in l.object;
+    locked = λ p behind within. let l = lock_at c i p behind within in any_less (locks_for lines c) (λ (r : Row). is_on (caller_at c.at (said lines)) (last_uid r.holder)) (tables_of lines (node_of c) p) l.object;
   })
+
+  pub are_locked : AreLockedAlong lines node_of
+  are_locked = each (λ (c : Call). (p : ℕ) → c.at < p → p ≤ unit_end lines c → IsLockedIn lines (tables_of lines (node_of c) p) (tables_of lines 1 p) c) (committed_calls lines) lock_at
 
   pub entries_held : EntriesAreHeld lines
   entries_held = each (λ (c : Call). (p : ℕ) → c.at < p → p ≤ unit_end lines c → list_any (locks_entry lines c) (tables_of lines 1 p) ≡ true) (committed_calls lines) (λ c i p behind within. let l = lock_at c i p behind within in l.entry)

@@ -37,10 +37,10 @@ use Rattle.arj_serial_law.proofs.Values.{are_answered}
 
 -- in places of its own, and in any codes
 module _ (values : Values) (x : ℕ) (M : Seen) (begun : List Action) (alike : IsAlikeOf begun M) (seen : (f : Fixed) → AgreesAs values f x begun M.sent → (S : State) × SeesLocks f x begun S M × AreTiedNow f x M.lines S) (knows : RequestsAreOne M) where
-  right : AreRight new_book M.lines
+  pub right : AreRight new_book M.lines
   right = let w = alike.2 in w.right
 
-  tree : AreOneTree (record { begun = begun; paths = paths_of begun; act = acts_of begun })
+  pub tree : AreOneTree (record { begun = begun; paths = paths_of begun; act = acts_of begun })
   tree = families_are_trees begun (let g = alike.0 in g.begun)
 
   pub wants : (w : Wants) × SentWants x M.sent w
@@ -52,19 +52,20 @@ module _ (values : Values) (x : ℕ) (M : Seen) (begun : List Action) (alike : I
   pub agrees_at : (code : Codes) → AgreesAs values (fixed_at code) x begun M.sent
   agrees_at code = (record { whole = tree; wanted = λ p h a there is. wants.1 (view_of (fixed_at code) x begun p.to) p h a refl refl there is }, refl)
 
+  -- the journal, tied to a state in which the object is seen so
+  abbrev pub tied_at : (S : State) → SeesLocks (fixed_at code_of) x begun S M → AreTiedNow (fixed_at code_of) x M.lines S → IsTied values M.lines x S
+  tied_at S s tied = record {
+    act = acts_of begun;
+    code = code_of;
+    apart = codes_are_apart;
+    places = begun_have_places begun (paths_of begun) (acts_of begun) M.lines right (subst (AreAlike begun) (its_acts M.lines right) alike.1) tree;
+    first = code_of (values x) (acts_of begun nobody);
+    run = s.run;
+    tied = tied values refl;
+  }
+
   pub locked_tied : (S : State) × IsTied values M.lines x S
-  locked_tied = let s = seen (fixed_at code_of) (agrees_at code_of) in (
-    s.0,
-    record {
-      act = acts_of begun;
-      code = code_of;
-      apart = codes_are_apart;
-      places = begun_have_places begun (paths_of begun) (acts_of begun) M.lines right (subst (AreAlike begun) (its_acts M.lines right) alike.1) tree;
-      first = code_of (values x) (acts_of begun nobody);
-      run = (let z = s.1 in z.run);
-      tied = s.2 values refl;
-    },
-  )
+  locked_tied = let s = seen (fixed_at code_of) (agrees_at code_of) in (s.0, tied_at s.0 s.1 s.2)
 
 pub locked_runs_are_serial : LockedRunsAreSerial
 locked_runs_are_serial hd es locked = (

@@ -1,7 +1,7 @@
--- The lock tables of a journal against the machine of an object, and calls that are locked for.
-use Rattle.std.specs.Prelude.{◌≡◌, ◌<◌, ◌≤◌, ℕ, ◌==◌, ◌&&◌, length, take, List, Bool, true, false, Option, Some, None, Contains}
+-- Lock rows against the machine of an object, by nodes and by the tables of a journal, and calls that are locked for.
+use Rattle.std.specs.Prelude.{◌≡◌, ◌<◌, ◌≤◌, ℕ, ◌==◌, ◌&&◌, if◌then◌else◌, length, take, List, [], ◌∷◌, Bool, true, false, Option, Some, None, Contains}
 use Rattle.std.specs.List.{AllByRecursion, list_any}
-use Rattle.arj_base.specs.Rows.{Row, last_uid}
+use Rattle.arj_base.specs.Rows.{Row, is_on, last_uid}
 use Rattle.arj_base.specs.Uid.{entry, object, uid_eq}
 use Rattle.arj_base.specs.declared.uid.Uid.{Uid}
 use Rattle.arj_journal.specs.declared.body.Line.{Line}
@@ -18,25 +18,37 @@ use Rattle.arj_lock_view_law.specs.Rows.{SeesRows}
 use Rattle.arj_lock_line_law.specs.Lines.{IsTiedToLines}
 use Rattle.arj_serial_law.specs.Tied.{Began, IsTied, path_of}
 
--- After so many lines the machine has no rows but those of the journal's tables, at each server and at naming; a row on the object is held
--- on a path of the journal, and one on its entry by an action of it.
-pub record AreRowsSeen (act : Acts) (lines : List Line) (x p : ℕ) (S : State) : Type 0 where
-  pub servers : (n : ℕ) → SeesRows act (object x) (table n (take p lines)) (let s = S.server n in s.rows)
-  pub naming : SeesRows act (entry x) (table 1 (take p lines)) (let n = S.naming in n.rows)
-  pub holders : (n : ℕ) (r : Row) → Contains (table n (take p lines)) r → r.object ≡ object x → (b : Act) × Began lines b × (r.holder ≡ uids (path_of lines b))
-  pub askers : (r : Row) → Contains (table 1 (take p lines)) r → r.object ≡ entry x → (b : Act) × Began lines b × (last_uid r.holder ≡ b.uid)
+-- Of an object the machine's state has no rows but these, at each server and at naming. Those on the object are held on paths of the
+-- journal, and those on its entry by actions of it.
+pub record AreRowsSeen (act : Acts) (lines : List Line) (x : ℕ) (rows : ℕ → List Row) (names : List Row) (S : State) : Type 0 where
+  pub servers : (n : ℕ) → SeesRows act (object x) (rows n) (let s = S.server n in s.rows)
+  pub naming : SeesRows act (entry x) names (let n = S.naming in n.rows)
+  pub holders : (n : ℕ) (r : Row) → Contains (rows n) r → r.object ≡ object x → (b : Act) × Began lines b × (r.holder ≡ uids (path_of lines b))
+  pub askers : (r : Row) → Contains names r → r.object ≡ entry x → (b : Act) × Began lines b × (last_uid r.holder ≡ b.uid)
 
--- After so many lines the machine was in a state on its way to the last one, tied to these lines, with their rows.
+-- After so many lines the machine was in a state on its way to the last one, tied to these lines.
 pub record IsSeenAt (values : Values) (lines : List Line) (x : ℕ) (T : State) (t : IsTied values lines x T) (p : ℕ) : Type 0 where
   pub state : State
   pub before : Run (start t.first) state
   pub behind : Run state T
   pub tied : IsTiedToLines t.act t.code values x (take p lines) state
-  pub rows : AreRowsSeen t.act lines x p state
+
+-- so it was, with the rows of the journal's tables
+abbrev pub IsSeenWithTables : (values : Values) (lines : List Line) (x : ℕ) (T : State) → IsTied values lines x T → ℕ → Type 0
+IsSeenWithTables values lines x T t p = (s : IsSeenAt values lines x T t p) × AreRowsSeen t.act lines x (λ n. table n (take p lines)) (table 1 (take p lines)) s.state
 
 -- the node at which the unit of a call ran: that of the binding which its root kept
 abbrev pub ran_at : (values : Values) (lines : List Line) (x : ℕ) (T : State) → IsTied values lines x T → Call → ℕ
 ran_at values lines x T t c = (let b = T.binding (T.kept (root (t.act c.writer))) in b.server)
+
+-- the path of who made the call that was answered at this place
+abbrev pub caller_at : ℕ → List (Placed Said) → List Uid
+caller_at p [] = []
+caller_at p (s ∷ ss) = if s.at == p then uids s.it.path else caller_at p ss
+
+-- the row locks the object of the call in a mode that it needs, and is held on the path of who made it
+abbrev pub locks_call : List Line → Call → Row → Bool
+locks_call lines c row = locks_for lines c row && is_on (caller_at c.at (said lines)) (last_uid row.holder)
 
 -- the action with this Uid is of the root
 abbrev pub is_number : Option ℕ → ℕ → Bool
@@ -51,16 +63,22 @@ is_of_root lines n u = is_number (root_in (path_by (acts lines) u)) n
 abbrev pub locks_entry : List Line → Call → Row → Bool
 locks_entry lines c row = uid_eq row.object (entry c.x) && is_of_root lines (root_of_call lines c) (last_uid row.holder)
 
--- Held, at one place: the call is locked for at this node, and the entry of its object is, for its unit.
-pub record IsLockedAt (lines : List Line) (n p : ℕ) (c : Call) : Type 0 where
-  pub object : list_any (locks_for lines c) (tables_of lines n p) ≡ true
-  pub entry : list_any (locks_entry lines c) (tables_of lines 1 p) ≡ true
+-- Held, in these rows of a server and of naming: the call is locked for on its caller's path, and the entry of its object is, for its unit.
+pub record IsLockedIn (lines : List Line) (rows names : List Row) (c : Call) : Type 0 where
+  pub object : list_any (locks_call lines c) rows ≡ true
+  pub entry : list_any (locks_entry lines c) names ≡ true
+
+-- Held: each surviving call of a committed top is so locked for in the journal's tables at this node of its own, from its `ok` line to the
+-- `committing` line of the last member of its unit.
+abbrev pub AreLockedAlong : List Line → (Call → ℕ) → Type 0
+AreLockedAlong lines node = AllByRecursion (λ (c : Call). (p : ℕ) → c.at < p → p ≤ unit_end lines c → IsLockedIn lines (tables_of lines (node c) p) (tables_of lines 1 p) c) (committed_calls lines)
 
 -- Entry held: so it is of each surviving call of a committed top, from its `ok` line to the `committing` line of the last
 -- member of its unit.
 abbrev pub EntriesAreHeld : List Line → Type 0
 EntriesAreHeld lines = AllByRecursion (λ (c : Call). (p : ℕ) → c.at < p → p ≤ unit_end lines c → list_any (locks_entry lines c) (tables_of lines 1 p) ≡ true) (committed_calls lines)
 
--- Each object of which a call was answered has a machine that is tied to the journal, and was seen after each line.
+-- Each object of which a call was answered has a machine that is tied to the journal, and was seen after each line, with the rows of its
+-- tables.
 abbrev pub AreTiedAlong : Values → List Line → Type 0
-AreTiedAlong values lines = (x : ℕ) → list_any (λ (s : Placed Said). s.it.x == x) (said lines) ≡ true → (T : State) × (t : IsTied values lines x T) × ((p : ℕ) → p ≤ length lines → IsSeenAt values lines x T t p)
+AreTiedAlong values lines = (x : ℕ) → list_any (λ (s : Placed Said). s.it.x == x) (said lines) ≡ true → (T : State) × (t : IsTied values lines x T) × ((p : ℕ) → p ≤ length lines → IsSeenWithTables values lines x T t p)

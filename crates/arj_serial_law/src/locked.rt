@@ -1,5 +1,6 @@
 // Locks that are held to the last commit call of a unit, by the tables that a journal gives.
 ghost use Rattle.std.specs.Prelude.{◌≡◌, ◌<◌, ◌≤◌, ℕ, List, Contains};
+ghost use Rattle.arj_base.specs.Rows.{Row};
 ghost use Rattle.arj_journal.specs.declared.body.Line.{Line};
 ghost use Rattle.arj_law.specs.Book.{OfEachTwo};
 ghost use Rattle.arj_law.specs.Held.{AreAtOneNode, AreHeld, HaveOwnRoots, tables_of, unit_end};
@@ -8,26 +9,27 @@ ghost use Rattle.arj_line_law.specs.Right.{AreRight};
 ghost use Rattle.arj_lock_law.specs.State.{State};
 ghost use Rattle.arj_model.specs.Calls.{Call, committed_calls};
 ghost use Rattle.arj_model.specs.Serial.{Values};
-ghost use Rattle.arj_serial_law.specs.Locked.{AreTiedAlong, EntriesAreHeld, IsLockedAt, IsSeenAt, ran_at};
+ghost use Rattle.arj_serial_law.specs.Locked.{AreLockedAlong, AreRowsSeen, AreTiedAlong, EntriesAreHeld, IsLockedIn, IsSeenAt, ran_at};
 ghost use Rattle.arj_serial_law.specs.Tied.{IsTied};
 
-/// Held, at one place: where a machine that is tied to a journal was seen after so many lines, with the rows of the journal's
-/// tables, each surviving call of a committed top whose `ok` line stands before that place is locked for there, up to the
-/// `committing` line of the last member of its unit: at the server of its unit's binding, and its object's entry at naming.
+/// Held, at one place: where a machine that is tied to a journal was seen after so many lines, with no rows but these of each node and of
+/// naming, each surviving call of a committed top whose `ok` line stands before that place is locked for there, up to the `committing`
+/// line of the last member of its unit: on its caller's path, at the server of its unit's binding; and so is its object's entry at naming.
 /// It does nothing when it runs.
 pub fn tied_calls_are_locked_for()
     ensures { (values : Values) (lines : List Line) (x : ℕ) (T : State) (t : IsTied values lines x T) (p : ℕ) → AreRight new_book lines
-        → IsSeenAt values lines x T t p → (c : Call) → Contains (committed_calls lines) c → c.x ≡ x → c.at < p → p ≤ unit_end lines c
-        → IsLockedAt lines (ran_at values lines x T t c) p c }
+        → (s : IsSeenAt values lines x T t p) (rows : ℕ → List Row) (names : List Row) → AreRowsSeen t.act lines x rows names s.state
+        → (c : Call) → Contains (committed_calls lines) c → c.x ≡ x → c.at < p → p ≤ unit_end lines c
+        → IsLockedIn lines (rows (ran_at values lines x T t c)) names c }
 {}
 
-/// Held, entry held and at one node: where each machine was seen so after each line, each surviving call of a committed top is
-/// locked for at a node of its own from its `ok` line to the `committing` line of the last member of its unit, and so is its
-/// object's entry; calls of one object and of different units that overlap are at one node; and roots have Uids of their own.
-/// It does nothing when it runs.
+/// Held, entry held and at one node: where each machine was seen so after each line, with the rows of the journal's tables, each surviving
+/// call of a committed top is locked for on its caller's path at a node of its own from its `ok` line to the `committing` line of the last
+/// member of its unit, and so is its object's entry; calls of one object and of different units that overlap are at one node; and roots
+/// have Uids of their own. It does nothing when it runs.
 pub fn tied_journals_hold_locks()
     ensures calls { (values : Values) (lines : List Line) → AreRight new_book lines → AreTiedAlong values lines
-        → (node : Call → ℕ) × AreHeld lines (tables_of lines) node × OfEachTwo (AreAtOneNode lines node) (committed_calls lines) }
+        → (node : Call → ℕ) × AreHeld lines (tables_of lines) node × AreLockedAlong lines node × OfEachTwo (AreAtOneNode lines node) (committed_calls lines) }
     ensures entries { (values : Values) (lines : List Line) → AreRight new_book lines → AreTiedAlong values lines → EntriesAreHeld lines }
     ensures roots { (values : Values) (lines : List Line) → AreRight new_book lines → AreTiedAlong values lines → OfEachTwo (HaveOwnRoots lines) (committed_calls lines) }
 {}

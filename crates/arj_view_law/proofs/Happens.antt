@@ -25,7 +25,7 @@ use Rattle.arj_protocol.specs.World.{World, Frame, Arm, Giving, Labelled, Asked,
 use Rattle.arj_protocol.proofs.Maps.{place_other}
 use Rattle.arj_view_law.specs.Seen.{Post, Seen, In, Within, AreQuiet, see, at, with_node, with_sent}
 use Rattle.arj_view_law.specs.Walks.{halted}
-use Rattle.arj_view_law.specs.Keeps.{Keeps, KeepsAsked, HasPlace, Holds, Stands, IsSent, MayGive, label_at}
+use Rattle.arj_view_law.specs.Keeps.{Keeps, KeepsAsked, KeepsFrom, KeepsOn, HasPlace, Holds, Stands, IsSent, MayGive, label_at}
 use Rattle.arj_view_law.proofs.Cuts.{Besides, with_lines, flat_done, flat_cut}
 use Rattle.arj_view_law.proofs.Inputs.{Goes, IsSentTo, step_goes, begin_goes, unless_refused}
 
@@ -110,7 +110,7 @@ no_reason : (n : ℕ) (b : Bool) (rs : List (ℕ × Bool)) → first_reason ((n,
 no_reason n true rs h = absurd (cc h)
 no_reason n false rs h = (refl, h)
 
-module _ (hd : Header) (P : Seen → Type 0) (keeps : KeepsAsked hd P) where
+module _ (hd : Header) (P : Seen → Type 0) {F : Type 0} (keeps : KeepsFrom hd F P) where
   -- ---- a step of a node in its world
 
   -- a node is what stands at its place
@@ -580,6 +580,10 @@ module _ (hd : Header) where
 
   pub runs_asked : (P : Seen → Type 0) → KeepsAsked hd P → (es : List Asked) → Holds hd P (run_all es (format hd))
   runs_asked P keeps es = all_asked hd P keeps es (format hd) (first_asked P keeps)
+
+-- from any world on in which it holds
+pub runs_go_on : (hd : Header) (P : Seen → Type 0) → KeepsOn hd P → (es : List Asked) (w : World) → Holds hd P w → Holds hd P (run_all es w)
+runs_go_on hd P keeps es w h = all_asked hd P keeps es w h
 
 -- ---- what is kept whatever an include asks for
 

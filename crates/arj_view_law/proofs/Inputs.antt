@@ -17,7 +17,7 @@ use Rattle.arj_protocol.proofs.PartSays.{all_both}
 use Rattle.arj_protocol.proofs.Taken.{taken_took}
 use Rattle.arj_view_law.specs.Seen.{Seen, In, at, up, down, with_node, said, given, is_quiet_line}
 use Rattle.arj_view_law.specs.Walks.{Walks, Up, halted}
-use Rattle.arj_view_law.specs.Keeps.{AsksNode, KeepsAsked, MayGive, label_at, is_act}
+use Rattle.arj_view_law.specs.Keeps.{AsksNode, KeepsFrom, MayGive, label_at, is_act}
 use Rattle.arj_view_law.proofs.Flat.{Flat, Behind, within_same, flat_to}
 use Rattle.arj_view_law.proofs.Rounds.{AreLooks, LooksAlone, taken_looks, taken_meant, whole_ended, Ended}
 
@@ -53,7 +53,7 @@ show_still k x d = all_both is_still (show_entry k x d.names) (shown (copy_line 
     by true = shown_still (entry_line x) entries (entry x) d.names (holder_of (entry x) d.names)
     by false = refl
 
-module _ (hd : Header) (P : Seen → Type 0) (keeps : KeepsAsked hd P) (e k : ℕ) where
+module _ (hd : Header) (P : Seen → Type 0) {F : Type 0} (keeps : KeepsFrom hd F P) (e k : ℕ) where
   -- the relation holds after the step, and where a stop falls into it; the node keeps its number
   abbrev pub Goes : Disk → Step → Seen → Type 0
   Goes d s M = Flat P e k s.outs (λ c N. P (with_node k s.after N)) d M × Flat P e k s.halting (λ c N. P (halted e k c N)) d M × (s.after.number ≡ k)

@@ -18,7 +18,7 @@ use Rattle.arj_protocol.specs.Ending.{acked}
 use Rattle.arj_protocol.specs.Node.{Parts, Handled, Void, Took, Here, Ran, ran, ran_handled, handle_all, next_round, rounds, whole, most_rounds, handle, is_meant, taken, handle_ask, handle_answer, handle_other, handle_ends, coord_heard, by_reply, serve, served, sends_answer, if_naming, load_by, load_held, prepare_by, prepare_states, with_naming, with_server, with_coord}
 use Rattle.arj_view_law.specs.Seen.{Seen, In, at, up}
 use Rattle.arj_view_law.specs.Walks.{Walks, Stops, Up}
-use Rattle.arj_view_law.specs.Keeps.{KeepsAsked}
+use Rattle.arj_view_law.specs.Keeps.{KeepsFrom}
 use Rattle.arj_protocol.proofs.Taken.{taken_as, taken_took}
 use Rattle.arj_view_law.proofs.Flat.{Flat, With, Left, AreSent, within_same, are_sent, flat_to, flat_on, flat_keeps, walks_flat, ran_parts}
 
@@ -133,7 +133,7 @@ taken_meant n d t v from m outs = by (is_meant t m)
 pub taken_looks : (n : ℕ) (d : Disk) (t : Parts) (from : ℕ) (m : Message) → LooksAlone (taken n d t from m)
 taken_looks n d t from m = taken_as LooksAlone n d t from m refl (handle_looks n d t from m)
 
-module _ (hd : Header) (P : Seen → Type 0) (keeps : KeepsAsked hd P) (e k : ℕ) where
+module _ (hd : Header) (P : Seen → Type 0) {F : Type 0} (keeps : KeepsFrom hd F P) (e k : ℕ) where
   -- looks change nothing, and a stop at one is a stop
   pub looks_walk : (outs : List Effect) (d : Disk) (live : Option Parts) (M : Seen) → AreLooks outs → P (at k d live M) → Walks P e k outs (λ c N. P (at k c live N)) d M
   looks_walk [] d live M looks h = h

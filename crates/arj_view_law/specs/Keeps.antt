@@ -69,8 +69,8 @@ abbrev pub AsksNode : Header → Input → Type 0
 AsksNode hd (input.Include l x s) = (nat_le 1 s && nat_le s hd.nodes) ≡ true
 AsksNode hd i = ⊤
 
--- The same, where an include asks for a store of the header.
-pub record KeepsAsked (hd : Header) (P : Seen → Type 0) : Type 0 where
+-- The same, where an include asks for a store of the header; and so much holds at first.
+pub record KeepsFrom (hd : Header) (F : Type 0) (P : Seen → Type 0) : Type 0 where
   pub quiet : (e : ℕ) (bs : List Body) (M : Seen) → AreQuiet bs → P M → P (said e bs M)
   pub stop : (e k : ℕ) (d : Disk) (live : Option Parts) (M : Seen) → P (at k d live M) → P (halted e k d M)
   pub message : (e k : ℕ) (d : Disk) (t v : Parts) (from : ℕ) (m : Message) (outs : List Effect) (M : Seen)
@@ -83,7 +83,15 @@ pub record KeepsAsked (hd : Header) (P : Seen → Type 0) : Type 0 where
   pub tick : (e k : ℕ) (d : Disk) (t : Parts) (M : Seen) → P (up k d t M)
       → Walks P e k (tick_outs (record { number = k; disk = d; live = Some t }) t) (Up P k (with_coord t (again_all t.coord.doings t.coord).part)) d M
   pub restart : (e k : ℕ) (d : Disk) (M : Seen) → P (down k d M) → Walks P e k (restart_outs hd k (d.inc + 1) d) (Up P k (parts_in k (d.inc + 1) d)) d M
-  pub first : P (see [] (format hd))
+  pub first : F
+
+-- so it is, and the relation holds at first
+abbrev pub KeepsAsked : Header → (Seen → Type 0) → Type 0
+KeepsAsked hd P = KeepsFrom hd (P (see [] (format hd))) P
+
+-- so it is, whatever holds at first: where the relation holds once, it holds from there on
+abbrev pub KeepsOn : Header → (Seen → Type 0) → Type 0
+KeepsOn hd P = KeepsFrom hd ⊤ P
 
 -- a frame's message, where it has one, is among those that were sent
 abbrev pub IsSent : List Post → Frame → Type 0

@@ -10,4 +10,4 @@
 
 mod runs;
 
-pub use runs::runs_keep_what_handlers_keep;
+pub use runs::{runs_go_on_as_handlers_keep, runs_keep_what_handlers_keep};

@@ -2,7 +2,7 @@
 ghost use Rattle.std.specs.Prelude.{◌≡◌, ℕ, Bool, List, true};
 ghost use Rattle.arj_journal.specs.declared.header.Header.{Header};
 ghost use Rattle.arj_protocol.specs.World.{Arm, Asked, World, format, run_all, run_event};
-ghost use Rattle.arj_view_law.specs.Keeps.{Holds, Keeps};
+ghost use Rattle.arj_view_law.specs.Keeps.{Holds, Keeps, KeepsOn};
 ghost use Rattle.arj_view_law.specs.Seen.{Seen};
 
 /// A test of what is seen that each handler keeps, wherever a stop falls into it, holds after each run: with all frames that
@@ -12,4 +12,10 @@ pub fn runs_keep_what_handlers_keep()
     ensures event { (hd : Header) (test : Seen → Bool) → Keeps hd (λ M. test M ≡ true) → (e : Asked) (w : World) → Holds hd (λ M. test M ≡ true) w → Holds hd (λ M. test M ≡ true) (run_event e w) }
     ensures arms { (hd : Header) (test : Seen → Bool) (arms : List (ℕ × Arm)) (w : World) → Holds hd (λ M. test M ≡ true) w → Holds hd (λ M. test M ≡ true) (record w { arms = arms }) }
     ensures runs { (hd : Header) (test : Seen → Bool) → Keeps hd (λ M. test M ≡ true) → (es : List Asked) → Holds hd (λ M. test M ≡ true) (run_all es (format hd)) }
+{}
+
+/// Where each handler keeps it, such a test holds from any world on in which it holds once, to the end of any events. It does nothing when
+/// it runs.
+pub fn runs_go_on_as_handlers_keep()
+    ensures { (hd : Header) (test : Seen → Bool) → KeepsOn hd (λ M. test M ≡ true) → (es : List Asked) (w : World) → Holds hd (λ M. test M ≡ true) w → Holds hd (λ M. test M ≡ true) (run_all es w) }
 {}

@@ -1,8 +1,8 @@
-use Rattle.arj_serial_law.proofs.Locks.{are_held, entries_held, node_of, nodes_agree, own_roots}
+use Rattle.arj_serial_law.proofs.Locks.{are_held, are_locked, entries_held, node_of, nodes_agree, own_roots}
 use Rattle.arj_serial_law.proofs.locked.tied_journals_hold_locks.Goals as goal
 
 pub returns-clause-calls : goal.returns-clause-calls
-returns-clause-calls c values lines right tied = (node_of values lines right tied, are_held values lines right tied, nodes_agree values lines right tied)
+returns-clause-calls c values lines right tied = (node_of values lines right tied, are_held values lines right tied, are_locked values lines right tied, nodes_agree values lines right tied)
 
 pub returns-clause-entries : goal.returns-clause-entries
 returns-clause-entries c = entries_held

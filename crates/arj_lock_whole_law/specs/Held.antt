@@ -1,0 +1,66 @@
+-- Locks that are held, in the run of every script: by what nodes have in memory after each event.
+use Rattle.std.specs.Prelude.{◌<◌, ◌≤◌, ℕ, List, [], ◌∷◌, length, Option, Some, None}
+use Rattle.std.specs.List.{AllByRecursion}
+use Rattle.arj_protocol.specs.Words.{Header, Line, Row}
+use Rattle.arj_protocol.specs.Laws.{naming_rows, server_rows}
+use Rattle.arj_protocol.specs.Naming.{Naming}
+use Rattle.arj_protocol.specs.Node.{Parts}
+use Rattle.arj_protocol.specs.Step.{Node}
+use Rattle.arj_protocol.specs.Tree.{at_place}
+use Rattle.arj_protocol.specs.World.{Asked, World, format, journal, run_event}
+use Rattle.arj_model.specs.Calls.{Call, committed_calls}
+use Rattle.arj_law.specs.Held.{unit_end}
+use Rattle.arj_binding_law.specs.Scripts.{most_events}
+use Rattle.arj_serial_law.specs.Locked.{IsLockedIn}
+use Rattle.arj_view_law.specs.Seen.{Seen}
+use Rattle.arj_part_law.specs.Actions.{Action}
+use Rattle.std.specs.Prelude.{Bool}
+use Rattle.arj_lock_whole_law.specs.Runs.{AreRest}
+
+-- ---- locks of nodes
+
+-- a node's memory, while it is up
+abbrev pub memory_of : Option Node → Option Parts
+memory_of None = None
+memory_of (Some n) = n.live
+
+-- the locks on the object in this memory: none in that of a node that is down
+abbrev pub locks_in : ℕ → Option Parts → List Row
+locks_in x None = []
+locks_in x (Some t) = server_rows x t.server
+
+-- the locks on its entry, where the memory has naming
+abbrev pub named_locks : ℕ → Option Naming → List Row
+named_locks x None = []
+named_locks x (Some n) = naming_rows x n
+
+abbrev pub entry_locks_in : ℕ → Option Parts → List Row
+entry_locks_in x None = []
+entry_locks_in x (Some t) = named_locks x t.naming
+
+-- the locks on the object at a node, and those on its entry at naming
+abbrev pub locks_at : ℕ → World → ℕ → List Row
+locks_at x w n = locks_in x (memory_of (at_place n w.nodes))
+
+abbrev pub entry_locks : ℕ → World → List Row
+entry_locks x w = entry_locks_in x (memory_of (at_place 1 w.nodes))
+
+-- ---- after each event
+
+-- so it is of this world, and after each of these events
+abbrev pub AfterEach : (World → Type 0) → World → List Asked → Type 0
+AfterEach P w [] = P w
+AfterEach P w (e ∷ es) = P w × AfterEach P (run_event e w) es
+
+-- Where the call was answered by now, and the commit of its unit's last member isn't called yet, the call is locked for at this node, which
+-- is up, on its caller's path; and its object's entry is at naming, for its unit.
+abbrev pub IsHeldNow : List Line → Call → ℕ → World → Type 0
+IsHeldNow lines c n w = c.at < length w.lines → length w.lines ≤ unit_end lines c → IsLockedIn lines (locks_at c.x w n) (entry_locks c.x w) c
+
+-- Held: each surviving call of a committed top has a node at which it is, at the end of each event.
+abbrev pub HoldsLocks : Header → List Asked → Type 0
+HoldsLocks hd es = AllByRecursion (λ (c : Call). (n : ℕ) × AfterEach (IsHeldNow (journal hd es) c n) (format hd) es) (committed_calls (journal hd es))
+
+-- so it is in the run of every script
+abbrev pub RunsHoldLocks : Type 0
+RunsHoldLocks = (hd : Header) (test : ℕ → List Action → Seen → Bool) → AreRest hd test → (es : List Asked) → length es ≤ most_events → HoldsLocks hd es
