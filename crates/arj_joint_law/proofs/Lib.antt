@@ -27,6 +27,7 @@ pub mod Removing
 pub mod Recorded
 pub mod Surviving
 pub mod RestGiven
+pub mod Alone
 pub mod Counting
 pub mod JoinedRuns
 pub mod Writing

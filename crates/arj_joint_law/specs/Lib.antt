@@ -12,3 +12,4 @@ pub mod Excluded
 pub mod InTime
 pub mod Joined
 pub mod Recorded
+pub mod Alone

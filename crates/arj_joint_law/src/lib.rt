@@ -10,7 +10,7 @@
 //! in `specs/Outcome.antt`; what lines say of exclusions in `specs/Marked.antt`. What it gives upward: `runs_begin_as_the_header_says`, `decisions_come_behind_calls`,
 //! `writers_are_called_as_they_are_decided`, `runs_have_form`, `runs_have_both_machines`, `runs_are_clean`, `runs_exclude_in_time` (of what is seen of a run:
 //! `seen_runs_exclude_in_time`), `commits_are_done_behind_decisions`,
-//! `commits_say_what_they_exclude`.
+//! `commits_say_what_they_exclude`, `commits_of_a_root_go_on_alone`.
 #![tactic(auto)]
 
 mod forms;
@@ -24,7 +24,7 @@ pub use outcomes::{
     one_outcome_tells_journals_apart, runs_exclude_in_time, seen_runs_exclude_in_time,
 };
 pub use runs::{
-    commits_say_what_they_exclude, decisions_come_behind_calls, runs_are_clean,
-    runs_begin_as_the_header_says, runs_have_both_machines,
+    commits_of_a_root_go_on_alone, commits_say_what_they_exclude, decisions_come_behind_calls,
+    runs_are_clean, runs_begin_as_the_header_says, runs_have_both_machines,
 };
 pub use writers::writers_are_called_as_they_are_decided;

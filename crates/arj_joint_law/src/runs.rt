@@ -1,4 +1,5 @@
 // What an object's machine begins with and how it decides, in whole runs, and that files are clean after them.
+ghost use Rattle.arj_joint_law.specs.Alone.{RunsCallAlone};
 ghost use Rattle.arj_joint_law.specs.Begun.{ObjectsAreThere, RunsBeginSo, RunsBeginSoBeside};
 ghost use Rattle.arj_joint_law.specs.Cleaned.{RunsAreClean, WholeRunsAreClean};
 ghost use Rattle.arj_joint_law.specs.Joined.{JoinedRunsAreSerial, RunsAreJoined};
@@ -57,4 +58,10 @@ pub fn runs_have_both_machines()
 /// object. It does nothing when it runs.
 pub fn commits_say_what_they_exclude()
     ensures { RunsSayMarks }
+{}
+
+/// In the run of every script, of one root one commit at most goes on: where a line calls the commit of a top, each other action of its root
+/// whose commit was called before has its `committed` line by then, or was aborted. It does nothing when it runs.
+pub fn commits_of_a_root_go_on_alone()
+    ensures { RunsCallAlone }
 {}
