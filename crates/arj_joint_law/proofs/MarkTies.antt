@@ -3,7 +3,7 @@ use Rattle.std.proofs.Common.{◌≡◌, ◌⊎◌, ◌||◌, ◌&&◌, ◌++◌
 use Rattle.std.specs.Prelude.{is_some}
 use Rattle.std.proofs.lemmas.Slice.Eq.{bytes_eq-Decides}
 use Rattle.arj_lock.proofs.Members as list
-use Rattle.arj_protocol.specs.Words.{Body, Header, Kind, Label, Line, Uid, name}
+use Rattle.arj_protocol.specs.Words.{Body, Header, Kind, Label, Line, Uid, first_uid, name, uids_of}
 use Rattle.arj_protocol.specs.Words.body
 use Rattle.arj_protocol.specs.Asking.{again_all, begin_action}
 use Rattle.arj_protocol.specs.Commit.{Confirming, Machine, Preparing, is_marked}
@@ -14,6 +14,7 @@ use Rattle.arj_protocol.specs.Node.{Parts, with_coord}
 use Rattle.arj_protocol.specs.Order as order
 use Rattle.arj_protocol.specs.Order.{at_uid, uid_number}
 use Rattle.arj_protocol.specs.Step.{Node, acts, parent_of, parts_in, restart_outs}
+use Rattle.arj_protocol.specs.Tree.{branch_of}
 use Rattle.arj_protocol.specs.World.{format, is_serial_kind, numbered}
 use Rattle.arj_part_law.proofs.Keys.{at_in}
 use Rattle.arj_disk_law.specs.Effects as machine
@@ -47,9 +48,11 @@ use Rattle.arj_line_law.specs.Book.{Book, book, book_from, new_book, turned}
 use Rattle.arj_line_law.specs.Knows.{IsKept}
 use Rattle.arj_line_law.specs.Right.{AreRight}
 use Rattle.arj_line_law.proofs.Books.{book_more}
+use Rattle.arj_line_law.proofs.Models.{named_in}
 use Rattle.arj_line_law.proofs.Runs.{lines_keep}
 use Rattle.arj_lock_whole_law.proofs.CalledSays.{restart_fine, tick_fine}
-use Rattle.arj_model.specs.Actions.{Act, act_in}
+use Rattle.arj_serial_law.proofs.Paths.{paths_stay}
+use Rattle.arj_model.specs.Actions.{Act, act_in, path, uids}
 use Rattle.arj_joint_law.specs.Joined.{IsRecordedAt}
 use Rattle.arj_joint_law.specs.Marked.{MarksAreSaid, excludes, was_marked}
 use Rattle.arj_joint_law.specs.MarkedTops.{AreMarkedSo, IsMarkedSo}
@@ -90,7 +93,12 @@ marked_later x W V M N later step right u p same = record {
   named = ap (λ ls. act_in (book ls).acts p.act.label) step.lines ∙ ap (λ (B : Book). act_in B.acts p.act.label) (book_more new_book M.lines step.more) ∙ acts_stay (book M.lines) step.more (right_behind new_book M.lines step.more (subst (AreRight new_book) step.lines right)) p.act.label p.act p.named;
   uid = p.uid;
   marks = λ s. same s ∙ p.marks s ∙ (λ i. target (sym (later.plan (uid_number u) p.begun) i) s && not (sym (later.got (uid_number u) p.ended) i s));
+  root = ap (λ (f : ℕ → ℕ). f (uid_number u)) later.root ∙ p.root ∙ ap (λ (q : List Act). uid_number (first_uid (uids q))) (sym stays);
 }
+  where
+    stays : path (book N.lines).acts p.act.label ≡ path (book M.lines).acts p.act.label
+    stays = ap (λ ls. path (book ls).acts p.act.label) step.lines ∙ ap (λ (B : Book). path B.acts p.act.label) (book_more new_book M.lines step.more)
+        ∙ (paths_stay (book M.lines) step.more p.act (right_behind new_book M.lines step.more (subst (AreRight new_book) step.lines right)) (named_in (book M.lines).acts p.act.label p.act p.named)).0
 
 -- ---- a step
 
@@ -135,6 +143,7 @@ module _ (x k : ℕ) (d : Disk) (t : Parts) (M : Seen) (tops : Kinds) (A : Offic
     named = ap (act_in (book M.lines).acts) label ∙ named.named;
     uid = named.uid;
     marks = λ s. ap (λ l. was_marked M.lines l x s) label ∙ said_so x s ∙ sees.marks s ∙ by s (target (plan_at x c.plan) s) refl ∙ (λ i. target (sym sees.plan i) s && not (A.world.disk.got (uid_number u) s));
+    root = ap (λ (f : ℕ → ℕ). f (uid_number u)) (let s = both.disks in let g = s.fixed in g.root) ∙ (let z = knows.coord in z.root u n.branch n.found n.top) ∙ ap (λ (us : List Uid). uid_number (first_uid us)) (sym its_path);
   }
     where
       n : KnowsMachine tops t.coord u (Confirming c.plan)
@@ -145,6 +154,13 @@ module _ (x k : ℕ) (d : Disk) (t : Parts) (M : Seen) (tops : Kinds) (A : Offic
 
       named : IsNamed (up k d t M) k u c.doing
       named = its_name u c.doing (Confirming c.plan) c.works c.now
+
+      its_path : uids (path (book M.lines).acts named.act.label) ≡ uids_of n.branch.path
+      its_path =
+          let w = kept.1 in
+          let j = w.nodes k (record { number = k; disk = d; live = Some t }) here in
+          let z = (let l = j.live t refl in l.knows) in
+          z.ties.paths named.act n.branch (list.in_to named.act (book M.lines).acts (named_in (book M.lines).acts (name c.doing.label) named.act named.named)) (ap (λ w. branch_of w t.coord.tree) named.uid ∙ n.found)
 
       label : named.act.label ≡ name c.doing.label
       label = named_label (book M.lines).acts (name c.doing.label) named.act named.named

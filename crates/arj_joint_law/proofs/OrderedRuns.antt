@@ -3,9 +3,9 @@ use Rattle.std.proofs.Common.{◌≡◌, ◌⊎◌, ℕ, List, [], ◌∷◌, tr
 use Rattle.std.specs.Prelude.{◌≤◌, Contains}
 use Rattle.arj_journal.specs.ScriptForm.{HeaderInForm}
 use Rattle.arj_lock.proofs.Members.{In, in_from}
-use Rattle.arj_model.specs.Actions.{Act, acts as acts_of}
+use Rattle.arj_model.specs.Actions.{Act, acts as acts_of, path, uids}
 use Rattle.arj_model.specs.Last.{object_line}
-use Rattle.arj_protocol.specs.Words.{Header, Line, Uid}
+use Rattle.arj_protocol.specs.Words.{Header, Line, Uid, first_uid}
 use Rattle.arj_protocol.specs.World.{Asked, format, run_all}
 use Rattle.arj_disk_law.specs.Effects as machine
 use Rattle.arj_disk_law.specs.Names.{Office}
@@ -38,7 +38,7 @@ use Rattle.arj_disk_line_law.proofs.IdleKnown.{KnowsIdle, knows_idle}
 use Rattle.arj_disk_line_law.proofs.Tying.{both_too, journalled_beside, one_act, tied_part}
 use Rattle.arj_serial_law.specs.Cleaned.{BeginsSo}
 use Rattle.arj_disk_run_law.specs.Decided.{AreCalled, AreOnce}
-use Rattle.arj_joint_law.specs.Ordered.{AreLeftOf, AreTurns, AreTurnsOf, IsCalledFirst, IsOrderedSo, RunsAreOrdered, RunsAreOrderedBeside}
+use Rattle.arj_joint_law.specs.Ordered.{AreLeftOf, AreRootedSo, AreTurns, AreTurnsOf, IsCalledFirst, IsOrderedSo, RunsAreOrdered, RunsAreOrderedBeside}
 use Rattle.arj_joint_law.proofs.Beginning.{WithFirst, first_begins, first_part}
 use Rattle.arj_joint_law.proofs.Firsts.{line_there}
 use Rattle.arj_joint_law.proofs.Ordering.{ordered_part}
@@ -79,6 +79,18 @@ IsOrderedBeside P hd x M = (o : IsOrderedSo hd x M) × (tops : Kinds) × (A : Of
 module _ (hd : Header) (x : ℕ) (es : List Asked) (sent : List Post) (W : machine.World) (right : AreRight new_book (run_all es (format hd)).lines) (whole : machine.Whole W) (marks : AreMarkedSo x W (see sent (run_all es (format hd)))) where
   abbrev lines : List Line
   lines = (run_all es (format hd)).lines
+
+  roots_all : AreRootedSo lines W.disk.root W.disk.tops
+  roots_all d a i there number = ap W.disk.root (sym number) ∙ its.root ∙ ap (λ (us : List Act). uid_number (first_uid (uids (path us its.act.label)))) (its_acts lines right) ∙ ap (λ (y : Act). uid_number (first_uid (uids (path (acts_of lines) y.label)))) same
+    where
+      node : IsOfNode (run_all es (format hd)) a
+      node = have_nodes hd es a there
+
+      its : IsMarkedSo x W (see sent (run_all es (format hd))) a.uid
+      its = marks.decisions a.uid node.node node.there (ap (decided_in W.disk.tops) number ∙ in_decided W.disk.tops d i)
+
+      same : its.act ≡ a
+      same = one_act (acts_of lines) (let z : IsSound lines = is_sound lines right in z.distinct) its.act a (subst (In its.act) (its_acts lines right) (named_in (book lines).acts its.act.label its.act its.named)) (in_from a (acts_of lines) there) its.uid
 
   leaves_all : AreLeftOf lines x W.disk.tops
   leaves_all d a i there number s = (λ j. target (plan j) s && not (got j s)) ∙ sym (its.marks s) ∙ ap (λ (y : Act). was_marked lines y.label x s) same ∙ left lines right x a (in_from a (acts_of lines) there) s
@@ -122,6 +134,7 @@ ordered_beside hd x R P form there kept parts es short =
           once = subst (λ (W : machine.World). AreOnce W.disk.tops) b.2 order.once;
           called = subst (λ (W : machine.World). AreCalled (run_all es (format hd)).lines W.disk.tops) b.2 order.called;
           turns = subst (λ (W : machine.World). AreTurnsOf (run_all es (format hd)).lines W.disk.tops) b.2 (turns_of (run_all es (format hd)).lines right (let A = b.1 in A.world.disk.tops) order.turns);
+          roots = (let j = b.0 in roots_all hd x es h.sent j.machine right (let s = j.sees in s.whole) (subst (λ (W : machine.World). AreMarkedSo x W (see h.sent (run_all es (format hd)))) b.2 more.1));
           leaves = (let j = b.0 in leaves_all hd x es h.sent j.machine right (let s = j.sees in s.whole) (subst (λ (W : machine.World). AreMarkedSo x W (see h.sent (run_all es (format hd)))) b.2 more.1));
         },
         (let j = b.0 in j.tops),

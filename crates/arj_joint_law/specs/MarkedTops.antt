@@ -1,9 +1,9 @@
 -- Of each decided top the journal says what it excluded, by the disk machine of the object.
 use Rattle.std.specs.Prelude.{◌≡◌, ◌&&◌, ℕ, true, not, Some}
-use Rattle.arj_protocol.specs.Words.{Uid}
+use Rattle.arj_protocol.specs.Words.{Uid, first_uid}
 use Rattle.arj_protocol.specs.Order.{uid_number}
 use Rattle.arj_protocol.specs.Step.{Node}
-use Rattle.arj_model.specs.Actions.{Act, act_in}
+use Rattle.arj_model.specs.Actions.{Act, act_in, path, uids}
 use Rattle.arj_disk_law.specs.Effects.{World}
 use Rattle.arj_disk_law.specs.State.{decided, is_sealed, target}
 use Rattle.arj_view_law.specs.Seen.{Seen}
@@ -12,7 +12,7 @@ use Rattle.arj_joint_law.specs.Joined.{IsRecordedAt}
 use Rattle.arj_joint_law.specs.Marked.{was_marked}
 
 -- A top whose prepare step has ended, in the disk machine of the object: the journal says of it exactly the stores that are its targets and gave
--- no Yes.
+-- no Yes, and has its root at the head of its path.
 pub record IsMarkedSo (x : ℕ) (W : World) (M : Seen) (u : Uid) : Type 0 where
   pub begun : W.disk.begun (uid_number u) ≡ true
   pub ended : is_sealed (W.disk.stage (uid_number u)) ≡ true
@@ -20,6 +20,7 @@ pub record IsMarkedSo (x : ℕ) (W : World) (M : Seen) (u : Uid) : Type 0 where
   pub named : act_in (let B = book M.lines in B.acts) act.label ≡ Some act
   pub uid : act.uid ≡ u
   pub marks : (s : ℕ) → was_marked M.lines act.label x s ≡ (target (W.disk.plan (uid_number u)) s && not (W.disk.got (uid_number u) s))
+  pub root : W.disk.root (uid_number u) ≡ uid_number (first_uid (uids (path (let B = book M.lines in B.acts) act.label)))
 
 -- So it is of each top that is decided, at a node that is there, and of each that has a record.
 pub record AreMarkedSo (x : ℕ) (W : World) (M : Seen) : Type 0 where

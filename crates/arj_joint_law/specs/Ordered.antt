@@ -2,9 +2,9 @@
 use Rattle.std.specs.Prelude.{⊤, ◌≡◌, ◌≢◌, ◌⊎◌, ◌≤◌, ◌++◌, ◌&&◌, ℕ, Bool, true, false, not, List, [], ◌∷◌, Contains, is_some, length}
 use Rattle.arj_base.specs.Rows.{is_on}
 use Rattle.arj_journal.specs.ScriptForm.{HeaderInForm}
-use Rattle.arj_model.specs.Actions.{Act, acts}
+use Rattle.arj_model.specs.Actions.{Act, acts, path, uids}
 use Rattle.arj_model.specs.Last.{is_among, leaves_of, object_line}
-use Rattle.arj_protocol.specs.Words.{Header, Line, Uid}
+use Rattle.arj_protocol.specs.Words.{Header, Line, Uid, first_uid}
 use Rattle.arj_protocol.specs.Order.{uid_number}
 use Rattle.arj_protocol.specs.World.{Asked, format, run_all}
 use Rattle.arj_disk_law.specs.Effects.{World}
@@ -58,13 +58,18 @@ AreTurnsOf lines (d ∷ ds) = ((e : Done) (a b : Act) → In e ds → Contains (
 abbrev pub AreLeftOf : List Line → ℕ → List Done → Type 0
 AreLeftOf lines x ds = (d : Done) (a : Act) → In d ds → Contains (acts lines) a → uid_number a.uid ≡ d.top → (s : ℕ) → (target d.plan s && not (d.got s)) ≡ is_among (leaves_of lines a.id x) s
 
--- The machine began as the header says and decided as the journal says, in this order, and excluded what the journal says.
+-- the machine's root of each of these tops is the one at the head of its path, by the journal
+abbrev pub AreRootedSo : List Line → (ℕ → ℕ) → List Done → Type 0
+AreRootedSo lines root ds = (d : Done) (a : Act) → In d ds → Contains (acts lines) a → uid_number a.uid ≡ d.top → root d.top ≡ uid_number (first_uid (uids (path (acts lines) a.label)))
+
+-- The machine began as the header says and decided as the journal says, in this order, excluded what the journal says, and has its roots.
 pub record IsOrderedSo (hd : Header) (x : ℕ) (M : Seen) : Type 0 where
   pub begun : IsBegunSo hd x M
   pub once : AreOnce (let j = (let b = begun in b.journalled) in let W = j.machine in let S = W.disk in S.tops)
   pub called : AreCalled M.lines (let j = (let b = begun in b.journalled) in let W = j.machine in let S = W.disk in S.tops)
   pub turns : AreTurnsOf M.lines (let j = (let b = begun in b.journalled) in let W = j.machine in let S = W.disk in S.tops)
   pub leaves : AreLeftOf M.lines x (let j = (let b = begun in b.journalled) in let W = j.machine in let S = W.disk in S.tops)
+  pub roots : let j = (let b = begun in b.journalled) in let W = j.machine in let S = W.disk in AreRootedSo M.lines S.root S.tops
 
 -- So it is in the run of every script, of each object of the header, with what is still taken of what coordinators have of naming's
 -- answers; and beside any relation that is kept with the machine's state.
