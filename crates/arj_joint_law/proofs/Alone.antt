@@ -1,12 +1,11 @@
 -- A coordinator calls the commit of a top where no other one of its root goes on: so it is in every run.
-use Rattle.std.proofs.Common.{◌≡◌, ◌≢◌, ◌⊎◌, ◌||◌, ◌++◌, ◌+◌, ℕ, Bool, true, false, cond, List, [], ◌∷◌, Option, Some, None, Contains, map, refl, sym, ◌∙◌, ap, subst, inl, inr, ⊎_elim}
-use Rattle.std.specs.Prelude.{⊤, is_some}
+use Rattle.std.proofs.Common.{◌≡◌, ◌≢◌, ◌⊎◌, ◌||◌, ◌++◌, ◌+◌, ℕ, Bool, true, false, cond, List, [], ◌∷◌, Option, Some, None, Contains, refl, sym, ◌∙◌, ap, subst, inl, inr}
+use Rattle.std.specs.Prelude.{is_some}
 use Rattle.std.specs.List.{AllByRecursion, list_all}
 use Rattle.std.proofs.lemmas.Bool.{and_parts}
 use Rattle.arj_base.proofs.Uids.{uid_same}
 use Rattle.arj_base.specs.Path.{first_uid}
 use Rattle.arj_base.specs.Rows.{is_on}
-use Rattle.arj_base.specs.Uid.{uid_eq}
 use Rattle.arj_call_law.proofs.Given.{KeepsGiven, kept_both}
 use Rattle.arj_disk_run_law.proofs.Begun.{Stood, root_on, stood}
 use Rattle.arj_disk_view_law.proofs.Frames.{node_here}
@@ -26,8 +25,8 @@ use Rattle.arj_lock_view_law.specs.Families.{acts_of}
 use Rattle.arj_lock_view_law.specs.Telling.{Family}
 use Rattle.arj_lock_view_law.proofs.FamilySteps.{families_are_trees}
 use Rattle.arj_lock_whole_law.specs.Called.{SayOf}
-use Rattle.arj_lock_whole_law.proofs.CalledSays.{acts_fine, calls_commit, commit_fine, message_fine, restart_fine, tick_fine}
-use Rattle.arj_model.specs.Actions.{Act, act_in, acts as acts_of_lines, is_serial, path, uids}
+use Rattle.arj_lock_whole_law.proofs.CalledSays.{acts_fine, commit_fine, message_fine, restart_fine, tick_fine}
+use Rattle.arj_model.specs.Actions.{Act, acts as acts_of_lines, is_serial, path, uids}
 use Rattle.arj_part_law.specs.Actions.{Action, act_of, action_of, paths_of}
 use Rattle.arj_part_law.specs.Coords.{IsGoodCoord}
 use Rattle.arj_part_law.proofs.CoordInputs.{named_found}
@@ -37,7 +36,7 @@ use Rattle.arj_protocol.specs.Ask.{actor}
 use Rattle.arj_protocol.specs.Asking.{again_all, begin_action, commit_action}
 use Rattle.arj_protocol.specs.Commit as commit
 use Rattle.arj_protocol.specs.Coord.{Coord, Doing, doing_of}
-use Rattle.arj_protocol.specs.Effect.{Did, Disk, Do, Effect, Say, Send, stopped, worked}
+use Rattle.arj_protocol.specs.Effect.{Disk, Do, Effect, Say, Send, worked}
 use Rattle.arj_protocol.specs.Ending.{say_for, says}
 use Rattle.arj_protocol.specs.Follow.{tick_outs}
 use Rattle.arj_protocol.specs.Node.{Parts, with_coord}
@@ -48,13 +47,13 @@ use Rattle.arj_protocol.specs.Words.{Body, End, Header, Kind, Label, Line, Uid, 
 use Rattle.arj_protocol.specs.Words.body
 use Rattle.arj_protocol.specs.Words.ending
 use Rattle.arj_protocol.specs.Words.kind
-use Rattle.arj_protocol.specs.World.{format, is_serial_kind, numbered}
+use Rattle.arj_protocol.specs.World.{is_serial_kind, numbered}
 use Rattle.arj_run_law.specs.Worlds.{IsUp}
 use Rattle.arj_run_law.proofs.Handled.{good_coord, it}
 use Rattle.arj_serial_law.proofs.Paths.{own_there}
 use Rattle.arj_view_law.specs.Keeps.{is_act}
-use Rattle.arj_view_law.specs.Seen.{AreQuiet, Seen, at, given, is_quiet_line, posted, said, up}
-use Rattle.arj_view_law.specs.Walks.{Up, Walks, halted}
+use Rattle.arj_view_law.specs.Seen.{AreQuiet, Seen, given, is_quiet_line, posted, said, up}
+use Rattle.arj_view_law.specs.Walks.{Up, Walks}
 use Rattle.arj_view_law.proofs.Happens.{runs_hold}
 use Rattle.arj_joint_law.specs.Alone.{AreCalledAlone, IsCalledAlone, RunsCallAlone}
 use Rattle.arj_joint_law.proofs.CommitCalls.{NoCall, end_quiet, marks_quiet, no_call}

@@ -29,8 +29,9 @@ use Rattle.arj_disk_law.specs.Core.{Core}
 use Rattle.arj_disk_law.specs.Effects.{World}
 use Rattle.arj_disk_law.specs.Laws.{IsExcludedInTime}
 use Rattle.arj_disk_law.specs.Order.{counts_of}
-use Rattle.arj_disk_law.specs.State.{Done, Hold, IsExcused, Packed, Plan, is_latest, is_latest_in, last, last_in}
+use Rattle.arj_disk_law.specs.State.{Done, Hold, IsExcused, Packed, Plan, decided_in, is_latest, is_latest_in, last, last_in}
 use Rattle.arj_disk_law.specs.Words.{In, has}
+use Rattle.arj_disk_law.proofs.History.{in_decided}
 use Rattle.arj_disk_law.proofs.Results.{in_time}
 use Rattle.arj_view_law.proofs.Happens.{runs_hold}
 use Rattle.arj_view_law.specs.Seen.{Seen}
@@ -211,7 +212,7 @@ module _ (header : Header) (e : ℕ) (M : Seen) (right : AreRight new_book M.lin
     taken_out : IsExcused W.disk T s → IsTakenOut M.lines x n t s
     taken_out y = ⊎_elim
         (λ (own : y.by_entry.top ≡ T). made t new.0 refl (sym own))
-        (λ other. let b = is.takers t y.by_entry new y.there other.0 other.1 in made b.0 b.1 b.3 b.2) y.whose
+        (λ other. let b = is.takers t y.by_entry new (ap (decided_in W.disk.tops) (sym number) ∙ in_decided W.disk.tops its.0 inside) y.there other.0 other.1 in made b.0 b.1 b.3 b.2) y.whose
       where
         k : Holder packed_entry (entry x) n.disk.names y.by_entry
         k = let p = sees_entry.pair in p.holder y.by_entry y.there

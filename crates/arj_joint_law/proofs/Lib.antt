@@ -28,6 +28,7 @@ pub mod Recorded
 pub mod Surviving
 pub mod RestGiven
 pub mod Alone
+pub mod Takers
 pub mod Counting
 pub mod JoinedRuns
 pub mod Writing

@@ -78,13 +78,25 @@ front_of e (l ∷ ls) = by (nat_lt l.event e) (front_of e ls)
     by true r = (r.0, ap (λ zs. l ∷ zs) r.1)
     by false r = (l ∷ ls, refl)
 
-module _ (values : Values) (lines : List Line) (right : AreRight new_book lines) (x : ℕ) (S : State) (tied : IsTied values lines x S) (e : ℕ) (begins : CommitsBeginIt e lines) where
-  its_uid : (t : Top) (i : IsTopOf lines t) → uid_of lines t ≡ i.act.uid
+module _ (lines : List Line) (right : AreRight new_book lines) where
+  pub its_uid : (t : Top) (i : IsTopOf lines t) → uid_of lines t ≡ i.act.uid
   its_uid t i = ap (uid_of_number) (sym i.number) ∙ number_uid i.act (acts lines) (λ y k f. same_number lines right y i.act k i.there f) i.there
     where
       uid_of_number : ℕ → Uid
       uid_of_number n = uid_of_id (acts lines) n
 
+  -- whoever is decided where a commit is called was so by an earlier event
+  pub said_before : (e : ℕ) → CommitsBeginIt e lines → (before : List Line) (line : Line) (behind : List Line) (l : Label) → lines ≡ before ++ line ∷ behind → line.body ≡ body.Committing l → (u : Uid) → is_decided (book before) u ≡ true → is_said (lines_before e lines) u ≡ true
+  said_before e begins before line behind l are calls u old =
+      let rest = lines_before e (line ∷ behind) in
+      let front : lines_before e lines ≡ before ++ rest = ap (lines_before e) are ∙ before_all e before (line ∷ behind) (begins before line behind l are calls) in
+      let f = front_of e lines in
+      let right_front_of : AreRight new_book (lines_before e lines) = right_front new_book (lines_before e lines) f.0 (subst (AreRight new_book) f.1 right) in
+      let now : is_decided (book (lines_before e lines)) u ≡ true =
+      ap (λ zs. is_decided (book zs) u) front ∙ ap (λ (B : Book). is_decided B u) (book_more new_book before rest) ∙ decided_later (book before) (book_from (book before) rest) (later_from (book before) rest) u old in
+      said_so (lines_before e lines) u (decided_in (lines_before e lines) right_front_of u now)
+
+module _ (values : Values) (lines : List Line) (right : AreRight new_book lines) (x : ℕ) (S : State) (tied : IsTied values lines x S) (e : ℕ) (begins : CommitsBeginIt e lines) where
   module _ (t u : Top) (new : IsNew e lines t) (t_wrote : Wrote lines x t) (u_there : In u (tops lines)) (u_wrote : Wrote lines x u) (later : t.at < u.at) where
     t_there : In t (tops lines)
     t_there = in_from t (tops lines) new.0
@@ -136,13 +148,7 @@ module _ (values : Values) (lines : List Line) (right : AreRight new_book lines)
     decided_before : is_decided (book (found.before ++ found.line ∷ [])) ti.act.uid ≡ true → is_said (lines_before e lines) (uid_of lines t) ≡ true
     decided_before is =
         let old : is_decided (book found.before) ti.act.uid ≡ true = sym (ap (λ (B : Book). is_decided B ti.act.uid) book_there) ∙ is in
-        let rest = lines_before e (found.line ∷ found.behind) in
-        let front : lines_before e lines ≡ found.before ++ rest = ap (lines_before e) found.are ∙ before_all e found.before (found.line ∷ found.behind) (begins found.before found.line found.behind call.0 found.are call.1) in
-        let f = front_of e lines in
-        let right_front_of : AreRight new_book (lines_before e lines) = right_front new_book (lines_before e lines) f.0 (subst (AreRight new_book) f.1 right) in
-        let now : is_decided (book (lines_before e lines)) ti.act.uid ≡ true =
-        ap (λ zs. is_decided (book zs) ti.act.uid) front ∙ ap (λ (B : Book). is_decided B ti.act.uid) (book_more new_book found.before rest) ∙ decided_later (book found.before) (book_from (book found.before) rest) (later_from (book found.before) rest) ti.act.uid old in
-        ap (is_said (lines_before e lines)) (its_uid t ti) ∙ said_so (lines_before e lines) ti.act.uid (decided_in (lines_before e lines) right_front_of ti.act.uid now)
+        ap (is_said (lines_before e lines)) (its_uid lines right t ti) ∙ said_before lines right e begins found.before found.line found.behind call.0 found.are call.1 ti.act.uid old
 
     impossible : ⊥
     impossible = by (is_decided (book (found.before ++ found.line ∷ [])) ti.act.uid) refl

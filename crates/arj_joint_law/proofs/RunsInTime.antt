@@ -11,6 +11,7 @@ use Rattle.arj_joint_law.specs.InTime.{AreInTime, RunsExcludeInTime, WholeRunsEx
 use Rattle.arj_joint_law.proofs.Clean.{Decides, Held, decided, decides_in, formed, held_in, joined_at, lock_tied, ordered_held, right, ties}
 use Rattle.arj_joint_law.proofs.CommitCalls.{commits_begin}
 use Rattle.arj_joint_law.proofs.Excluding.{is_in_time, newest_by_calls, nodes_have_form}
+use Rattle.arj_joint_law.proofs.Takers.{takers}
 
 module _ (hd : Header) (es : List Asked) (form : HeaderInForm hd) (tied : AreLockTied hd (journal hd es)) (held : Held hd es) (decide : Decides hd es held) (all : (x : ℕ) → is_some (object_line hd x) ≡ true → AreInTime hd (let w = run_all es (format hd) in w.event) x es) where
   abbrev w : World
@@ -24,7 +25,7 @@ module _ (hd : Header) (es : List Asked) (form : HeaderInForm hd) (tied : AreLoc
       record {
         seen = record { kinds = j.tops; world = j.machine; sees = j.sees; decided = decided hd es form tied held decide x there; begins = b.begins; form = formed hd es form tied held decide x there };
         forms = nodes_have_form hd x form es h.sent;
-        takers = (let a = all x there in a.takers h);
+        takers = takers hd es x h;
       }
 
   in_time : AreExcludedInTime hd w.event (see [] w)

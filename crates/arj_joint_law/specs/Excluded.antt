@@ -82,10 +82,11 @@ AreExcludedInTime header e M = (t : Top) (x s : ℕ) (naming store : Node) (st :
 
 -- ---- what gives it
 
--- Of a decided action of a root, an entry of which is prepared: where the journal has a committed top of that root that is new in the event, it
--- is one too. Of older tops that isn't so: a restart may have found the record of the next constituent, and stopped before it said so.
+-- Of a decided action of a root, an entry of which is prepared: where the journal has a committed top of that root that is new in the event, and
+-- the machine decided it, it is one too. Of older tops that isn't so: a restart may have found the record of the next constituent, and stopped
+-- before it said so.
 abbrev pub TakersAreCommitted : ℕ → List Line → State → Type 0
-TakersAreCommitted e lines S = (t : Top) (h : Hold) → IsNew e lines t → S.entry_pend ≡ Some h → disk.decided S h.top ≡ true → S.root h.top ≡ S.root (uid_number (uid_of lines t))
+TakersAreCommitted e lines S = (t : Top) (h : Hold) → IsNew e lines t → disk.decided S (uid_number (uid_of lines t)) ≡ true → S.entry_pend ≡ Some h → disk.decided S h.top ≡ true → S.root h.top ≡ S.root (uid_number (uid_of lines t))
     → (b : Top) × Contains (tops lines) b × (uid_number (uid_of lines b) ≡ h.top) × (b.root ≡ t.root)
 
 -- A top that is new in the event and wrote the object is the newest that counts: none of the decided tops that have no line yet does, and of

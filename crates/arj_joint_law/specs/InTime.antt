@@ -14,14 +14,12 @@ use Rattle.arj_part_law.specs.Actions.{Action}
 use Rattle.arj_serial_law.specs.Cleaned.{AreDecidedOrLate}
 use Rattle.arj_serial_law.specs.Decided.{Wrote}
 use Rattle.arj_joint_law.specs.Cleaned.{AreLockTied, DecideSo, DecideWrittenSo, disk_of}
-use Rattle.arj_joint_law.specs.Excluded.{AreExcludedInTime, IsBehindIncludes, IsNew, TakersAreCommitted}
+use Rattle.arj_joint_law.specs.Excluded.{AreExcludedInTime, IsBehindIncludes, IsNew}
 use Rattle.arj_joint_law.specs.Ordered.{IsOrderedSo}
 
--- Of an object, in each state in which its disk machine is seen after the run with the journal's decisions in order: whose entry is prepared
--- beside a new top of its root is committed too; and however its decided tops are those of the journal, a top that wrote it and is new
--- in this event has none behind it that counts without a line, or without a write.
+-- Of an object, in each state in which its disk machine is seen after the run with the journal's decisions in order: however its decided tops
+-- are those of the journal, a top that wrote it and is new in this event has none behind it that counts without a line, or without a write.
 pub record AreInTime (hd : Header) (e x : ℕ) (es : List Asked) : Type 0 where
-  pub takers : (h : Holds hd (IsOrderedSo hd x) (run_all es (format hd))) → TakersAreCommitted e (journal hd es) (disk_of h.holds)
   pub behind : (h : Holds hd (IsOrderedSo hd x) (run_all es (format hd))) (d : AreDecidedOrLate hd (journal hd es) x (disk_of h.holds)) (t : Top) → IsNew e (journal hd es) t → Wrote (journal hd es) x t → IsBehindIncludes hd (journal hd es) x (disk_of h.holds) d t
 
 -- After the run of each script stores are excluded in time, on what makes its files clean, where decided tops are so.

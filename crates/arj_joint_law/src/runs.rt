@@ -21,7 +21,7 @@ pub fn runs_begin_as_the_header_says()
 /// And its decided tops stand in the order of their commit calls against decisions: each had its commit called, and that of one which
 /// was decided earlier had been called at a place of the journal where the later one wasn't decided yet, by its line or by a record that
 /// was found; or nothing of the later one survives. And the stores that a decided top takes out of the list are those that its commit excluded, by the
-/// journal. It takes the same as `runs_begin_as_the_header_says`. It does nothing when it runs.
+/// journal; and its root is the one at the head of its path there. It takes the same as `runs_begin_as_the_header_says`. It does nothing when it runs.
 pub fn decisions_come_behind_calls()
     ensures heard { RunsAreOrdered }
     ensures beside { RunsAreOrderedBeside }
