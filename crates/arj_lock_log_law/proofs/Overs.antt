@@ -6,15 +6,16 @@ use Rattle.arj_lock_law.specs.Steps.{ConfirmTop, IsLast, VoteTop}
 use Rattle.arj_lock_law.specs.Laws.{given_by}
 use Rattle.arj_lock_law.specs.Machine.{Guard, Run, next, start, stay, step}
 use Rattle.arj_lock_law.proofs.Claims.{GoesOn, Holds, IsUp, Mean, Reached, Sure, server_of}
+use Rattle.arj_lock_law.proofs.CallSteps.{top_acts}
 use Rattle.arj_lock_law.proofs.Given.{given_stands}
 use Rattle.arj_lock_law.proofs.Order.{go_on, start_holds, step_keeps}
-use Rattle.arj_lock_law.proofs.Paths.{on_self, top_of, top_root}
+use Rattle.arj_lock_law.proofs.Paths.{on_self, on_top, top_of, top_root}
 use Rattle.arj_lock_law.proofs.ValueClaims.{Clean, Fine, Logged, Matches, Values, bad, both, calm, less, more, waiting}
 use Rattle.arj_lock_law.proofs.ValueLasts.{clean_alive}
 use Rattle.arj_lock_law.proofs.ValueRun.{start_values}
 use Rattle.arj_lock_law.proofs.VoteLasts.{Votes}
 use Rattle.arj_lock_law.proofs.VoteRun.{run_all_votes, start_votes}
-use Rattle.arj_lock_log_law.specs.Under.{ConfirmsAreOverTheLast, MayCount, WritesLieOverVotes}
+use Rattle.arj_lock_log_law.specs.Under.{ConfirmsAreOverTheLast, MayCount, WritesHaveCalls, WritesLieOverVotes}
 use Rattle.arj_lock_log_law.proofs.Bases.{bases_stay, held_clean}
 use Rattle.arj_lock_log_law.proofs.Homes.{IsHome, homes_of}
 use Rattle.arj_lock_log_law.proofs.OwnLogs.{Behind, HasOwnLog, OwnLog, own_call, own_run, own_start, run_behind}
@@ -182,49 +183,34 @@ logged_kept s base (d ∷ es) cs (bad _ f l) e (inr i) fine = logged_kept s base
 logged_kept s base (d ∷ es) cs (waiting _ f n k) e (inl is) fine = ap (λ (x : Entry). s.kept (root x.by)) is ∙ (f (subst (λ (x : Entry). Fine s x.by) is fine)).1
 logged_kept s base (d ∷ es) cs (waiting _ f n k) e (inr i) fine = log_kept s base es cs k e i fine
 
-module _ (first : ℕ) (s r t : State) (n k : ℕ) (m : Act) (b i : ℕ) (c : Call) (e : Entry) (reached : Run (start first) s) (guard : Guard (VoteTop n m b i) s) (run : Run (next (VoteTop n m b i) s) r) (one : (r.action m).stage ≡ 1)
-    (there : In c r.calls) (its : top c.act ≡ m) (alive : Alive r c.act) (later : Run r t) (three : (t.action m).stage ≤ 3) (write : In e (t.server k).log) (held : e.holder ≡ m) (counts : MayCount t (t.server k).active) where
-  then : Holds s × Values s × Votes s
-  then = run_all_votes reached (start_holds first) (start_values first) (start_votes first)
+-- and it has its call, unless it waits for its line
+log_called : (s : State) (base : ℕ) (es : List Entry) (cs : List Call) → Matches s base es cs → (e : Entry) → In e es → Fine s e.by → (c : Call) × In c cs × (c.write ≡ true) × (e.by ≡ c.act)
+log_called s base [] cs k e i fine = absurd i
+log_called s base (d ∷ es) (c ∷ cs) (both _ _ by gives w kept n) e (inl is) fine = (c, inl refl, w, ap (λ (x : Entry). x.by) is ∙ by)
+log_called s base (d ∷ es) (c ∷ cs) (both _ _ by gives w kept n) e (inr i) fine = let r = log_called s base es cs n e i fine in (r.0, inr r.1, r.2, r.3)
+log_called s base (d ∷ es) cs (more _ f n) e (inl is) fine = absurd (f (subst (λ (x : Entry). Fine s x.by) is fine))
+log_called s base (d ∷ es) cs (more _ f n) e (inr i) fine = log_called s base es cs n e i fine
+log_called s base es (c ∷ cs) (less _ f n) e i fine = let r = log_called s base es cs n e i fine in (r.0, inr r.1, r.2, r.3)
 
-  sent : Mean s (Vote m b i)
-  sent = let a = then.0 in a.mail (Vote m b i) guard.0
+logged_called : (s : State) (base : ℕ) (es : List Entry) (cs : List Call) → Logged s base es cs → (e : Entry) → In e es → Fine s e.by → ((s.action e.by).waits ≡ true → ⊥) → (c : Call) × In c cs × (c.write ≡ true) × (e.by ≡ c.act)
+logged_called s base es cs (calm n k) e i fine still = log_called s base es cs k e i fine
+logged_called s base (d ∷ es) cs (bad _ f l) e (inl is) fine still = absurd (f (subst (λ (x : Entry). Fine s x.by) is fine))
+logged_called s base (d ∷ es) cs (bad _ f l) e (inr i) fine still = logged_called s base es cs l e i fine still
+logged_called s base (d ∷ es) cs (waiting _ f n k) e (inl is) fine still = absurd (still (subst (λ (x : Entry). (s.action x.by).waits ≡ true) (sym is) (f (subst (λ (x : Entry). Fine s x.by) is fine)).0.1))
+logged_called s base (d ∷ es) cs (waiting _ f n k) e (inr i) fine still = log_called s base es cs k e i fine
 
-  there_then : Holds r × Values r × Votes r
-  there_then = run_all_votes (step (VoteTop n m b i) guard run) then.0 then.1 then.2
-
+module _ (first : ℕ) (t : State) (k : ℕ) (m : Act) (e : Entry) (reached : Run (start first) t) (is : is_top m ≡ true) (called : 1 ≤ (t.action m).stage) (three : (t.action m).stage ≤ 3) (write : In e (t.server k).log) (held : e.holder ≡ m) (counts : MayCount t (t.server k).active) where
   now : Holds t × Values t × Votes t
-  now = run_all_votes later there_then.0 there_then.1 there_then.2
-
-  gone : Behind m r t
-  gone = run_behind m sent.0 later there_then.0 there_then.1 (omega (arith, one)) three
-
-  there_now : In c t.calls
-  there_now = gone.calls c there
-
-  alive_now : Alive t c.act
-  alive_now = gone.alive c there its alive
-
-  abbrev all : Run (next (VoteTop n m b i) s) t
-  all = go_on run later
-
-  bound_here : b ≡ s.kept (root m)
-  bound_here = here first s t n m b i reached guard all three c there_now its alive_now
-
-  kept_now : t.kept (root m) ≡ s.kept (root m)
-  kept_now = kept first s t n m b i reached guard all three c there_now its alive_now
-
-  called : 1 ≤ (t.action m).stage
-  called = let a = gone.stage in omega (arith, a, one)
+  now = run_all_votes reached (start_holds first) (start_values first) (start_votes first)
 
   home : IsHome t k
-  home = homes_of first t (go_on reached (step (VoteTop n m b i) guard all)) k e write
+  home = homes_of first t reached k e write
 
   spoils_not : Clean t e.by
-  spoils_not = held_clean t now.1 m sent.0 called three k e write held
+  spoils_not = held_clean t now.1 m is called three k e write held
 
   its_top : top e.by ≡ m
-  its_top = top_of e.by m sent.0 (subst (λ (a : Act). on e.by a ≡ true) held (let a = now.1 in let z = a.logs k e write in z.path))
+  its_top = top_of e.by m is (subst (λ (a : Act). on e.by a ≡ true) held (let a = now.1 in let z = a.logs k e write in z.path))
 
   its_root : root e.by ≡ root m
   its_root = sym (top_root e.by) ∙ ap root its_top
@@ -236,30 +222,79 @@ module _ (first : ℕ) (s r t : State) (n k : ℕ) (m : Act) (b i : ℕ) (c : Ca
       cases x = grind arith
 
       by : ((t.action m).stage ≤ 2) ⊎ ((t.action m).stage ≡ 3) → GoesOn t (root e.by) ⊎ ((t.action (top e.by)).stage ≡ 3)
-      by (inl two) = inl (subst (λ (u : ℕ). GoesOn t u) (sym its_root) ((let a = now.0 in let z = a.tops m sent.0 in z.goes) called two))
+      by (inl two) = inl (subst (λ (u : ℕ). GoesOn t u) (sym its_root) ((let a = now.0 in let z = a.tops m is in z.goes) called two))
       by (inr full) = inr (ap (λ (y : Act). (t.action y).stage) its_top ∙ full)
 
-  active : t.kept (root m) ≡ (t.server k).active
-  active = by counts
+  -- the copy is that of the recorded binding
+  recorded : (t.naming.recorded ≡ (t.server k).active) × (t.naming.first ≤ (t.server k).active)
+  recorded = by counts
     where
-      by : MayCount t (t.server k).active → t.kept (root m) ≡ (t.server k).active
+      by : MayCount t (t.server k).active → (t.naming.recorded ≡ (t.server k).active) × (t.naming.first ≤ (t.server k).active)
       by (inr current) = absurd ((let a = now.1 in let z = a.fresh k (let l = current.present in let f = (let y = now.0 in let w = y.naming in w.first_above) in omega (arith, l, f)) in z.log) current e write)
-      by (inl (is, low)) =
-          let at_home : server_of t (t.server k).active ≡ t.server k = ap t.server home.server in
-          let up : IsUp t (t.server k).active = subst (λ (w : Server). (w.incarnation ≡ (t.binding (t.server k).active).incarnation) × (w.active ≡ (t.server k).active)) (sym at_home) (home.incarnation, refl) in
-          let logged = (let a = now.1 in a.copy) (omega (arith, is, low)) (subst (λ (x : ℕ). IsUp t x) (sym is) up) in
-          let it = logged_kept t (server_of t t.naming.recorded).base (server_of t t.naming.recorded).log t.calls logged e (subst (λ (w : Server). In e w.log) (sym at_home ∙ ap (server_of t) (sym is)) write) fine in
-          ap t.kept (sym its_root) ∙ it ∙ is
+      by (inl it) = it
+
+  at_home : server_of t (t.server k).active ≡ t.server k
+  at_home = ap t.server home.server
+
+  logged : Logged t (server_of t t.naming.recorded).base (server_of t t.naming.recorded).log t.calls
+  logged =
+      let up : IsUp t (t.server k).active = subst (λ (w : Server). (w.incarnation ≡ (t.binding (t.server k).active).incarnation) × (w.active ≡ (t.server k).active)) (sym at_home) (home.incarnation, refl) in
+      (let a = now.1 in a.copy) (let r = recorded in let x = r.0 in let y = r.1 in omega (arith, x, y)) (subst (λ (x : ℕ). IsUp t x) (sym recorded.0) up)
+
+  there_too : In e (server_of t t.naming.recorded).log
+  there_too = subst (λ (w : Server). In e w.log) (sym at_home ∙ ap (server_of t) (sym recorded.0)) write
+
+  active : t.kept (root m) ≡ (t.server k).active
+  active = ap t.kept (sym its_root) ∙ logged_kept t (server_of t t.naming.recorded).base (server_of t t.naming.recorded).log t.calls logged e there_too fine ∙ recorded.0
+
+  its_call : (c : Call) × In c t.calls × (c.write ≡ true) × (top c.act ≡ m) × Alive t c.act
+  its_call =
+      let r = logged_called t (server_of t t.naming.recorded).base (server_of t t.naming.recorded).log t.calls logged e there_too fine waits_not in
+      (r.0, r.1, r.2, sym (ap top r.3) ∙ its_top, subst (λ (a : Act). Alive t a) r.3 (clean_alive t e.by spoils_not))
+    where
+      waits_not : (t.action e.by).waits ≡ true → ⊥
+      waits_not w =
+          let a = now.1 in
+          let zero = a.path e.by w (clean_alive t e.by spoils_not) (top e.by) (on_top e.by) (top_acts e.by (let z = a.logs k e write in z.acts)) in
+          let same : (t.action (top e.by)).stage ≡ (t.action m).stage = ap (λ (y : Act). (t.action y).stage) its_top in
+          omega (arith, zero, same, called)
+
+pub writes_have_calls : WritesHaveCalls
+writes_have_calls first t k m e reached is called three write held counts = its_call first t k m e reached is called three write held counts
+
+module _ (first : ℕ) (s r t : State) (n k : ℕ) (m : Act) (b i : ℕ) (c : Call) (e : Entry) (reached : Run (start first) s) (guard : Guard (VoteTop n m b i) s) (run : Run (next (VoteTop n m b i) s) r) (one : (r.action m).stage ≡ 1)
+    (there : In c r.calls) (its : top c.act ≡ m) (alive : Alive r c.act) (later : Run r t) (three : (t.action m).stage ≤ 3) (write : In e (t.server k).log) (held : e.holder ≡ m) (counts : MayCount t (t.server k).active) where
+  then : Holds s × Values s × Votes s
+  then = run_all_votes reached (start_holds first) (start_values first) (start_votes first)
+
+  sent : Mean s (Vote m b i)
+  sent = let a = then.0 in a.mail (Vote m b i) guard.0
+
+  there_then : Holds r × Values r × Votes r
+  there_then = run_all_votes (step (VoteTop n m b i) guard run) then.0 then.1 then.2
+
+  gone : Behind m r t
+  gone = run_behind m sent.0 later there_then.0 there_then.1 (omega (arith, one)) three
+
+  abbrev all : Run (next (VoteTop n m b i) s) t
+  all = go_on run later
+
+  called_now : 1 ≤ (t.action m).stage
+  called_now = let a = gone.stage in omega (arith, a, one)
+
+  abbrev whole_run : Run (start first) t
+  whole_run = go_on reached (step (VoteTop n m b i) guard all)
 
   same_binding : b ≡ (t.server k).active
-  same_binding = bound_here ∙ sym kept_now ∙ active
+  same_binding = here first s t n m b i reached guard all three c (gone.calls c there) its (gone.alive c there its alive) ∙ sym (kept first s t n m b i reached guard all three c (gone.calls c there) its (gone.alive c there its alive))
+      ∙ active first t k m e whole_run sent.0 called_now three write held counts
 
   same_node : k ≡ n
-  same_node = sym home.server ∙ ap (λ (x : ℕ). (t.binding x).server) (sym same_binding) ∙ made_there b (step (VoteTop n m b i) guard all) then.0 (let a = then.0 in let z = a.bindings b sent.1 in z.below) ∙ guard.1
+  same_node = sym (let z = home first t k m e whole_run sent.0 called_now three write held counts in z.server) ∙ ap (λ (x : ℕ). (t.binding x).server) (sym same_binding) ∙ made_there b (step (VoteTop n m b i) guard all) then.0 (let a = then.0 in let z = a.bindings b sent.1 in z.below) ∙ guard.1
 
 pub writes_lie_over_votes : WritesLieOverVotes
 writes_lie_over_votes first s r t n k m b i c e reached guard run one there its alive later three write held counts = (
-  bases_stay first s t k m e reached (sent first s r t n k m b i c e reached guard run one there its alive later three write held counts).0 (let z = (sent first s r t n k m b i c e reached guard run one there its alive later three write held counts).4 in z) (step (VoteTop n m b i) guard (go_on run later)) three write held
+  bases_stay first s t k m e reached (sent first s r t n k m b i c e reached guard run one there its alive later three write held counts).0 (sent first s r t n k m b i c e reached guard run one there its alive later three write held counts).4 (step (VoteTop n m b i) guard (go_on run later)) three write held
       ∙ ap (λ (x : ℕ). (s.server x).base) (same_node first s r t n k m b i c e reached guard run one there its alive later three write held counts),
   same_binding first s r t n k m b i c e reached guard run one there its alive later three write held counts,
 )

@@ -29,3 +29,8 @@ ConfirmsAreOverTheLast = (first : ℕ) (s t : State) (n : ℕ) (m : Act) (b i q 
 abbrev pub WritesLieOverVotes : Type 0
 WritesLieOverVotes = (first : ℕ) (s r t : State) (n k : ℕ) (m : Act) (b i : ℕ) (c : Call) (e : Entry) → Run (start first) s → Guard (VoteTop n m b i) s → Run (next (VoteTop n m b i) s) r → (r.action m).stage ≡ 1 → In c r.calls → top c.act ≡ m → Alive r c.act → Run r t → (t.action m).stage ≤ 3
     → In e (t.server k).log → e.holder ≡ m → MayCount t (t.server k).active → ((t.server k).base ≡ (s.server n).base) × (b ≡ (t.server k).active)
+
+-- A write that a top holds, whose commit was called, in a copy whose binding may count has an answered call of the top that wasn't undone.
+abbrev pub WritesHaveCalls : Type 0
+WritesHaveCalls = (first : ℕ) (t : State) (k : ℕ) (m : Act) (e : Entry) → Run (start first) t → is_top m ≡ true → 1 ≤ (t.action m).stage → (t.action m).stage ≤ 3 → In e (t.server k).log → e.holder ≡ m → MayCount t (t.server k).active
+    → (c : Call) × In c t.calls × (c.write ≡ true) × (top c.act ≡ m) × Alive t c.act

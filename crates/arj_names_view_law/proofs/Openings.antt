@@ -1,5 +1,5 @@
 -- A commit may begin in the machine.
-use Rattle.std.proofs.Common.{◌≡◌, ◌⊎◌, ℕ, ◌==◌, List, [], ◌∷◌, Bool, true, false, cond, Option, Some, None, refl, sym, ◌∙◌, ap, subst, inl, inr, ⊎_elim, map, is_some}
+use Rattle.std.proofs.Common.{◌≡◌, ◌⊎◌, ℕ, ◌==◌, List, [], ◌∷◌, Bool, true, false, cond, Option, Some, None, refl, sym, ◌∙◌, ap, inl, inr, ⊎_elim, map, is_some}
 use Rattle.std.specs.Prelude.{unwrap_or}
 use Rattle.arj_protocol.specs.Words.{Uid, ObjectState}
 use Rattle.arj_protocol.specs.Commit as commit

@@ -1,5 +1,5 @@
 -- A Confirm that naming checks anew is booked, by its locks and the grants that the Confirm names.
-use Rattle.std.specs.Prelude.{◌≡◌, ◌⊎◌, ◌≤◌, ℕ, ◌+◌, [], ◌∷◌, true, Some}
+use Rattle.std.specs.Prelude.{◌≡◌, ◌⊎◌, ◌≤◌, ℕ, [], ◌∷◌, true}
 use Rattle.arj_protocol.specs.Words.{Path}
 use Rattle.arj_protocol.specs.Ask.{top_of}
 use Rattle.arj_protocol.specs.Confirm.{Grants, Marks, confirms, lock_all, wanted}
@@ -11,7 +11,7 @@ use Rattle.arj_disk_law.specs.Guards.{HasPart, IsNext}
 use Rattle.arj_disk_law.specs.Named.{Named}
 use Rattle.arj_disk_law.specs.Names.{Names, Office, Answer}
 use Rattle.arj_disk_law.specs.State.{State, undecided}
-use Rattle.arj_disk_law.specs.Words.{has, In}
+use Rattle.arj_disk_law.specs.Words.{In}
 use Rattle.arj_disk_view_law.specs.Confirming.{IsBooked, IsConfirmation, IsNewConfirm}
 use Rattle.arj_disk_view_law.specs.Entries.{SeesEntry}
 use Rattle.arj_disk_view_law.specs.Sees.{Kinds, ClaimsConfirm}

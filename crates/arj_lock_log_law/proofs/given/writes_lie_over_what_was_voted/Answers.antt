@@ -1,6 +1,6 @@
 use Rattle.arj_lock_log_law.proofs.Bases.{bases_stay}
 use Rattle.arj_lock_log_law.proofs.Homes.{counting_is_old}
-use Rattle.arj_lock_log_law.proofs.Overs.{confirms_are_over_the_last, writes_lie_over_votes}
+use Rattle.arj_lock_log_law.proofs.Overs.{confirms_are_over_the_last, writes_have_calls, writes_lie_over_votes}
 use Rattle.arj_lock_log_law.proofs.given.writes_lie_over_what_was_voted.Goals as goal
 
 pub returns-clause-stay : goal.returns-clause-stay
@@ -14,3 +14,6 @@ returns-clause-last c = confirms_are_over_the_last
 
 pub returns-clause-over : goal.returns-clause-over
 returns-clause-over c = writes_lie_over_votes
+
+pub returns-clause-calls : goal.returns-clause-calls
+returns-clause-calls c = writes_have_calls
