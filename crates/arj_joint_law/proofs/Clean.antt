@@ -6,7 +6,7 @@ use Rattle.arj_lock.proofs.Members.{In, in_find_none, in_from, in_to}
 use Rattle.arj_model.specs.Actions.{Act, acts}
 use Rattle.arj_model.specs.Calls.{Top, tops}
 use Rattle.arj_model.specs.Clean.{Clean, Disks}
-use Rattle.arj_model.specs.Last.{first_values, is_among, leaves_of, object_line}
+use Rattle.arj_model.specs.Last.{first_values, increasing, is_among, joins_of, leaves_of, object_line}
 use Rattle.arj_model.specs.Serial.{Values}
 use Rattle.arj_protocol.specs.Words.{Header, Line, ObjectLine}
 use Rattle.arj_protocol.specs.World.{Asked, World, format, journal, run_all}
@@ -31,7 +31,7 @@ use Rattle.arj_view_law.proofs.Happens.{runs_hold}
 use Rattle.arj_binding_law.specs.Scripts.{most_events}
 use Rattle.arj_disk_run_law.specs.Rest.{KeepsHeard}
 use Rattle.arj_serial_law.specs.Cleaned.{AreDecidedOrLate, HaveForm, IsCleanIn}
-use Rattle.arj_serial_law.specs.Decided.{AreDecisions, AreNewestFirst, DecideChanges, Wrote, WroteSo}
+use Rattle.arj_serial_law.specs.Decided.{AreDecisions, AreNewestFirst, DecideChanges, Joined, Wrote, WroteSo}
 use Rattle.arj_lock_fact_law.specs.Entries.{HasObject}
 use Rattle.arj_lock_whole_law.proofs.WholeRuns.{runs_call_objects, runs_include_objects}
 use Rattle.arj_part_law.specs.Actions.{Action}
@@ -141,6 +141,15 @@ of_filter d (e ∷ ds) i = by e.counts (of_filter d ds) i
     by true ih (inr k) = inr (ih k)
     by false ih k = inr (ih k)
 
+counts_in : (d : Done) (ds : List Done) → disk.In d (filter counts_of ds) → d.counts ≡ true
+counts_in d [] i = absurd i
+counts_in d (e ∷ ds) i = by e.counts refl (counts_in d ds) i
+  where
+    by : (b : Bool) → e.counts ≡ b → (disk.In d (filter counts_of ds) → d.counts ≡ true) → disk.In d (cond b (e ∷ filter counts_of ds) (filter counts_of ds)) → d.counts ≡ true
+    by true is ih (inl same) = ap counts_of (sym same) ∙ is
+    by true is ih (inr k) = ih k
+    by false is ih k = ih k
+
 in_behind : (d : Done) (xs ys : List Done) → disk.In d ys → disk.In d (xs ++ ys)
 in_behind d [] ys i = i
 in_behind d (x ∷ xs) ys i = inr (in_behind d xs ys i)
@@ -149,13 +158,17 @@ in_behind d (x ∷ xs) ys i = inr (in_behind d xs ys i)
 abbrev Leave : List Line → ℕ → List Done → Type 0
 Leave lines x ds = (d : Done) (t : Top) → disk.In d ds → Contains (tops lines) t → d.top ≡ number_of lines t → (s : ℕ) → (target d.plan s && not (d.got s)) ≡ is_among (leaves_of lines t.id x) s
 
-are_decisions : (values : Values) (lines : List Line) (x : ℕ) (ds : List Done) (ts : List Top) → AreNamed lines x ds ts → AreWritten values lines x ds → Leave lines x ds → AreDecisions values lines x ds ts
-are_decisions values lines x [] [] named wrote leave = tt
-are_decisions values lines x [] (t ∷ ts) named wrote leave = absurd named
-are_decisions values lines x (d ∷ ds) [] named wrote leave = absurd named
-are_decisions values lines x (d ∷ ds) (t ∷ ts) named wrote leave =
+-- and what they add to it is what survives of their includes, and wasn't excluded
+abbrev Join : List Line → ℕ → List Done → Type 0
+Join lines x ds = (d : Done) (t : Top) → disk.In d ds → Contains (tops lines) t → d.top ≡ number_of lines t → filter d.got (let p = d.plan in p.joins) ≡ increasing (filter (λ s. not (is_among (leaves_of lines t.id x) s)) (joins_of lines t.id x))
+
+are_decisions : (values : Values) (lines : List Line) (x : ℕ) (ds : List Done) (ts : List Top) → AreNamed lines ds ts → AreWritten values lines x ds → Leave lines x ds → Join lines x ds → AreDecisions values lines x ds ts
+are_decisions values lines x [] [] named wrote leave join = tt
+are_decisions values lines x [] (t ∷ ts) named wrote leave join = absurd named
+are_decisions values lines x (d ∷ ds) [] named wrote leave join = absurd named
+are_decisions values lines x (d ∷ ds) (t ∷ ts) named wrote leave join =
     let n = named.0 in
-    (record { listed = n.listed; number = n.number; wrote = wrote d t (inl refl) n.listed n.number; leaves = leave d t (inl refl) n.listed n.number; joins = n.joins }, are_decisions values lines x ds ts named.1 (λ e u i. wrote e u (inr i)) (λ e u i. leave e u (inr i)))
+    (record { listed = n.listed; number = n.number; wrote = wrote d t (inl refl) n.listed n.number; leaves = leave d t (inl refl) n.listed n.number; joins = join d t (inl refl) n.listed n.number }, are_decisions values lines x ds ts named.1 (λ e u i. wrote e u (inr i)) (λ e u i. leave e u (inr i)) (λ e u i. join e u (inr i)))
 
 -- a state of the disk machine in which decisions are those of the journal
 abbrev pub Held : Header → List Asked → Type 0
@@ -199,8 +212,16 @@ module _ (hd : Header) (es : List Asked) (form : HeaderInForm hd) (tied : AreLoc
         o.leaves e k.act (subst (disk.In e) (sym d.are) (in_behind e d.late d.others (of_filter e d.others i))) (in_to k.act (acts (journal hd es)) k.there) (sym (number ∙ number_is (first_values hd) (journal hd es) x z.0 right z.1 t k)) s
         ∙ ap (λ n. is_among (leaves_of (journal hd es) n x) s) k.number
 
+    join : Join (journal hd es) x (filter counts_of d.others)
+    join e t i listed number =
+        let k = top_item (journal hd es) right t (in_from t (tops (journal hd es)) listed) in
+        let z = tied.listed x there in
+        let o = h.holds in
+        o.joins e k.act (subst (disk.In e) (sym d.are) (in_behind e d.late d.others (of_filter e d.others i))) (in_to k.act (acts (journal hd es)) k.there) (sym (number ∙ number_is (first_values hd) (journal hd es) x z.0 right z.1 t k))
+        ∙ ap (λ n. increasing (filter (λ s. not (is_among (leaves_of (journal hd es) n x) s)) (joins_of (journal hd es) n x))) k.number
+
     decisions : AreDecisions (first_values hd) (journal hd es) x (filter counts_of d.others) its.those
-    decisions = are_decisions (first_values hd) (journal hd es) x (filter counts_of d.others) its.those its.each (λ e t i. written e t (of_filter e d.others i)) leave
+    decisions = are_decisions (first_values hd) (journal hd es) x (filter counts_of d.others) its.those its.each (λ e t i. written e t (of_filter e d.others i)) leave join
 
     -- each that wrote the object is one of them
     wrote_all : (t : Top) → In t (tops (journal hd es)) → Wrote (journal hd es) x t → In t its.those
@@ -251,13 +272,29 @@ module _ (hd : Header) (es : List Asked) (form : HeaderInForm hd) (tied : AreLoc
     wrote_so : (t : Top) → Contains its.those t → Wrote (journal hd es) x t ⊎ (Wrote (journal hd es) x t → ⊥)
     wrote_so t i = wrote_or_not (first_values hd) (journal hd es) x (filter counts_of d.others) its.those decisions t (in_from t its.those i)
 
+    -- one that counts and didn't write the object included a store of it
+    joined_one : (t : Top) → Contains its.those t → (Wrote (journal hd es) x t → ⊥) → Joined (journal hd es) x t
+    joined_one t i none =
+        let z = tied.listed x there in
+        let e = decision_of (first_values hd) (journal hd es) x z.0 right z.1 (filter counts_of d.others) its.those decisions t (in_from t its.those i) in
+        let q = e.2 in
+        let k = q.its in
+        let o = h.holds in
+        let gave = written e.0 t (of_filter e.0 d.others e.1) (in_to t (tops (journal hd es)) q.listed) (q.number ∙ sym (number_is (first_values hd) (journal hd es) x z.0 right z.1 t k)) in
+        let j = o.counted e.0 k.act (subst (disk.In e.0) (sym d.are) (in_behind e.0 d.late d.others (of_filter e.0 d.others e.1))) (in_to k.act (acts (journal hd es)) k.there) (sym q.number) (counts_in e.0 d.others e.1) (nothing (let p = (let f = e.0 in f.plan) in p.writes) gave) in
+        (j.0, subst (λ n. Contains (joins_of (journal hd es) n x) j.0) k.number j.1)
+      where
+        nothing : (w : Option Packed) → WroteSo (first_values hd) (journal hd es) x t w → w ≡ None
+        nothing None so = refl
+        nothing (Some g) (c, last, writer, content) = absurd (none (c, last.there, last.write, last.whose))
+
     changes : DecideChanges hd (journal hd es) x d.others
     changes = record {
       those = its.those;
       each = decisions;
       called = newest_first (journal hd es) x its.those wrote_so (let t = tied.listed x there in decided_writers_stand (first_values hd) (journal hd es) x t.0 right t.1 d.others its.those turns decisions (once_behind d.late d.others (subst AreOnce d.are (let o = h.holds in o.once)))) its.joiners;
       counts = is_one_of its.those;
-      counted = λ t i. (is_there t its.those (in_from t its.those i), ⊎_elim (λ wrote. inl wrote) (λ none. inr (its.changed t i none)) (wrote_so t i));
+      counted = λ t i. (is_there t its.those (in_from t its.those i), ⊎_elim (λ wrote. inl wrote) (λ none. inr (joined_one t i none)) (wrote_so t i));
       all = all;
       idle = its.idle;
     }

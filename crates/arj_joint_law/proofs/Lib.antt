@@ -34,3 +34,13 @@ pub mod JoinedRuns
 pub mod Writing
 pub mod Written
 pub mod Ending
+pub mod JoinPaths
+pub mod JoinLists
+pub mod JoinLines
+pub mod JoinModel
+pub mod JoinStates
+pub mod JoinHeard
+pub mod JoinStarts
+pub mod JoinMoves
+pub mod JoinRuns
+pub mod JoinCounts

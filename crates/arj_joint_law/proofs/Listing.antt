@@ -15,7 +15,7 @@ use Rattle.arj_line_law.proofs.Books.{or_which}
 use Rattle.arj_joint_law.specs.Shown.{AreThere, IncludesAreThere}
 use Rattle.arj_joint_law.proofs.Firsts.{form_of, line_in}
 
-in_among : (ns : List ℕ) (s : ℕ) → is_among ns s ≡ true → In s ns
+pub in_among : (ns : List ℕ) (s : ℕ) → is_among ns s ≡ true → In s ns
 in_among [] s on = absurd (cc on)
 in_among (m ∷ ns) s on = ⊎_elim (λ here. inl (eqb-true m s here)) (λ there. inr (in_among ns s there)) (or_which (m == s) (is_among ns s) on)
 

@@ -1,7 +1,8 @@
--- Of each decided top the journal says what it excluded, by the disk machine: each handler keeps it.
+-- Of each decided top the journal says what it excluded and what it included, by the disk machine: each handler keeps it.
 use Rattle.std.proofs.Common.{◌≡◌, ◌⊎◌, ◌||◌, ◌&&◌, ◌++◌, ◌∙◌, ◌+◌, ℕ, Bool, true, false, not, List, [], ◌∷◌, Option, Some, None, ap, inl, inr, refl, subst, sym, ⊎_elim}
 use Rattle.std.specs.Prelude.{is_some}
 use Rattle.std.proofs.lemmas.Slice.Eq.{bytes_eq-Decides}
+use Rattle.arj_base.specs.Rows.{is_on}
 use Rattle.arj_lock.proofs.Members as list
 use Rattle.arj_protocol.specs.Words.{Body, Header, Kind, Label, Line, Uid, first_uid, name, uids_of}
 use Rattle.arj_protocol.specs.Words.body
@@ -20,7 +21,8 @@ use Rattle.arj_part_law.proofs.Keys.{at_in}
 use Rattle.arj_disk_law.specs.Effects as machine
 use Rattle.arj_disk_law.specs.Effects.{World}
 use Rattle.arj_disk_law.specs.Names.{Office}
-use Rattle.arj_disk_law.specs.State.{decided, decided_in, is_sealed, target}
+use Rattle.arj_disk_law.specs.State.{Plan, decided, decided_in, is_sealed, target}
+use Rattle.arj_disk_law.specs.Words as disk_list
 use Rattle.arj_disk_law.proofs.Base.{never}
 use Rattle.arj_view_law.specs.Keeps.{Keeps}
 use Rattle.arj_view_law.specs.Seen.{Seen, at, down, given, posted, said, see, up}
@@ -40,22 +42,24 @@ use Rattle.arj_disk_view_law.proofs.HeardWalks.{preparing_of}
 use Rattle.arj_names_view_law.specs.Both.{OnlyAnswers, OnlyFound, SeesBoth}
 use Rattle.arj_names_view_law.specs.Handlers.{Change, Changes, Quietly, change_by}
 use Rattle.arj_disk_run_law.specs.Part.{KeepsPart, are_recorded}
-use Rattle.arj_disk_run_law.proofs.Decisions.{Goes, goes_along}
 use Rattle.arj_disk_run_law.proofs.RecordWalks.{restart_plain}
 use Rattle.arj_disk_line_law.proofs.Steps.{IsNear, IsStep, near_same, nothing_more, step_halted, step_walk}
-use Rattle.arj_disk_line_law.proofs.Tying.{goes_by}
 use Rattle.arj_line_law.specs.Book.{Book, book, book_from, new_book, turned}
 use Rattle.arj_line_law.specs.Knows.{IsKept}
 use Rattle.arj_line_law.specs.Right.{AreRight}
-use Rattle.arj_line_law.proofs.Books.{book_more}
+use Rattle.arj_line_law.proofs.Books.{book_more, later_from}
+use Rattle.arj_line_law.proofs.Closed.{Stands, stands_lines, stands_new}
 use Rattle.arj_line_law.proofs.Models.{named_in}
 use Rattle.arj_line_law.proofs.Runs.{lines_keep}
 use Rattle.arj_lock_whole_law.proofs.CalledSays.{restart_fine, tick_fine}
 use Rattle.arj_serial_law.proofs.Paths.{paths_stay}
 use Rattle.arj_model.specs.Actions.{Act, act_in, path, uids}
 use Rattle.arj_joint_law.specs.Joined.{IsRecordedAt}
+use Rattle.arj_joint_law.specs.Joins.{AreRising, FitsIncludes, IncludesAreSaid, has_included}
 use Rattle.arj_joint_law.specs.Marked.{MarksAreSaid, excludes, was_marked}
 use Rattle.arj_joint_law.specs.MarkedTops.{AreMarkedSo, IsMarkedSo}
+use Rattle.arj_joint_law.proofs.JoinCounts.{GoesOn, goes_on_along, goes_on_by}
+use Rattle.arj_joint_law.proofs.JoinLines.{included_from}
 use Rattle.arj_joint_law.proofs.MarkMoves.{IsMarking, NoMark, acts_stay, apart_none, said_in, unmarked_said}
 use Rattle.arj_joint_law.proofs.MarkRuns.{IsNamed, act_moved, marked_more, message_moved, named_at, no_left, no_right, or_false, same_marked}
 use Rattle.arj_joint_law.proofs.Recording.{AreRecordedBy, IsConfirming, acts_put, anyone, are_theirs, here_then, message_puts, others_then, plainly, recorded_at, records_walk, tick_puts}
@@ -65,6 +69,10 @@ use Rattle.arj_joint_law.proofs.Recording.{AreRecordedBy, IsConfirming, acts_put
 right_behind : (B : Book) (ls ks : List Line) → AreRight B (ls ++ ks) → AreRight (book_from B ls) ks
 right_behind B [] ks right = right
 right_behind B (l ∷ ls) ks right = right_behind (turned B l.body) ls ks right.1
+
+right_front : (B : Book) (ls ks : List Line) → AreRight B (ls ++ ks) → AreRight B ls
+right_front B [] ks right = tt
+right_front B (l ∷ ls) ks right = (right.0, right_front (turned B l.body) ls ks right.1)
 
 -- what was said of marks stays, but by these names
 abbrev MarkedFrom : (List ℕ → Type 0) → Seen → Seen → Type 0
@@ -94,8 +102,17 @@ marked_later x W V M N later step right u p same = record {
   uid = p.uid;
   marks = λ s. same s ∙ p.marks s ∙ (λ i. target (sym (later.plan (uid_number u) p.begun) i) s && not (sym (later.got (uid_number u) p.ended) i s));
   root = ap (λ (f : ℕ → ℕ). f (uid_number u)) later.root ∙ p.root ∙ ap (λ (q : List Act). uid_number (first_uid (uids q))) (sym stays);
+  called = ap (λ ls. is_on (let B = book ls in B.called) u) step.lines ∙ ap (λ (B : Book). is_on B.called u) (book_more new_book M.lines step.more) ∙ (let l = later_from (book M.lines) step.more in l.called u p.called);
+  rising = subst (λ (q : Plan). AreRising q.joins) (sym (later.plan (uid_number u) p.begun)) p.rising;
+  joins = λ s. ap (λ (q : Plan). order.has q.joins s) (later.plan (uid_number u) p.begun) ∙ p.joins s ∙ sym (ap (λ ls. has_included (book ls) u x s) step.lines ∙ ap (λ (B : Book). has_included B u x s) (book_more new_book M.lines step.more) ∙ included_from (book M.lines) step.more behind stands u p.called x s);
 }
   where
+    behind : AreRight (book M.lines) step.more
+    behind = right_behind new_book M.lines step.more (subst (AreRight new_book) step.lines right)
+
+    stands : Stands (book M.lines)
+    stands = stands_lines new_book M.lines (right_front new_book M.lines step.more (subst (AreRight new_book) step.lines right)) stands_new
+
     stays : path (book N.lines).acts p.act.label ≡ path (book M.lines).acts p.act.label
     stays = ap (λ ls. path (book ls).acts p.act.label) step.lines ∙ ap (λ (B : Book). path B.acts p.act.label) (book_more new_book M.lines step.more)
         ∙ (paths_stay (book M.lines) step.more p.act (right_behind new_book M.lines step.more (subst (AreRight new_book) step.lines right)) (named_in (book M.lines).acts p.act.label p.act p.named)).0
@@ -103,11 +120,11 @@ marked_later x W V M N later step right u p same = record {
 -- ---- a step
 
 module _ (x : ℕ) (C : Uid → Type 0) (who : List ℕ → Type 0) (W : World) (M : Seen) (before : AreMarkedSo x W M) (waiting : (u : Uid) → C u → IsMarkedSo x W M u) (apart : (u : Uid) (p : IsMarkedSo x W M u) → who p.act.label → ⊥) where
-  marked_then : (tops : Kinds) (V : World) (N : Seen) → Goes W V → SeesDisks x tops V N → AreRecordedBy C M N → IsStep M N → MarkedFrom who M N → AreRight new_book N.lines → AreMarkedSo x V N
-  marked_then tops V N goes sees recs step from right = record { decisions = decisions; records = records }
+  marked_then : (tops : Kinds) (V : World) (N : Seen) → GoesOn W V → SeesDisks x tops V N → AreRecordedBy C M N → IsStep M N → MarkedFrom who M N → AreRight new_book N.lines → AreMarkedSo x V N
+  marked_then tops V N goes sees recs step from right = record { decisions = decisions; records = records; joiners = goes.1 before.joiners }
     where
       later : (u : Uid) → IsMarkedSo x W M u → IsMarkedSo x V N u
-      later u p = marked_later x W V M N goes.1 step right u p (λ s. ⊎_elim (λ same. same) (λ its. absurd (apart u p its)) (from p.act.label x s))
+      later u p = marked_later x W V M N goes.0.1 step right u p (λ s. ⊎_elim (λ same. same) (λ its. absurd (apart u p its)) (from p.act.label x s))
 
       records : (u : Uid) → IsRecordedAt N u → IsMarkedSo x V N u
       records u r = later u (⊎_elim (λ (old : IsRecordedAt M u). before.records u old) (λ (new : C u). waiting u new) (recs u r))
@@ -116,7 +133,7 @@ module _ (x : ℕ) (C : Uid → Type 0) (who : List ℕ → Type 0) (W : World) 
       decisions u n here d = ⊎_elim
           (λ (old : decided W.disk (uid_number u) ≡ true). let had = step.nodes u.node n here in later u (before.decisions u had.0 had.1 old))
           (λ (some : is_some (V.disk.intent (uid_number u)) ≡ true). by some (at_uid u (let c = n.disk in c.intents)) refl)
-          (goes.0 (uid_number u) d)
+          (goes.0.0 (uid_number u) d)
         where
           by : is_some (V.disk.intent (uid_number u)) ≡ true → (o : Option Intent) → at_uid u (let c = n.disk in c.intents) ≡ o → IsMarkedSo x V N u
           by some None none = let r = sees.records u.node n here in absurd (never some (ap is_some (r.is u refl ∙ ap nodes_of none)))
@@ -135,8 +152,8 @@ module _ (x k : ℕ) (d : Disk) (t : Parts) (M : Seen) (tops : Kinds) (A : Offic
   its_name u q m found now = named_at (up k d t M) kept k (record { number = k; disk = d; live = Some t }) t u q m here refl found now
 
   -- a commit that waits for naming is so
-  marked_here : MarksAreSaid (up k d t M) → (u : Uid) → IsConfirming t.coord u → IsMarkedSo x A.world (up k d t M) u
-  marked_here marks u c = record {
+  marked_here : MarksAreSaid (up k d t M) → IncludesAreSaid (up k d t M) → (u : Uid) → IsConfirming t.coord u → IsMarkedSo x A.world (up k d t M) u
+  marked_here marks includes u c = record {
     begun = sees.begun;
     ended = ap is_sealed sees.stage;
     act = named.act;
@@ -144,8 +161,14 @@ module _ (x k : ℕ) (d : Disk) (t : Parts) (M : Seen) (tops : Kinds) (A : Offic
     uid = named.uid;
     marks = λ s. ap (λ l. was_marked M.lines l x s) label ∙ said_so x s ∙ sees.marks s ∙ by s (target (plan_at x c.plan) s) refl ∙ (λ i. target (sym sees.plan i) s && not (A.world.disk.got (uid_number u) s));
     root = ap (λ (f : ℕ → ℕ). f (uid_number u)) (let s = both.disks in let g = s.fixed in g.root) ∙ (let z = knows.coord in z.root u n.branch n.found n.top) ∙ ap (λ (us : List Uid). uid_number (first_uid us)) (sym its_path);
+    called = subst (λ w. is_on (let B = book M.lines in B.called) w ≡ true) its_uid its.2;
+    rising = subst (λ (q : Plan). AreRising q.joins) (sym sees.plan) (let l = its.3 in l.rising x);
+    joins = λ s. ap (λ (q : Plan). order.has q.joins s) sees.plan ∙ (let l = its.3 in l.same x s) ∙ ap (λ w. has_included (book M.lines) w x s) its_uid;
   }
     where
+      its : FitsIncludes (book M.lines) (name c.doing.label) (Confirming c.plan)
+      its = let z = includes k (record { number = k; disk = d; live = Some t }) t here refl in z.1 u c.doing (Confirming c.plan) c.works c.now
+
       n : KnowsMachine tops t.coord u (Confirming c.plan)
       n = let z = knows.coord in z.machines u c.doing (Confirming c.plan) c.works c.now
 
@@ -161,6 +184,11 @@ module _ (x k : ℕ) (d : Disk) (t : Parts) (M : Seen) (tops : Kinds) (A : Offic
           let j = w.nodes k (record { number = k; disk = d; live = Some t }) here in
           let z = (let l = j.live t refl in l.knows) in
           z.ties.paths named.act n.branch (list.in_to named.act (book M.lines).acts (named_in (book M.lines).acts (name c.doing.label) named.act named.named)) (ap (λ w. branch_of w t.coord.tree) named.uid ∙ n.found)
+
+      its_uid : (let a = its.0 in a.uid) ≡ u
+      its_uid =
+          let e : ◌≡◌ {A = Option Act} (Some its.0) (Some named.act) = sym its.1 ∙ named.named in
+          ap (λ (a : Act). a.uid) (let same : its.0 ≡ named.act = cc e in same) ∙ named.uid
 
       label : named.act.label ≡ name c.doing.label
       label = named_label (book M.lines).acts (name c.doing.label) named.act named.named
@@ -196,7 +224,7 @@ module _ (x k : ℕ) (d : Disk) (t : Parts) (M : Seen) (tops : Kinds) (A : Offic
 abbrev pub WithMarks : ℕ → (Kinds → Office → Seen → Type 0) → Kinds → Office → Seen → Type 0
 WithMarks x P tops A M = P tops A M × AreMarkedSo x A.world M
 
-module _ (hd : Header) (x : ℕ) (K L : Seen → Type 0) (P : Kinds → Office → Seen → Type 0) (to : (M : Seen) → L M → K M) (known : (M : Seen) → L M → IsKept M × MarksAreSaid M) (parts : KeepsPart hd x (λ W M. K M) P) where
+module _ (hd : Header) (x : ℕ) (K L : Seen → Type 0) (P : Kinds → Office → Seen → Type 0) (to : (M : Seen) → L M → K M) (known : (M : Seen) → L M → IsKept M × MarksAreSaid M × IncludesAreSaid M) (parts : KeepsPart hd x (λ W M. K M) P) where
   abbrev Q : Kinds → Office → Seen → Type 0
   Q tops A M = WithMarks x P tops A M
 
@@ -206,7 +234,7 @@ module _ (hd : Header) (x : ℕ) (K L : Seen → Type 0) (P : Kinds → Office �
   lines : Keeps hd IsKept
   lines = lines_keep hd
 
-  module _ (tops : Kinds) (D : Office → Type 0) (C : Uid → Type 0) (who : List ℕ → Type 0) (W : World) (M : Seen) (goes : (B : Office) → D B → Goes W B.world) (before : AreMarkedSo x W M) (waiting : (u : Uid) → C u → IsMarkedSo x W M u) (apart : (u : Uid) (p : IsMarkedSo x W M u) → who p.act.label → ⊥) where
+  module _ (tops : Kinds) (D : Office → Type 0) (C : Uid → Type 0) (who : List ℕ → Type 0) (W : World) (M : Seen) (goes : (B : Office) → D B → GoesOn W B.world) (before : AreMarkedSo x W M) (waiting : (u : Uid) → C u → IsMarkedSo x W M u) (apart : (u : Uid) (p : IsMarkedSo x W M u) → who p.act.label → ⊥) where
     marks_next : (Z : Seen) → IsKept Z → AreRecordedBy C M Z → IsStep M Z → MarkedFrom who M Z → (B : Office) → D B → SeesBoth x tops B Z → AreMarkedSo x B.world Z
     marks_next Z kept recs step from B c seen = marked_then x C who W M before waiting apart tops B.world Z (goes B c) seen.disks recs step from (let w = kept.1 in w.right)
 
@@ -226,8 +254,8 @@ module _ (hd : Header) (x : ℕ) (K L : Seen → Type 0) (P : Kinds → Office �
   abbrev nobody : List ℕ → Type 0
   nobody l = ⊥
 
-  goes_from : (o : Change) (A B : Office) → OnlyAnswers A B → machine.Whole A.world → (Z : Office) → Changes o B Z → Goes A.world Z.world
-  goes_from o A B only whole Z c = (let same = only.world in subst (λ W. Goes W Z.world) same (goes_by o B Z (subst machine.Whole (sym same) whole) c))
+  goes_from : (o : Change) (A B : Office) → OnlyAnswers A B → machine.Whole A.world → (Z : Office) → Changes o B Z → GoesOn A.world Z.world
+  goes_from o A B only whole Z c = (let same = only.world in subst (λ W. GoesOn W Z.world) same (goes_on_by o B Z (subst machine.Whole (sym same) whole) c))
 
   moved_base : (c : Coord) (outs : List Effect) (M : Seen) → ((l : List ℕ) (y s : ℕ) → (said_in outs l y s ≡ false) ⊎ IsMarking c l) → (l : List ℕ) (y s : ℕ) → ((was_marked M.lines l y s ≡ was_marked M.lines l y s) × (said_in outs l y s ≡ false)) ⊎ IsMarking c l
   moved_base c outs M whose l y s = ⊎_elim (λ off. inl (refl, off)) (λ on. inr on) (whose l y s)
@@ -236,12 +264,12 @@ module _ (hd : Header) (x : ℕ) (K L : Seen → Type 0) (P : Kinds → Office �
   marks_part = record {
     quiet = λ tops e bs M A walk quiet r both (part, marks) B changed seen. (
       parts.quiet tops e bs M A walk quiet (to M r) both part B changed seen,
-      marks_next tops (Changes Quietly A) none nobody A.world M (λ Z c. goes_by Quietly A Z (let z = both.disks in z.whole) c) marks (λ u off. absurd off) (λ u p off. off) (said e bs M) (lines.quiet e bs M quiet (known M r).0)
+      marks_next tops (Changes Quietly A) none nobody A.world M (λ Z c. goes_on_by Quietly A Z (let z = both.disks in z.whole) c) marks (λ u off. absurd off) (λ u p off. off) (said e bs M) (lines.quiet e bs M quiet (known M r).0)
           (λ u c. inl (record { place = c.place; node = c.node; intent = c.intent; here = c.here; there = c.there })) (quiet_step e bs M) (λ l y s. inl (same_marked e bs M.lines quiet l y s)) B changed seen,
     );
     stop = λ tops e k d live M A walk r both (part, marks) B changed seen. (
       parts.stop tops e k d live M A walk (to (at k d live M) r) both part B changed seen,
-      marks_next tops (Changes Quietly A) none nobody A.world (at k d live M) (λ Z c. goes_by Quietly A Z (let z = both.disks in z.whole) c) marks (λ u off. absurd off) (λ u p off. off) (halted e k d M) (lines.stop e k d live M (known (at k d live M) r).0)
+      marks_next tops (Changes Quietly A) none nobody A.world (at k d live M) (λ Z c. goes_on_by Quietly A Z (let z = both.disks in z.whole) c) marks (λ u off. absurd off) (λ u p off. off) (halted e k d M) (lines.stop e k d live M (known (at k d live M) r).0)
           (recorded_at none (at k d live M) k d None M (halted e k d M) (λ i. refl) (others_then none k d live M) (here_then none k d live M)) (step_halted k d live M e d M (near_same M) (λ down. refl))
           (λ l y s. inl (marked_more M.lines (numbered e (body.Halted k ∷ [])) l y s ∙ or_false (was_marked M.lines l y s))) B changed seen,
     );
@@ -255,7 +283,7 @@ module _ (hd : Header) (x : ℕ) (K L : Seen → Type 0) (P : Kinds → Office �
             office = h.office;
             only = h.only;
             both = h.both;
-            along = along tops (Changes o h.office) C (IsMarking t.coord) A.world (up k d t M) (goes_from o A h.office h.only (let z = both.disks in z.whole)) marks (marked_here x k d t M tops A n both g.0 g.1) (apart_here x k d t M tops A n both g.0) e k outs v d M h.along
+            along = along tops (Changes o h.office) C (IsMarking t.coord) A.world (up k d t M) (goes_from o A h.office h.only (let z = both.disks in z.whole)) marks (marked_here x k d t M tops A n both g.0 g.1 g.2) (apart_here x k d t M tops A n both g.0) e k outs v d M h.along
                 (lines.message e k d t v from m outs M g.0 sent meant is) (records_walk C (up k d t M) k anyone e v outs d M (others_then C k d (Some t) M) (message_puts anyone k d t (are_theirs tops k d t M n) from m v outs is (λ u same. tt)) (here_then C k d (Some t) M)) (step_walk k d (Some t) M e v outs d M (near_same M) (was_up t) (was_up t))
                 (from_walk (IsMarking t.coord) (up k d t M) e k v outs d M (moved_base t.coord outs M (let w = message_moved e k d t M g.0 g.1 v from m outs is in w.whose)));
           },
@@ -272,7 +300,7 @@ module _ (hd : Header) (x : ℕ) (K L : Seen → Type 0) (P : Kinds → Office �
             office = h.office;
             only = h.only;
             both = h.both;
-            along = along tops (Changes Quietly h.office) C (IsMarking t.coord) A.world (up k d t M) (goes_from Quietly A h.office h.only (let z = both.disks in z.whole)) marks (marked_here x k d t M tops A n both g.0 g.1) (apart_here x k d t M tops A n both g.0) e k did.outs (with_coord t did.part) d M h.along
+            along = along tops (Changes Quietly h.office) C (IsMarking t.coord) A.world (up k d t M) (goes_from Quietly A h.office h.only (let z = both.disks in z.whole)) marks (marked_here x k d t M tops A n both g.0 g.1 g.2) (apart_here x k d t M tops A n both g.0) e k did.outs (with_coord t did.part) d M h.along
                 (lines.act e k d t i M is free g.0) (records_walk C (up k d t M) k anyone e (with_coord t did.part) did.outs d M (others_then C k d (Some t) M) (acts_put anyone t.coord (are_theirs tops k d t M n) d.intents i) (here_then C k d (Some t) M)) (step_walk k d (Some t) M e (with_coord t did.part) did.outs d M (near_same M) (was_up t) (was_up t))
                 (from_walk (IsMarking t.coord) (up k d t M) e k (with_coord t did.part) did.outs d M (moved_base t.coord did.outs M (let w = act_moved e k d t M g.0 g.1 hd i is free in w.whose)));
           },
@@ -281,7 +309,7 @@ module _ (hd : Header) (x : ℕ) (K L : Seen → Type 0) (P : Kinds → Office �
     begin = λ tops e k d t l how parent M A walk n r new may free kind both (part, marks).
         let did = begin_action l how parent (parent_of parent t.coord) t.coord in
         let N : Seen = given l (record { node = k; serial = is_serial_kind how }) M in
-        along tops (Changes Quietly A) none nobody A.world (up k d t M) (λ B c. goes_by Quietly A B (let z = both.disks in z.whole) c) marks (λ u off. absurd off) (λ u p off. off) e k did.outs (with_coord t did.part) d N
+        along tops (Changes Quietly A) none nobody A.world (up k d t M) (λ B c. goes_on_by Quietly A B (let z = both.disks in z.whole) c) marks (λ u off. absurd off) (λ u p off. off) e k did.outs (with_coord t did.part) d N
         (parts.begin tops e k d t l how parent M A walk n (to (up k d t M) r) new may free kind both part) (lines.begin e k d t l how parent M new may free (known (up k d t M) r).0)
         (records_walk none (up k d t M) k anyone e (with_coord t did.part) did.outs d N (others_then none k d (Some t) M) (tt, tt) (here_then none k d (Some t) M)) (step_walk k d (Some t) M e (with_coord t did.part) did.outs d N (given_near l how k M) (was_up t) (was_up t))
         (from_walk nobody (up k d t M) e k (with_coord t did.part) did.outs d N (λ y z s. inl (refl, refl)));
@@ -290,14 +318,14 @@ module _ (hd : Header) (x : ℕ) (K L : Seen → Type 0) (P : Kinds → Office �
         let v = with_coord t (let z = again_all t.coord.doings t.coord in z.part) in
         let g = known (up k d t M) r in
         let C : Uid → Type 0 = λ u. IsConfirming t.coord u in
-        along tops (Changes Quietly A) C nobody A.world (up k d t M) (λ B c. goes_by Quietly A B (let z = both.disks in z.whole) c) marks (marked_here x k d t M tops A n both g.0 g.1) (λ u p off. off) e k outs v d M
+        along tops (Changes Quietly A) C nobody A.world (up k d t M) (λ B c. goes_on_by Quietly A B (let z = both.disks in z.whole) c) marks (marked_here x k d t M tops A n both g.0 g.1 g.2) (λ u p off. off) e k outs v d M
         (parts.tick tops e k d t M A walk n (to (up k d t M) r) both part) (lines.tick e k d t M g.0)
         (records_walk C (up k d t M) k anyone e v outs d M (others_then C k d (Some t) M) (tick_puts anyone k d t (are_theirs tops k d t M n)) (here_then C k d (Some t) M)) (step_walk k d (Some t) M e v outs d M (near_same M) (was_up t) (was_up t))
         (from_walk nobody (up k d t M) e k v outs d M (λ l y s. inl (refl, unmarked_said outs (tick_fine NoMark apart_none (record { number = k; disk = d; live = Some t }) t) l y s)));
     restart = λ tops e k d M A walk r both (part, marks).
         let outs = restart_outs hd k (d.inc + 1) d in
         let v = parts_in k (d.inc + 1) d in
-        along tops (OnlyFound (are_recorded d.intents) A) none nobody A.world (down k d M) (λ B c. goes_along (are_recorded d.intents) A.world B.world (let z = both.disks in z.whole) c.along) marks (λ u off. absurd off) (λ u p off. off) e k outs v d M
+        along tops (OnlyFound (are_recorded d.intents) A) none nobody A.world (down k d M) (λ B c. goes_on_along (are_recorded d.intents) A.world B.world (let z = both.disks in z.whole) c.along) marks (λ u off. absurd off) (λ u p off. off) e k outs v d M
         (parts.restart tops e k d M A walk (to (down k d M) r) both part) (lines.restart e k d M (known (down k d M) r).0)
         (records_walk none (down k d M) k anyone e v outs d M (others_then none k d None M) (plainly none anyone outs (restart_plain [] hd k d)) (here_then none k d None M)) (step_walk k d None M e v outs d M (near_same M) (λ down. restart_plain [] hd k d) (λ down. refl))
         (from_walk nobody (down k d M) e k v outs d M (λ l y s. inl (refl, unmarked_said outs (restart_fine NoMark apart_none hd k (d.inc + 1) d) l y s)));
@@ -316,5 +344,6 @@ module _ (hd : Header) (x : ℕ) (K L : Seen → Type 0) (P : Kinds → Office �
       nothing_yet : (A : Office) → (let W = A.world in let D = W.disk in D.tops) ≡ [] → AreMarkedSo x A.world (see [] (format hd))
       nothing_yet A empty = record {
         decisions = λ u n here d. absurd (never d (ap (λ ds. decided_in ds (uid_number u)) empty));
+        joiners = λ d i. absurd (subst (disk_list.In d) empty i);
         records = λ u r. absurd (subst (λ (n : Node). list.In {X = Uid × Intent} (u, r.intent) (let c = n.disk in c.intents)) (sym (first_at hd r.place r.node r.here)) r.there);
       }

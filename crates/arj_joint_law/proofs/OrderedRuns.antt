@@ -1,15 +1,16 @@
 -- The order in which an object's machine decides tops, in every run.
-use Rattle.std.proofs.Common.{◌≡◌, ◌⊎◌, ℕ, List, [], ◌∷◌, true, ◌∙◌, ap, subst, inl, inr, is_some, length, not, sym, ◌&&◌}
+use Rattle.std.proofs.Common.{◌≡◌, ◌⊎◌, ℕ, List, [], ◌∷◌, true, ◌∙◌, ap, subst, inl, inr, is_some, length, not, sym, ◌&&◌, ◌||◌, Bool, false, filter, None, refl}
 use Rattle.std.specs.Prelude.{◌≤◌, Contains}
 use Rattle.arj_journal.specs.ScriptForm.{HeaderInForm}
-use Rattle.arj_lock.proofs.Members.{In, in_from}
+use Rattle.arj_lock.proofs.Members.{In, in_from, in_to}
 use Rattle.arj_model.specs.Actions.{Act, acts as acts_of, path, uids}
-use Rattle.arj_model.specs.Last.{object_line}
+use Rattle.arj_model.specs.Last.{increasing, is_among, joins_of, leaves_of, object_line}
 use Rattle.arj_protocol.specs.Words.{Header, Line, Uid, first_uid}
 use Rattle.arj_protocol.specs.World.{Asked, format, run_all}
 use Rattle.arj_disk_law.specs.Effects as machine
 use Rattle.arj_disk_law.specs.Names.{Office}
-use Rattle.arj_disk_law.specs.State.{Done, decided_in, target}
+use Rattle.arj_disk_law.specs.State.{Done, Plan, decided_in, target}
+use Rattle.arj_disk_law.specs.Words as disk_list
 use Rattle.arj_disk_law.proofs.Base.{never}
 use Rattle.arj_disk_law.proofs.History.{in_decided}
 use Rattle.arj_view_law.specs.Keeps.{Holds, Keeps}
@@ -38,20 +39,24 @@ use Rattle.arj_disk_line_law.proofs.IdleKnown.{KnowsIdle, knows_idle}
 use Rattle.arj_disk_line_law.proofs.Tying.{both_too, journalled_beside, one_act, tied_part}
 use Rattle.arj_serial_law.specs.Cleaned.{BeginsSo}
 use Rattle.arj_disk_run_law.specs.Decided.{AreCalled, AreOnce}
-use Rattle.arj_joint_law.specs.Ordered.{AreLeftOf, AreRootedSo, AreTurns, AreTurnsOf, IsCalledFirst, IsOrderedSo, RunsAreOrdered, RunsAreOrderedBeside}
+use Rattle.arj_joint_law.specs.Ordered.{AreCountedOf, AreJoinedOf, AreLeftOf, AreRootedSo, AreTurns, AreTurnsOf, IsCalledFirst, IsOrderedSo, RunsAreOrdered, RunsAreOrderedBeside}
 use Rattle.arj_joint_law.proofs.Beginning.{WithFirst, first_begins, first_part}
 use Rattle.arj_joint_law.proofs.Firsts.{line_there}
 use Rattle.arj_joint_law.proofs.Ordering.{ordered_part}
 use Rattle.arj_joint_law.proofs.Turns.{IdleThere}
 use Rattle.arj_joint_law.specs.Joined.{world_of}
+use Rattle.arj_joint_law.specs.Joins.{AreRising, IncludesAreSaid}
 use Rattle.arj_joint_law.specs.Marked.{MarksAreSaid, was_marked}
 use Rattle.arj_joint_law.specs.MarkedTops.{AreMarkedSo, IsMarkedSo}
 use Rattle.arj_line_law.proofs.Models.{its_acts, named_in}
-use Rattle.arj_call_law.proofs.Given.{keeps_given, kept_both}
+use Rattle.arj_call_law.proofs.Given.{given_more, keeps_given, kept_both}
 use Rattle.arj_protocol.specs.Order.{uid_number}
-use Rattle.arj_line_law.specs.Whose.{IsOfNode}
 use Rattle.arj_line_law.proofs.Owners.{have_nodes}
+use Rattle.arj_joint_law.proofs.JoinLists.{filtered_same, has_is}
+use Rattle.arj_joint_law.proofs.JoinModel.{joined}
 use Rattle.arj_joint_law.proofs.Leaving.{left}
+use Rattle.arj_joint_law.proofs.Listing.{in_among}
+use Rattle.arj_joint_law.proofs.JoinRuns.{IsBased, based_keep, joins_given}
 use Rattle.arj_joint_law.proofs.MarkRuns.{marks_given}
 use Rattle.arj_joint_law.proofs.MarkTies.{WithMarks, marks_part}
 
@@ -75,44 +80,72 @@ turns_of lines right (d ∷ ds) turns = (λ e a b i in_a in_b ea db top apart. b
 abbrev pub IsOrderedBeside : (Kinds → Office → Seen → Type 0) → Header → ℕ → Seen → Type 0
 IsOrderedBeside P hd x M = (o : IsOrderedSo hd x M) × (tops : Kinds) × (A : Office) × (A.world ≡ world_of o) × P tops A M × KnowsFew M
 
--- what decided tops excluded, in the words of the model
+-- what decided tops excluded and included, in the words of the model
 module _ (hd : Header) (x : ℕ) (es : List Asked) (sent : List Post) (W : machine.World) (right : AreRight new_book (run_all es (format hd)).lines) (whole : machine.Whole W) (marks : AreMarkedSo x W (see sent (run_all es (format hd)))) where
   abbrev lines : List Line
   lines = (run_all es (format hd)).lines
 
+  -- one of them, by the machine and by the journal
+  module _ (d : Done) (a : Act) (i : disk_list.In d W.disk.tops) (there : Contains (acts_of lines) a) (number : uid_number a.uid ≡ d.top) where
+    marked : IsMarkedSo x W (see sent (run_all es (format hd))) a.uid
+    marked = let node = have_nodes hd es a there in marks.decisions a.uid node.node node.there (ap (decided_in W.disk.tops) number ∙ in_decided W.disk.tops d i)
+
+    its_plan : d.plan ≡ W.disk.plan (uid_number a.uid)
+    its_plan = (let c = whole.core in let j = c.journal in j.plan d i) ∙ ap W.disk.plan (sym number)
+
+    its_got : d.got ≡ W.disk.got (uid_number a.uid)
+    its_got = (let c = whole.core in let j = c.journal in j.got d i) ∙ ap W.disk.got (sym number)
+
+    same_act : marked.act ≡ a
+    same_act = one_act (acts_of lines) (let z : IsSound lines = is_sound lines right in z.distinct) marked.act a (subst (In marked.act) (its_acts lines right) (named_in (book lines).acts (let b = marked.act in b.label) marked.act marked.named)) (in_from a (acts_of lines) there) marked.uid
+
+    leaves_here : (s : ℕ) → (target d.plan s && not (d.got s)) ≡ is_among (leaves_of lines a.id x) s
+    leaves_here s = (λ j. target (its_plan j) s && not (its_got j s)) ∙ sym (marked.marks s) ∙ ap (λ (y : Act). was_marked lines y.label x s) same_act ∙ left lines right x a (in_from a (acts_of lines) there) s
+
+    same_joins : (s : ℕ) → is_among (let p = d.plan in p.joins) s ≡ is_among (joins_of lines a.id x) s
+    same_joins s = ap (λ (p : Plan). is_among p.joins s) its_plan ∙ marked.joins s ∙ joined lines right x a (in_from a (acts_of lines) there) s
+
+    got_so : (s : ℕ) → is_among (let p = d.plan in p.joins) s ≡ true → d.got s ≡ not (is_among (leaves_of lines a.id x) s)
+    got_so s on = by (target d.plan s) (d.got s) (or_right _ (disk_list.has s (let p = d.plan in p.joins)) (has_is s (let p = d.plan in p.joins) ∙ on)) (leaves_here s)
+      where
+        or_right : (b c : Bool) → c ≡ true → (b || c) ≡ true
+        or_right true c is = refl
+        or_right false c is = is
+
+        by : (b c : Bool) → b ≡ true → (b && not c) ≡ is_among (leaves_of lines a.id x) s → c ≡ not (is_among (leaves_of lines a.id x) s)
+        by true true on is = ap not is
+        by true false on is = ap not is
+        by false c on is = absurd (cc on)
+
+    joins_here : filter d.got (let p = d.plan in p.joins) ≡ increasing (filter (λ s. not (is_among (leaves_of lines a.id x) s)) (joins_of lines a.id x))
+    joins_here = filtered_same d.got (λ s. not (is_among (leaves_of lines a.id x) s)) (let p = d.plan in p.joins) (joins_of lines a.id x) (subst (λ (p : Plan). AreRising p.joins) (sym its_plan) marked.rising) same_joins got_so
+
+    counted_here : d.counts ≡ true → (let p = d.plan in p.writes) ≡ None → (s : ℕ) × Contains (joins_of lines a.id x) s
+    counted_here counts plain =
+        let j = marks.joiners d i counts plain in
+        (j.0, in_to j.0 (joins_of lines a.id x) (in_among (joins_of lines a.id x) j.0 (sym (same_joins j.0) ∙ sym (has_is j.0 (let p = d.plan in p.joins)) ∙ j.1)))
+
   roots_all : AreRootedSo lines W.disk.root W.disk.tops
-  roots_all d a i there number = ap W.disk.root (sym number) ∙ its.root ∙ ap (λ (us : List Act). uid_number (first_uid (uids (path us its.act.label)))) (its_acts lines right) ∙ ap (λ (y : Act). uid_number (first_uid (uids (path (acts_of lines) y.label)))) same
-    where
-      node : IsOfNode (run_all es (format hd)) a
-      node = have_nodes hd es a there
-
-      its : IsMarkedSo x W (see sent (run_all es (format hd))) a.uid
-      its = marks.decisions a.uid node.node node.there (ap (decided_in W.disk.tops) number ∙ in_decided W.disk.tops d i)
-
-      same : its.act ≡ a
-      same = one_act (acts_of lines) (let z : IsSound lines = is_sound lines right in z.distinct) its.act a (subst (In its.act) (its_acts lines right) (named_in (book lines).acts its.act.label its.act its.named)) (in_from a (acts_of lines) there) its.uid
+  roots_all d a i there number =
+      let its = marked d a i there number in
+      ap W.disk.root (sym number) ∙ its.root ∙ ap (λ (us : List Act). uid_number (first_uid (uids (path us its.act.label)))) (its_acts lines right) ∙ ap (λ (y : Act). uid_number (first_uid (uids (path (acts_of lines) y.label)))) (same_act d a i there number)
 
   leaves_all : AreLeftOf lines x W.disk.tops
-  leaves_all d a i there number s = (λ j. target (plan j) s && not (got j s)) ∙ sym (its.marks s) ∙ ap (λ (y : Act). was_marked lines y.label x s) same ∙ left lines right x a (in_from a (acts_of lines) there) s
-    where
-      node : IsOfNode (run_all es (format hd)) a
-      node = have_nodes hd es a there
+  leaves_all d a i there number s = leaves_here d a i there number s
 
-      its : IsMarkedSo x W (see sent (run_all es (format hd))) a.uid
-      its = marks.decisions a.uid node.node node.there (ap (decided_in W.disk.tops) number ∙ in_decided W.disk.tops d i)
+  joins_all : AreJoinedOf lines x W.disk.tops
+  joins_all d a i there number = joins_here d a i there number
 
-      same : its.act ≡ a
-      same = one_act (acts_of lines) (let z : IsSound lines = is_sound lines right in z.distinct) its.act a (subst (In its.act) (its_acts lines right) (named_in (book lines).acts its.act.label its.act its.named)) (in_from a (acts_of lines) there) its.uid
+  counted_all : AreCountedOf lines x W.disk.tops
+  counted_all d a i there number counts plain = counted_here d a i there number counts plain
 
-      plan : d.plan ≡ W.disk.plan (uid_number a.uid)
-      plan = (let c = whole.core in let j = c.journal in j.plan d i) ∙ ap W.disk.plan (sym number)
-
-      got : d.got ≡ W.disk.got (uid_number a.uid)
-      got = (let c = whole.core in let j = c.journal in j.got d i) ∙ ap W.disk.got (sym number)
+-- what commits under way include is known beside the journal
+abbrev Including : Seen → Type 0
+Including M = IsBased M × IncludesAreSaid M
 
 -- what is said of the exclusions of commits under way is known too
 abbrev Marking : (Seen → Type 0) → Seen → Type 0
-Marking R M = R M × (IsKept M × MarksAreSaid M)
+Marking R M = R M × (Including M × MarksAreSaid M)
 
 pub ordered_beside : (hd : Header) (x : ℕ) (R : Seen → Type 0) (P : Kinds → Office → Seen → Type 0) → HeaderInForm hd → is_some (object_line hd x) ≡ true → Keeps hd R → KeepsPart hd x (λ W M. R M × KnowsScript M) P → (es : List Asked) → length es ≤ most_events → Holds hd (IsOrderedBeside P hd x) (run_all es (format hd))
 ordered_beside hd x R P form there kept parts es short =
@@ -136,6 +169,8 @@ ordered_beside hd x R P form there kept parts es short =
           turns = subst (λ (W : machine.World). AreTurnsOf (run_all es (format hd)).lines W.disk.tops) b.2 (turns_of (run_all es (format hd)).lines right (let A = b.1 in A.world.disk.tops) order.turns);
           roots = (let j = b.0 in roots_all hd x es h.sent j.machine right (let s = j.sees in s.whole) (subst (λ (W : machine.World). AreMarkedSo x W (see h.sent (run_all es (format hd)))) b.2 more.1));
           leaves = (let j = b.0 in leaves_all hd x es h.sent j.machine right (let s = j.sees in s.whole) (subst (λ (W : machine.World). AreMarkedSo x W (see h.sent (run_all es (format hd)))) b.2 more.1));
+          joins = (let j = b.0 in joins_all hd x es h.sent j.machine right (let s = j.sees in s.whole) (subst (λ (W : machine.World). AreMarkedSo x W (see h.sent (run_all es (format hd)))) b.2 more.1));
+          counted = (let j = b.0 in counted_all hd x es h.sent j.machine right (let s = j.sees in s.whole) (subst (λ (W : machine.World). AreMarkedSo x W (see h.sent (run_all es (format hd)))) b.2 more.1));
         },
         (let j = b.0 in j.tops),
         b.1,
@@ -146,10 +181,10 @@ ordered_beside hd x R P form there kept parts es short =
     }
   where
     marking : Keeps hd (Marking R)
-    marking = kept_both hd R (λ M. IsKept M × MarksAreSaid M) kept (keeps_given hd R (λ M. IsKept M × MarksAreSaid M) (kept_both hd IsKept MarksAreSaid (lines_keep hd) (marks_given hd)))
+    marking = kept_both hd R (λ M. Including M × MarksAreSaid M) kept (keeps_given hd R (λ M. Including M × MarksAreSaid M) (kept_both hd Including MarksAreSaid (kept_both hd IsBased IncludesAreSaid (based_keep hd) (joins_given hd)) (given_more hd IsKept Including MarksAreSaid (λ M r. r.0.0) (marks_given hd))))
 
     marks : KeepsPart hd x (λ W M. Marking R M × KnowsScript M) (WithMarks x P)
-    marks = marks_part hd x (λ M. R M × KnowsScript M) (λ M. Marking R M × KnowsScript M) P (λ M r. (r.0.0, r.1)) (λ M r. r.0.1) parts
+    marks = marks_part hd x (λ M. R M × KnowsScript M) (λ M. Marking R M × KnowsScript M) P (λ M r. (r.0.0, r.1)) (λ M r. let z = r.0.1 in (z.0.0.0, z.1, z.0.1)) parts
 
 ordered : (hd : Header) (x : ℕ) (P : Kinds → Office → Seen → Type 0) (es : List Asked) → Holds hd (IsOrderedBeside P hd x) (run_all es (format hd)) → Holds hd (IsOrderedSo hd x) (run_all es (format hd))
 ordered hd x P es h = record { sent = h.sent; stands = h.stands; holds = (let z = h.holds in z.0) }

@@ -1,11 +1,11 @@
 -- Runs whose files are clean, by both machines of each object, with what these are still asked for.
-use Rattle.std.specs.Prelude.{⊤, ◌≡◌, ◌<◌, ◌≤◌, ◌++◌, ◌==◌, not, ℕ, Bool, true, List, [], ◌∷◌, None, Some, filter, is_some, length, Contains}
+use Rattle.std.specs.Prelude.{⊤, ◌≡◌, ◌<◌, ◌≤◌, ◌++◌, ◌==◌, ℕ, Bool, true, List, [], ◌∷◌, None, Some, filter, is_some, length, Contains}
 use Rattle.std.specs.List.{list_any}
 use Rattle.arj_journal.specs.ScriptForm.{HeaderInForm}
 use Rattle.arj_model.specs.Actions.{acts}
 use Rattle.arj_model.specs.Calls.{Top, tops}
 use Rattle.arj_model.specs.Clean.{Clean, Disks}
-use Rattle.arj_model.specs.Last.{first_values, increasing, is_among, joins_of, leaves_of, object_line, serial_tops, uid_of_id}
+use Rattle.arj_model.specs.Last.{first_values, object_line, serial_tops, uid_of_id}
 use Rattle.arj_protocol.specs.Order.{uid_number}
 use Rattle.arj_protocol.specs.Words.{Header, Line}
 use Rattle.arj_protocol.specs.World.{Asked, format, journal, run_all}
@@ -19,7 +19,7 @@ use Rattle.arj_binding_law.specs.Scripts.{most_events}
 use Rattle.arj_disk_run_law.specs.Rest.{KeepsHeard}
 use Rattle.arj_lock_law.specs.State as lock
 use Rattle.arj_part_law.specs.Actions.{Action}
-use Rattle.arj_serial_law.specs.Decided.{Joined, Wrote}
+use Rattle.arj_serial_law.specs.Decided.{Wrote}
 use Rattle.arj_serial_law.specs.Tied.{AreTied, IsTied}
 use Rattle.arj_joint_law.specs.Joined.{AreBareSo, AreRestBeside, AreWritten, KeepsHeardJoined}
 use Rattle.arj_joint_law.specs.Ordered.{IsOrderedSo}
@@ -38,27 +38,23 @@ is_one_of ts t = list_any (λ (u : Top). u.id == t.id) ts
 abbrev pub number_of : List Line → Top → ℕ
 number_of lines t = uid_number (uid_of_id (acts lines) t.id)
 
--- A decided top of the machine is this one of the journal, and adds to the list the stores of its surviving includes: as `IsDecision` of `arj_serial_law`
--- has it, but for what it wrote and what it takes out of the list.
-pub record IsNamed (lines : List Line) (x : ℕ) (d : Done) (t : Top) : Type 0 where
+-- a decided top of the machine is this one of the journal
+pub record IsNamed (lines : List Line) (d : Done) (t : Top) : Type 0 where
   pub listed : Contains (tops lines) t
   pub number : d.top ≡ number_of lines t
-  pub joins : filter d.got (let p = d.plan in p.joins) ≡ increasing (filter (λ s. not (is_among (leaves_of lines t.id x) s)) (joins_of lines t.id x))
 
 -- so each, one by one
-abbrev pub AreNamed : List Line → ℕ → List Done → List Top → Type 0
-AreNamed lines x [] [] = ⊤
-AreNamed lines x (d ∷ ds) (t ∷ ts) = IsNamed lines x d t × AreNamed lines x ds ts
-AreNamed lines x ds ts = ⊥
+abbrev pub AreNamed : List Line → List Done → List Top → Type 0
+AreNamed lines [] [] = ⊤
+AreNamed lines (d ∷ ds) (t ∷ ts) = IsNamed lines d t × AreNamed lines ds ts
+AreNamed lines ds ts = ⊥
 
--- The decided tops of the disk machine that count are these tops of the journal, and each of them that didn't write the object included a store
--- of it. As `DecideChanges` of `arj_serial_law`, but what they wrote and excluded isn't asked, nor anything of two that wrote the object; and not
--- that each top which wrote it is one of these.
+-- The decided tops of the disk machine that count are these tops of the journal. As `DecideChanges` of `arj_serial_law`, but what they wrote,
+-- included and excluded isn't asked, nor anything of two that wrote the object; and not that each top which wrote it is one of these.
 pub record DecideThose (header : Header) (lines : List Line) (x : ℕ) (S : State) (ds : List Done) : Type 0 where
   pub those : List Top
-  pub each : AreNamed lines x (filter counts_of ds) those
+  pub each : AreNamed lines (filter counts_of ds) those
   pub joiners : JoinersAreNewestFirst lines x those
-  pub changed : (t : Top) → Contains those t → (Wrote lines x t → ⊥) → Joined lines x t
   pub idle : IdleInPlace lines x (is_one_of those) (first_stores header x) (serial_tops lines)
 
 -- So it is of all but the newest ones: those that the journal doesn't have since their nodes are late to say so, and whoever was decided

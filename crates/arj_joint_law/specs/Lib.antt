@@ -13,3 +13,4 @@ pub mod InTime
 pub mod Joined
 pub mod Recorded
 pub mod Alone
+pub mod Joins

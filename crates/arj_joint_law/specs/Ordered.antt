@@ -1,9 +1,9 @@
 -- In which order an object's machine decides tops, against the journal.
-use Rattle.std.specs.Prelude.{⊤, ◌≡◌, ◌≢◌, ◌⊎◌, ◌≤◌, ◌++◌, ◌&&◌, ℕ, Bool, true, false, not, List, [], ◌∷◌, Contains, is_some, length}
+use Rattle.std.specs.Prelude.{⊤, ◌≡◌, ◌≢◌, ◌⊎◌, ◌≤◌, ◌++◌, ◌&&◌, ℕ, Bool, true, false, not, filter, List, [], ◌∷◌, None, Contains, is_some, length}
 use Rattle.arj_base.specs.Rows.{is_on}
 use Rattle.arj_journal.specs.ScriptForm.{HeaderInForm}
 use Rattle.arj_model.specs.Actions.{Act, acts, path, uids}
-use Rattle.arj_model.specs.Last.{is_among, leaves_of, object_line}
+use Rattle.arj_model.specs.Last.{increasing, is_among, joins_of, leaves_of, object_line}
 use Rattle.arj_protocol.specs.Words.{Header, Line, Uid, first_uid}
 use Rattle.arj_protocol.specs.Order.{uid_number}
 use Rattle.arj_protocol.specs.World.{Asked, format, run_all}
@@ -62,7 +62,16 @@ AreLeftOf lines x ds = (d : Done) (a : Act) → In d ds → Contains (acts lines
 abbrev pub AreRootedSo : List Line → (ℕ → ℕ) → List Done → Type 0
 AreRootedSo lines root ds = (d : Done) (a : Act) → In d ds → Contains (acts lines) a → uid_number a.uid ≡ d.top → root d.top ≡ uid_number (first_uid (uids (path (acts lines) a.label)))
 
--- The machine began as the header says and decided as the journal says, in this order, excluded what the journal says, and has its roots.
+-- the stores that these actions among them add to the list are, by the journal, those of their surviving includes that their commits didn't exclude
+abbrev pub AreJoinedOf : List Line → ℕ → List Done → Type 0
+AreJoinedOf lines x ds = (d : Done) (a : Act) → In d ds → Contains (acts lines) a → uid_number a.uid ≡ d.top → filter d.got (let p = d.plan in p.joins) ≡ increasing (filter (λ s. not (is_among (leaves_of lines a.id x) s)) (joins_of lines a.id x))
+
+-- Of these actions each that counts and gave nothing to the stores includes, by the journal, a store.
+abbrev pub AreCountedOf : List Line → ℕ → List Done → Type 0
+AreCountedOf lines x ds = (d : Done) (a : Act) → In d ds → Contains (acts lines) a → uid_number a.uid ≡ d.top → d.counts ≡ true → (let p = d.plan in p.writes) ≡ None → (s : ℕ) × Contains (joins_of lines a.id x) s
+
+-- The machine began as the header says and decided as the journal says, in this order, excluded and included what the journal says, and has its
+-- roots.
 pub record IsOrderedSo (hd : Header) (x : ℕ) (M : Seen) : Type 0 where
   pub begun : IsBegunSo hd x M
   pub once : AreOnce (let j = (let b = begun in b.journalled) in let W = j.machine in let S = W.disk in S.tops)
@@ -70,6 +79,8 @@ pub record IsOrderedSo (hd : Header) (x : ℕ) (M : Seen) : Type 0 where
   pub turns : AreTurnsOf M.lines (let j = (let b = begun in b.journalled) in let W = j.machine in let S = W.disk in S.tops)
   pub leaves : AreLeftOf M.lines x (let j = (let b = begun in b.journalled) in let W = j.machine in let S = W.disk in S.tops)
   pub roots : let j = (let b = begun in b.journalled) in let W = j.machine in let S = W.disk in AreRootedSo M.lines S.root S.tops
+  pub joins : AreJoinedOf M.lines x (let j = (let b = begun in b.journalled) in let W = j.machine in let S = W.disk in S.tops)
+  pub counted : AreCountedOf M.lines x (let j = (let b = begun in b.journalled) in let W = j.machine in let S = W.disk in S.tops)
 
 -- So it is in the run of every script, of each object of the header, with what is still taken of what coordinators have of naming's
 -- answers; and beside any relation that is kept with the machine's state.

@@ -7,10 +7,10 @@
 //! what stands of the object on disks is of its class (`specs/Forms.antt`); both machines are there at once, so that decided tops gave to
 //! the stores what they wrote (`specs/Joined.antt`); and files are clean with what is left
 //! (`specs/Cleaned.antt`), and stores excluded in time (`specs/Excluded.antt`, `specs/InTime.antt`). What one outcome is by a journal is
-//! in `specs/Outcome.antt`; what lines say of exclusions in `specs/Marked.antt`. What it gives upward: `runs_begin_as_the_header_says`, `decisions_come_behind_calls`,
+//! in `specs/Outcome.antt`; what lines say of exclusions in `specs/Marked.antt`, and of includes in `specs/Joins.antt`. What it gives upward: `runs_begin_as_the_header_says`, `decisions_come_behind_calls`,
 //! `writers_are_called_as_they_are_decided`, `runs_have_form`, `runs_have_both_machines`, `runs_are_clean`, `runs_exclude_in_time` (of what is seen of a run:
 //! `seen_runs_exclude_in_time`), `commits_are_done_behind_decisions`,
-//! `commits_say_what_they_exclude`, `commits_of_a_root_go_on_alone`.
+//! `commits_say_what_they_exclude`, `commits_include_what_survives`, `commits_of_a_root_go_on_alone`.
 #![tactic(auto)]
 
 mod forms;
@@ -24,7 +24,8 @@ pub use outcomes::{
     one_outcome_tells_journals_apart, runs_exclude_in_time, seen_runs_exclude_in_time,
 };
 pub use runs::{
-    commits_of_a_root_go_on_alone, commits_say_what_they_exclude, decisions_come_behind_calls,
-    runs_are_clean, runs_begin_as_the_header_says, runs_have_both_machines,
+    commits_include_what_survives, commits_of_a_root_go_on_alone, commits_say_what_they_exclude,
+    decisions_come_behind_calls, runs_are_clean, runs_begin_as_the_header_says,
+    runs_have_both_machines,
 };
 pub use writers::writers_are_called_as_they_are_decided;

@@ -3,6 +3,7 @@ ghost use Rattle.arj_joint_law.specs.Alone.{RunsCallAlone};
 ghost use Rattle.arj_joint_law.specs.Begun.{ObjectsAreThere, RunsBeginSo, RunsBeginSoBeside};
 ghost use Rattle.arj_joint_law.specs.Cleaned.{RunsAreClean, WholeRunsAreClean};
 ghost use Rattle.arj_joint_law.specs.Joined.{JoinedRunsAreSerial, RunsAreJoined};
+ghost use Rattle.arj_joint_law.specs.Joins.{RunsSayIncludes};
 ghost use Rattle.arj_joint_law.specs.Marked.{RunsSayMarks};
 ghost use Rattle.arj_joint_law.specs.Ordered.{RunsAreOrdered, RunsAreOrderedBeside};
 ghost use Rattle.arj_joint_law.specs.Shown.{FilesShowDisks, IncludesAreListed};
@@ -21,7 +22,9 @@ pub fn runs_begin_as_the_header_says()
 /// And its decided tops stand in the order of their commit calls against decisions: each had its commit called, and that of one which
 /// was decided earlier had been called at a place of the journal where the later one wasn't decided yet, by its line or by a record that
 /// was found; or nothing of the later one survives. And the stores that a decided top takes out of the list are those that its commit excluded, by the
-/// journal; and its root is the one at the head of its path there. It takes the same as `runs_begin_as_the_header_says`. It does nothing when it runs.
+/// journal, and those that it adds the ones of its surviving includes that its commit didn't exclude; one that counts and gave nothing to the
+/// stores included one; and its root is the one at the head of its path there. It takes the same as `runs_begin_as_the_header_says`. It does nothing
+/// when it runs.
 pub fn decisions_come_behind_calls()
     ensures heard { RunsAreOrdered }
     ensures beside { RunsAreOrderedBeside }
@@ -32,7 +35,7 @@ pub fn decisions_come_behind_calls()
 /// the decided tops that count are those of the journal (`DecideThose`), and wrote what they gave to the stores, and those without a record
 /// nothing, which is given with both halves (`runs_have_both_machines`). That machines began as the header says, that all states are of
 /// their class, that decided writers stand as their commits were called, that decided tops take those stores out of the list that their
-/// commits excluded, and that each include names a node of the header, is given here. It does nothing when it runs.
+/// commits excluded and add those that they included, and that each include names a node of the header, is given here. It does nothing when it runs.
 pub fn runs_are_clean()
     ensures clean { RunsAreClean }
     ensures whole { WholeRunsAreClean }
@@ -64,4 +67,11 @@ pub fn commits_say_what_they_exclude()
 /// whose commit was called before has its `committed` line by then, or was aborted. It does nothing when it runs.
 pub fn commits_of_a_root_go_on_alone()
     ensures { RunsCallAlone }
+{}
+
+/// In the run of every script each commit under way at a node that is up includes, of each object, exactly the stores of its top's surviving
+/// includes by the journal so far, each once and in increasing order; and each answered include of an action of a coordinator is noted by
+/// the action's root as an include. It does nothing when it runs.
+pub fn commits_include_what_survives()
+    ensures { RunsSayIncludes }
 {}
