@@ -1,7 +1,7 @@
 -- What lies under a top's writes in a copy's log stays what it was, from the call of its commit on.
 use Rattle.std.proofs.Common.{arith, ◌≡◌, ◌≤◌, ◌<◌, ◌⊎◌, ℕ, List, [], ◌∷◌, Bool, true, false, cond, not, inl, inr, refl, sym, ◌∙◌, ap, subst}
 use Rattle.arj_lock_law.specs.Actions.{Act, Root, Sub, same, on, root, top, is_top, is_action, at, In}
-use Rattle.arj_lock_law.specs.State.{Entry, Invoke, Request, Server, State}
+use Rattle.arj_lock_law.specs.State.{Entry, Invoke, Merged, Request, Server, State}
 use Rattle.arj_lock_law.specs.Steps.{Event, CrashNaming, BindLive, BindNew, Grant, Record, ConfirmTop, PassEntry, DropEntry, CrashServer, ActivateCopy, Apply, Refuse, Change, PassRow, PassTop, DropRows, VoteTop, Keep, Name, Load, SendInvoke, Answered, TurnedDown, Lost, GiveUp, CommitNested, Abort, CommitTop, SendVote, SendConfirm, Decide, Report, EndUnit, Included, held_value}
 use Rattle.arj_lock_law.specs.Machine.{Guard, Run, handed, next, stay, step}
 use Rattle.arj_lock_law.proofs.CallSteps.{top_acts}
@@ -132,7 +132,7 @@ module _ (m : Act) (is : is_top m ≡ true) (n base : ℕ) where
       let f = stays m is s h v called e guard n d i o before in
       f.1 ∙ under (f.0).0 (f.0).1 (f.0).2 (subst (λ (a : Act). Clean s a) (sym (f.0).3) before)
 
-  under_run : {s t : State} → Run s t → Holds s → Values s → 1 ≤ (s.action m).stage → LiesUnder m n base s → LiesUnder m n base t
+  pub under_run : {s t : State} → Run s t → Holds s → Values s → 1 ≤ (s.action m).stage → LiesUnder m n base s → LiesUnder m n base t
   under_run stay h v called under = under
   under_run {s} (step e guard more_steps) h v called under =
       let k = step_keeps e s guard h in
@@ -142,19 +142,23 @@ module _ (m : Act) (is : is_top m ≡ true) (n base : ℕ) where
 
 -- ---- the law
 
--- an action that holds what another one wrote, and isn't aborted, has that one not spoilt
-pub held_clean : (t : State) → Values t → (m : Act) → is_top m ≡ true → 1 ≤ (t.action m).stage → (t.action m).stage ≤ 3 → (n : ℕ) (e : Entry) → In e (t.server n).log → e.holder ≡ m → Clean t e.by
-held_clean t v m is one three n e i own u o = by (by_cases (on m u))
+-- an action that is merged into a top whose commit was called, and that isn't aborted, isn't spoilt
+pub merged_clean : (t : State) → Values t → (m : Act) → is_top m ≡ true → (1 ≤ (t.action m).stage) × ((t.action m).stage ≤ 3) → (a : Act) → Merged t a m → Clean t a
+merged_clean t v m is stages a merged u o = by (by_cases (on m u))
   where
-    undoomed : (a : Act) → 1 ≤ (t.action a).stage → (t.action a).stage ≤ 3 → (t.action a).doomed ≡ false
-    undoomed a low high = elim (by_cases (t.action a).doomed) [ inr f ↦ f | inl d ↦ absurd (elim (v.doomed a d).1 [ inl z ↦ omega (arith, z, low) | inr z ↦ omega (arith, z, high) ]) ]
+    undoomed : (b : Act) → 1 ≤ (t.action b).stage → (t.action b).stage ≤ 3 → (t.action b).doomed ≡ false
+    undoomed b low high = elim (by_cases (t.action b).doomed) [ inr f ↦ f | inl d ↦ absurd (elim (v.doomed b d).1 [ inl z ↦ omega (arith, z, low) | inr z ↦ omega (arith, z, high) ]) ]
 
     by : (on m u ≡ true) ⊎ (on m u ≡ false) → ((t.action u).stage ≤ 3) × ((t.action u).doomed ≡ false)
     by (inl p) = elim (above_top m u is p) [
-      | inl it ↦ subst (λ (a : Act). ((t.action a).stage ≤ 3) × ((t.action a).doomed ≡ false)) (sym it) (three, undoomed m one three)
+      | inl it ↦ subst (λ (b : Act). ((t.action b).stage ≤ 3) × ((t.action b).doomed ≡ false)) (sym it) (stages.1, undoomed m stages.0 stages.1)
       | inr base ↦ (v.roots u (ap is_action base), elim (by_cases (t.action u).doomed) [ inl d ↦ differ (v.doomed u d).0 (ap is_action base) | inr g ↦ g ])
     ]
-    by (inr f) = let e3 = (v.logs n e i).merged u o (ap (λ (a : Act). on a u) own ∙ f) in (omega (arith, e3), undoomed u (omega (arith, e3)) (omega (arith, e3)))
+    by (inr f) = let e3 = merged u o f in (omega (arith, e3), undoomed u (omega (arith, e3)) (omega (arith, e3)))
+
+-- so it is of who wrote what the top holds
+pub held_clean : (t : State) → Values t → (m : Act) → is_top m ≡ true → 1 ≤ (t.action m).stage → (t.action m).stage ≤ 3 → (n : ℕ) (e : Entry) → In e (t.server n).log → e.holder ≡ m → Clean t e.by
+held_clean t v m is one three n e i own = merged_clean t v m is (one, three) e.by (subst (λ (a : Act). Merged t e.by a) own (v.logs n e i).merged)
 
 pub bases_stay : BasesStay
 bases_stay first s t n m e reached is called run three i own =

@@ -1,165 +1,26 @@
 -- What a top's writes lie over, against the votes for it.
 use Rattle.std.proofs.Common.{arith, ◌≡◌, ◌≤◌, ◌<◌, ◌⊎◌, ℕ, List, [], ◌∷◌, true, inl, inr, refl, sym, ◌∙◌, ap, subst}
 use Rattle.arj_lock_law.specs.Actions.{Act, In, is_top, on, root, top}
-use Rattle.arj_lock_law.specs.State.{Ballot, Alive, Call, Confirm, Covered, Entry, Server, State, Vote}
-use Rattle.arj_lock_law.specs.Steps.{ConfirmTop, IsLast, VoteTop}
-use Rattle.arj_lock_law.specs.Laws.{given_by}
-use Rattle.arj_lock_law.specs.Machine.{Guard, Run, next, start, stay, step}
-use Rattle.arj_lock_law.proofs.Claims.{GoesOn, Holds, IsUp, Mean, Reached, Sure, server_of}
+use Rattle.arj_lock_law.specs.State.{Alive, Call, Entry, Server, State, Vote}
+use Rattle.arj_lock_law.specs.Machine.{Run, start, stay, step}
+use Rattle.arj_lock_law.proofs.Claims.{GoesOn, Holds, IsUp, server_of}
 use Rattle.arj_lock_law.proofs.CallSteps.{top_acts}
-use Rattle.arj_lock_law.proofs.Given.{given_stands}
 use Rattle.arj_lock_law.proofs.Order.{go_on, start_holds, step_keeps}
-use Rattle.arj_lock_law.proofs.Paths.{on_self, on_top, top_of, top_root}
+use Rattle.arj_lock_law.proofs.Paths.{on_top, top_of, top_root}
 use Rattle.arj_lock_law.proofs.ValueClaims.{Clean, Fine, Logged, Matches, Values, bad, both, calm, less, more, waiting}
 use Rattle.arj_lock_law.proofs.ValueLasts.{clean_alive}
 use Rattle.arj_lock_law.proofs.ValueRun.{start_values}
 use Rattle.arj_lock_law.proofs.VoteLasts.{Votes}
 use Rattle.arj_lock_law.proofs.VoteRun.{run_all_votes, start_votes}
-use Rattle.arj_lock_log_law.specs.Under.{ConfirmsAreOverTheLast, MayCount, WritesHaveCalls, WritesLieOverVotes}
+use Rattle.arj_lock_log_law.specs.Under.{MayCount, WritesHaveCalls, WritesLieOverVotes}
 use Rattle.arj_lock_log_law.proofs.Bases.{bases_stay, held_clean}
 use Rattle.arj_lock_log_law.proofs.Homes.{IsHome, homes_of}
-use Rattle.arj_lock_log_law.proofs.OwnLogs.{Behind, HasOwnLog, OwnLog, own_call, own_run, own_start, run_behind}
-
--- ---- a vote for a top, and a later state
-
-module _ (first : ℕ) (s t : State) (n : ℕ) (m : Act) (b i : ℕ) (reached : Run (start first) s) (guard : Guard (VoteTop n m b i) s) (run : Run (next (VoteTop n m b i) s) t) (three : (t.action m).stage ≤ 3) (c : Call) (there : In c t.calls) (its : top c.act ≡ m) (alive : Alive t c.act) where
-  before : Holds s × Values s × Votes s
-  before = run_all_votes reached (start_holds first) (start_values first) (start_votes first)
-
-  abbrev h : Holds s
-  h = before.0
-
-  abbrev v : Values s
-  v = before.1
-
-  abbrev whole : Run s t
-  whole = step (VoteTop n m b i) guard run
-
-  after : Holds t × Values t × Votes t
-  after = run_all_votes whole h v before.2
-
-  mean : Mean s (Vote m b i)
-  mean = h.mail (Vote m b i) guard.0
-
-  abbrev is : is_top m ≡ true
-  is = mean.0
-
-  behind : Behind m s t
-  behind = run_behind m is whole h v mean.4 three
-
-  old : In c s.calls
-  old = behind.old c there its
-
-  lived : Alive s c.act
-  lived = behind.back c.act alive
-
-  kept : t.kept (root m) ≡ s.kept (root m)
-  kept = behind.kept c old its alive
-
-  own : HasOwnLog m s
-  own = own_run m is reached (start_holds first) (start_values first) (own_start m is first)
-
-  here : b ≡ s.kept (root m)
-  here = own.asked c old its lived b i guard.0
-
-  covers : Covered t m c.act
-  covers = (sym (top_root c.act) ∙ ap root its, inl its)
-
--- ---- as naming takes a Confirm
-
-module _ (first : ℕ) (s t : State) (n : ℕ) (m : Act) (b i q : ℕ) (c : Call) (e : Entry) (reached : Run (start first) s) (guard : Guard (VoteTop n m b i) s) (run : Run (next (VoteTop n m b i) s) t) (one : (t.action m).stage ≡ 1) (takes : Guard (ConfirmTop m q) t)
-    (there : In c t.calls) (its : top c.act ≡ m) (alive : Alive t c.act) (write : In e (s.server n).log) (held : e.holder ≡ m) where
-  three : (t.action m).stage ≤ 3
-  three = omega (arith, one)
-
-  b4 : Holds s × Values s × Votes s
-  b4 = before first s t n m b i reached guard run three c there its alive
-
-  aft : Holds t × Values t × Votes t
-  aft = after first s t n m b i reached guard run three c there its alive
-
-  mn : Mean s (Vote m b i)
-  mn = mean first s t n m b i reached guard run three c there its alive
-
-  bh : Behind m s t
-  bh = behind first s t n m b i reached guard run three c there its alive
-
-  hr : b ≡ s.kept (root m)
-  hr = here first s t n m b i reached guard run three c there its alive
-
-  kp : t.kept (root m) ≡ s.kept (root m)
-  kp = kept first s t n m b i reached guard run three c there its alive
-
-  cv : Covered t m c.act
-  cv = covers first s t n m b i reached guard run three c there its alive
-
-  od : In c s.calls
-  od = old first s t n m b i reached guard run three c there its alive
-
-  lv : Alive s c.act
-  lv = lived first s t n m b i reached guard run three c there its alive
-
-  low : q ≤ t.kept (root m)
-  low = let k = aft.0 in let z = k.mail (Confirm m q) takes.0 in z.2 c there alive cv
-
-  bound : t.naming.first ≤ b
-  bound = let a = takes.1 in let l = low in let k = kp in let x = hr in omega (arith, a, l, k, x)
-
-  stage : (s.action m).stage ≡ 1
-  stage = let k = bh.stage in let l = mn.4 in omega (arith, k, l, one)
-
-  up : IsUp s b
-  up = subst (λ (x : Server). (x.incarnation ≡ (s.binding b).incarnation) × (x.active ≡ b)) (sym (ap s.server guard.1)) (inc (subst (λ (x : Server). Reached x (s.binding b).incarnation b) (ap s.server guard.1) (let k = b4.0 in let z = k.bindings b mn.1 in z.reached)), guard.3)
-    where
-      inc : Reached (s.server n) (s.binding b).incarnation b → (s.server n).incarnation ≡ (s.binding b).incarnation
-      inc (inl l) = absurd (let x = guard.2 in let k = mn.3 in omega (arith, l, x, k))
-      inc (inr (x, l)) = sym x
-
-  log : OwnLog m s (s.server n).log s.calls
-  log = subst (λ (x : Server). OwnLog m s x.log s.calls) (ap s.server guard.1) (subst (λ (k : ℕ). OwnLog m s (server_of s k).log s.calls) (sym hr)
-      ((own first s t n m b i reached guard run three c there its alive).log c od its lv stage (subst (λ (k : ℕ). IsUp s k) hr up) (inl (let f = bh.first in let x = bound in let y = hr in omega (arith, f, x, y)))))
-
-  clean : Clean s e.by
-  clean = held_clean s b4.1 m mn.0 (let k = stage in omega (arith, k)) (let k = stage in omega (arith, k)) n e write held
-
-  wrote : (d : Call) × In d s.calls × (d.write ≡ true) × (e.by ≡ d.act)
-  wrote = own_call m mn.0 s (s.server n).base (s.server n).log s.calls log e write (subst (λ (a : Act). on a m ≡ true) (sym held) (on_self m)) clean
-
-  abbrev d : Call
-  d = wrote.0
-
-  who : top d.act ≡ m
-  who = sym (ap top wrote.3) ∙ top_of e.by m mn.0 (subst (λ (a : Act). on e.by a ≡ true) held (let k = b4.1 in let z = k.logs n e write in z.path))
-
-  d_there : In d t.calls
-  d_there = bh.calls d wrote.1
-
-  d_alive : Alive t d.act
-  d_alive = bh.alive d wrote.1 who (subst (λ (a : Act). Alive s a) wrote.3 (clean_alive s e.by clean))
-
-  yes : t.yes m ≡ t.kept (root m)
-  yes = let o = aft.2 in o.mail m q takes.0 c there alive cv
-
-  vote : t.vote m ≡ given_by s n m
-  vote = given_stands b4.0 b4.1 b4.2 n m b i t d guard run one (let k = kp in let x = hr in let y = yes in omega (arith, k, x, y)) (let k = kp in let x = hr in omega (arith, k, x)) bound d_there wrote.2 who d_alive
-
-  last : IsLast t (s.server n).base t.calls
-  last = subst (λ (x : Ballot). IsLast t x.under t.calls) vote ((let o = aft.2 in let z = o.tops m mn.0 in z.under) d
-      (record { called = omega (arith, one); alive = three; call = d_there; write = wrote.2; stands = (who, d_alive); yes = yes; present = inl (let x = bound in let y = hr in let z = kp in omega (arith, x, y, z)) }) (omega (arith, one)))
-
-  counts : MayCount t b
-  counts = inl ((let k = aft.0 in let z = k.calls c there in let sure : Sure t m = subst (λ (a : Act). Sure t a) its (z.sure alive) in (sure.here (let x = bound in let y = hr in let w = kp in omega (arith, x, y, w)) (let w = k.tops m mn.0 in w.goes (omega (arith, one)) (omega (arith, one)))).0) ∙ kp ∙ sym hr, bound)
-
-pub confirms_are_over_the_last : ConfirmsAreOverTheLast
-confirms_are_over_the_last first s t n m b i q c e reached guard run one takes there its alive write held = (
-  last first s t n m b i q c e reached guard run one takes there its alive write held,
-  counts first s t n m b i q c e reached guard run one takes there its alive write held,
-)
+use Rattle.arj_lock_log_law.proofs.OwnLogs.{Behind, own_run, own_start, run_behind}
 
 -- ---- a write in a copy
 
 -- a binding that was made stays at its server
-made_there : (b : ℕ) {s t : State} → Run s t → Holds s → b < s.naming.bound → (t.binding b).server ≡ (s.binding b).server
+pub made_there : (b : ℕ) {s t : State} → Run s t → Holds s → b < s.naming.bound → (t.binding b).server ≡ (s.binding b).server
 made_there b stay h made = refl
 made_there b {s} (step e guard more_steps) h made =
     let k = step_keeps e s guard h in
@@ -262,39 +123,45 @@ module _ (first : ℕ) (t : State) (k : ℕ) (m : Act) (e : Entry) (reached : Ru
 pub writes_have_calls : WritesHaveCalls
 writes_have_calls first t k m e reached is called three write held counts = its_call first t k m e reached is called three write held counts
 
-module _ (first : ℕ) (s r t : State) (n k : ℕ) (m : Act) (b i : ℕ) (c : Call) (e : Entry) (reached : Run (start first) s) (guard : Guard (VoteTop n m b i) s) (run : Run (next (VoteTop n m b i) s) r) (one : (r.action m).stage ≡ 1)
-    (there : In c r.calls) (its : top c.act ≡ m) (alive : Alive r c.act) (later : Run r t) (three : (t.action m).stage ≤ 3) (write : In e (t.server k).log) (held : e.holder ≡ m) (counts : MayCount t (t.server k).active) where
-  then : Holds s × Values s × Votes s
-  then = run_all_votes reached (start_holds first) (start_values first) (start_votes first)
+-- ---- over what it lay before
 
-  sent : Mean s (Vote m b i)
-  sent = let a = then.0 in a.mail (Vote m b i) guard.0
+module _ (first : ℕ) (s r t : State) (k n : ℕ) (m : Act) (i : ℕ) (c : Call) (d e : Entry) (reached : Run (start first) s) (called : 1 ≤ (s.action m).stage) (old : In d (s.server k).log) (old_held : d.holder ≡ m) (run : Run s r) (one : (r.action m).stage ≡ 1) (sent : In (Vote m (s.server k).active i) r.net)
+    (there : In c r.calls) (its : top c.act ≡ m) (alive : Alive r c.act) (later : Run r t) (three : (t.action m).stage ≤ 3) (write : In e (t.server n).log) (held : e.holder ≡ m) (counts : MayCount t (t.server n).active) where
+  before : Holds s × Values s × Votes s
+  before = run_all_votes reached (start_holds first) (start_values first) (start_votes first)
 
-  there_then : Holds r × Values r × Votes r
-  there_then = run_all_votes (step (VoteTop n m b i) guard run) then.0 then.1 then.2
+  then : Holds r × Values r × Votes r
+  then = run_all_votes run before.0 before.1 before.2
+
+  is : is_top m ≡ true
+  is = let a = then.0 in (a.mail (Vote m (s.server k).active i) sent).0
 
   gone : Behind m r t
-  gone = run_behind m sent.0 later there_then.0 there_then.1 (omega (arith, one)) three
-
-  abbrev all : Run (next (VoteTop n m b i) s) t
-  all = go_on run later
+  gone = run_behind m is later then.0 then.1 (omega (arith, one)) three
 
   called_now : 1 ≤ (t.action m).stage
   called_now = let a = gone.stage in omega (arith, a, one)
 
   abbrev whole_run : Run (start first) t
-  whole_run = go_on reached (step (VoteTop n m b i) guard all)
+  whole_run = go_on reached (go_on run later)
 
-  same_binding : b ≡ (t.server k).active
-  same_binding = here first s t n m b i reached guard all three c (gone.calls c there) its (gone.alive c there its alive) ∙ sym (kept first s t n m b i reached guard all three c (gone.calls c there) its (gone.alive c there its alive))
-      ∙ active first t k m e whole_run sent.0 called_now three write held counts
+  asked : (s.server k).active ≡ r.kept (root m)
+  asked = (own_run m is (go_on reached run) (start_holds first) (start_values first) (own_start m is first)).asked c there its alive (s.server k).active i sent
 
-  same_node : k ≡ n
-  same_node = sym (let z = home first t k m e whole_run sent.0 called_now three write held counts in z.server) ∙ ap (λ (x : ℕ). (t.binding x).server) (sym same_binding) ∙ made_there b (step (VoteTop n m b i) guard all) then.0 (let a = then.0 in let z = a.bindings b sent.1 in z.below) ∙ guard.1
+  same_binding : (s.server k).active ≡ (t.server n).active
+  same_binding = asked ∙ sym (gone.kept c there its (gone.alive c there its alive)) ∙ active first t n m e whole_run is called_now three write held counts
+
+  home_then : IsHome s k
+  home_then = homes_of first s reached k d old
+
+  same_node : n ≡ k
+  same_node = sym (let z = home first t n m e whole_run is called_now three write held counts in z.server) ∙ ap (λ (x : ℕ). (t.binding x).server) (sym same_binding) ∙ made_there (s.server k).active (go_on run later) before.0 (let a = before.0 in let z = a.bindings (s.server k).active home_then.named in z.below) ∙ home_then.server
+
+  same_base : (t.server n).base ≡ (s.server k).base
+  same_base = bases_stay first s t n m e reached is called (go_on run later) three write held ∙ ap (λ (x : ℕ). (s.server x).base) same_node
 
 pub writes_lie_over_votes : WritesLieOverVotes
-writes_lie_over_votes first s r t n k m b i c e reached guard run one there its alive later three write held counts = (
-  bases_stay first s t k m e reached (sent first s r t n k m b i c e reached guard run one there its alive later three write held counts).0 (sent first s r t n k m b i c e reached guard run one there its alive later three write held counts).4 (step (VoteTop n m b i) guard (go_on run later)) three write held
-      ∙ ap (λ (x : ℕ). (s.server x).base) (same_node first s r t n k m b i c e reached guard run one there its alive later three write held counts),
-  same_binding first s r t n k m b i c e reached guard run one there its alive later three write held counts,
+writes_lie_over_votes first s r t k n m i c d e reached called old old_held run one sent there its alive later three write held counts = (
+  same_base first s r t k n m i c d e reached called old old_held run one sent there its alive later three write held counts,
+  same_binding first s r t k n m i c d e reached called old old_held run one sent there its alive later three write held counts,
 )

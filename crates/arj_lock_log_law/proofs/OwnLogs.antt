@@ -122,7 +122,7 @@ module _ (m : Act) (is : is_top m ≡ true) where
     own_call es (c ∷ cs) (apart _ f l) e i on_m clean = let r = own_call es cs l e i on_m clean in (r.0, inr r.1, r.2, r.3)
 
     -- and each such call its entry
-    own_entry : (es : List Entry) (cs : List Call) → OwnLog m s es cs → (c : Call) → In c cs → c.write ≡ true → top c.act ≡ m → Clean s c.act → (e : Entry) × In e es × (on e.holder m ≡ true) × (e.by ≡ c.act)
+    pub own_entry : (es : List Entry) (cs : List Call) → OwnLog m s es cs → (c : Call) → In c cs → c.write ≡ true → top c.act ≡ m → Clean s c.act → (e : Entry) × In e es × (on e.holder m ≡ true) × (e.by ≡ c.act)
     own_entry [] [] nothing c i write own clean = absurd i
     own_entry (e ∷ es) (d ∷ cs) (entry _ _ by gives w o l) c (inl q) write own clean = (e, inl refl, o, by ∙ ap (λ (x : Call). x.act) (sym q))
     own_entry (e ∷ es) (d ∷ cs) (entry _ _ by gives w o l) c (inr i) write own clean = let r = own_entry es cs l c i write own clean in (r.0, inr r.1, r.2, r.3)

@@ -1,6 +1,7 @@
 use Rattle.arj_lock_log_law.proofs.Bases.{bases_stay}
 use Rattle.arj_lock_log_law.proofs.Homes.{counting_is_old}
-use Rattle.arj_lock_log_law.proofs.Overs.{confirms_are_over_the_last, writes_have_calls, writes_lie_over_votes}
+use Rattle.arj_lock_log_law.proofs.Overs.{writes_have_calls, writes_lie_over_votes}
+use Rattle.arj_lock_log_law.proofs.Takes.{confirms_are_over_the_last}
 use Rattle.arj_lock_log_law.proofs.given.writes_lie_over_what_was_voted.Goals as goal
 
 pub returns-clause-stay : goal.returns-clause-stay
