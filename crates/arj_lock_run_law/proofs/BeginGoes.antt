@@ -185,7 +185,7 @@ begins_go c s e l g how parent above is_seen begins may empty = λ agrees. (
       (said_others c.fixed c.x c.begun s.node e (began_line l how (next_uid (let q = coord_at s in q.tree)) parent ∷ []) c.state (given l g s.seen)
       (let z = others_of c.fixed c.x c.begun s.node s.disk (Some s.parts) c.state s.seen is_seen.sees in record { run = z.run; nodes = z.nodes; absent = z.absent; confirms = z.confirms; posts = z.posts; fresh = z.fresh; now = z.now })))
       (up_more c s is_seen l how parent above begins may empty)
-      (confirms_same c.fixed c.x c.state (let M = s.seen in M.sent) s.disk s.disk s.parts (with_coord s.parts (let D = begin_action l how parent above (coord_at s) in D.part)) refl refl (confirms_of c.fixed c.x c.begun s.node s.disk (Some s.parts) c.state s.seen is_seen.sees)),
+      (confirms_same c.fixed c.x s.node c.state (let M = s.seen in M.sent) s.disk s.disk s.parts (with_coord s.parts (let D = begin_action l how parent above (coord_at s) in D.part)) refl refl (confirms_of c.fixed c.x c.begun s.node s.disk (Some s.parts) c.state s.seen is_seen.sees)),
   tied_more c s is_seen l how parent above begins may empty e,
   stay,
 )

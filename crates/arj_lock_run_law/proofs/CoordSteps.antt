@@ -76,9 +76,9 @@ module _ (c : Case) (s : Spot) where
   k = s.node
 
   -- messages go out, in the state that the machine has come to
-  pub walk_sends : (e : ℕ) (v : Parts) (T : State) (outs : List Effect) (d : Disk) (M : Seen) → AreSends outs → AreSendsShown c s T outs → Within (let N = s.seen in N.sent) M.sent → SeesOthers f c.x c.begun k T M → SeesUp (view_of f c.x c.begun k) T d v → HaveConfirms f c.x T (let N = s.seen in N.sent) d (Some v) → IsTiedNow f c.x c.begun T M.lines → Run c.state T
+  pub walk_sends : (e : ℕ) (v : Parts) (T : State) (outs : List Effect) (d : Disk) (M : Seen) → AreSends outs → AreSendsShown c s T outs → Within (let N = s.seen in N.sent) M.sent → SeesOthers f c.x c.begun k T M → SeesUp (view_of f c.x c.begun k) T d v → HaveConfirms f c.x k T (let N = s.seen in N.sent) d (Some v) → IsTiedNow f c.x c.begun T M.lines → Run c.state T
       → Walks (IsSeenSo c) e k outs (Up (IsSeenSo c) k v) d M
-  walk_sends e v T [] d M sends shown within others up confirms now run = λ agrees. (T, with_here f c.x c.begun k d (Some v) T M others up (confirms_more f c.x T (let N = s.seen in N.sent) M.sent within d (Some v) confirms), now.tied, run)
+  walk_sends e v T [] d M sends shown within others up confirms now run = λ agrees. (T, with_here f c.x c.begun k d (Some v) T M others up (confirms_more f c.x k T (let N = s.seen in N.sent) M.sent within d (Some v) confirms), now.tied, run)
   walk_sends e v T (Send to m ∷ es) d M sends shown within others up confirms now run = λ more quiet.
       let p : Post = record { from = k; to = to; message = m } in
       walk_sends e v T es d (said e more (posted p M)) sends.1 shown.1 (λ q there. inr (within q there))
@@ -132,9 +132,9 @@ module _ (c : Case) (s : Spot) (is_seen : IsSeenIn c (world_at s)) (u : Uid) (b 
   }
 
   -- whom the node has confirmed, whatever records are on its disk
-  pub confirms_then : (e : Disk) → (let d = s.disk in e.names ≡ d.names) → HaveConfirms c.fixed c.x T (let M = s.seen in M.sent) e (Some (with_coord t C))
-  confirms_then e names = confirms_same c.fixed c.x T (let M = s.seen in M.sent) s.disk e t (with_coord t C) names refl
-      (confirms_later c.fixed c.x S T ((let f = c.fixed in f.first), (let z = is_seen.sees in z.run)) has.run (let M = s.seen in M.sent) (let M = s.seen in M.sent) (λ r i. i) s.disk (Some t) (confirms_of c.fixed c.x c.begun s.node s.disk (Some t) S s.seen is_seen.sees))
+  pub confirms_then : (e : Disk) → (let d = s.disk in e.names ≡ d.names) → HaveConfirms c.fixed c.x s.node T (let M = s.seen in M.sent) e (Some (with_coord t C))
+  confirms_then e names = confirms_same c.fixed c.x s.node T (let M = s.seen in M.sent) s.disk e t (with_coord t C) names refl
+      (confirms_later c.fixed c.x s.node S T ((let f = c.fixed in f.first), (let z = is_seen.sees in z.run)) has.run (λ one. (let o = has.only in o.confirmed)) (let M = s.seen in M.sent) (let M = s.seen in M.sent) (λ r i. i) s.disk (Some t) (confirms_of c.fixed c.x c.begun s.node s.disk (Some t) S s.seen is_seen.sees))
 
 pub coords_go : CoordsGo
 coords_go c s e u b bs sends C T is_seen found on are_sends has shown none tied =

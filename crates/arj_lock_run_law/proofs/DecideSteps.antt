@@ -72,8 +72,8 @@ module _ (c : Case) (s : Spot) (is_seen : IsSeenIn c (world_at s)) (holds : Hold
       (put_in u i w j (let d = s.disk in d.intents) (in_from {X = Uid × Intent} (w, j) (let d = noted in d.intents) there))
 
   -- whom the node had confirmed
-  gone : (M : Seen) → Within (let N = s.seen in N.sent) M.sent → (e : Disk) → (let d = s.disk in e.names ≡ d.names) → HaveConfirms f c.x S M.sent e None
-  gone M within e names = confirms_down f c.x S M.sent s.disk e (Some t) names (confirms_more f c.x S (let N = s.seen in N.sent) M.sent within s.disk (Some t) (confirms_of f c.x c.begun k s.disk (Some t) S s.seen is_seen.sees))
+  gone : (M : Seen) → Within (let N = s.seen in N.sent) M.sent → (e : Disk) → (let d = s.disk in e.names ≡ d.names) → HaveConfirms f c.x k S M.sent e None
+  gone M within e names = confirms_down f c.x k S M.sent s.disk e (Some t) names (confirms_more f c.x k S (let N = s.seen in N.sent) M.sent within s.disk (Some t) (confirms_of f c.x c.begun k s.disk (Some t) S s.seen is_seen.sees))
 
   -- a stop at the record: without it the top is aborted, with it it is decided
   record_stops : IsDecided f.act t.coord u S → (e : ℕ) (M : Seen) → Within (let N = s.seen in N.sent) M.sent → SeesOthers f c.x c.begun k S M → IsTiedNow f c.x c.begun S M.lines → Stops (IsSeenSo c) e k (PutIntent u i) s.disk M

@@ -11,17 +11,19 @@ use Rattle.arj_protocol.specs.Order.{at_number}
 use Rattle.arj_protocol.specs.Step.{Node, first_disk, first_node, numbers_to, parts_in}
 use Rattle.arj_protocol.specs.Tree.{at_place, new_tree}
 use Rattle.arj_protocol.specs.World.{format}
+use Rattle.arj_lock_law.specs.Actions.{Act}
 use Rattle.arj_lock_law.specs.Machine as machine
 use Rattle.arj_lock_law.specs.Machine.{Run, start}
 use Rattle.arj_lock_law.specs.State.{State}
 use Rattle.arj_run_law.proofs.Starts.{first_at}
 use Rattle.arj_view_law.specs.Seen.{Post, Seen, see, up}
 use Rattle.arj_lock_line_law.specs.Lines.{AreCallsOf, AreIncludesOf, included_on, said_on}
+use Rattle.arj_lock_view_law.specs.Going.{NobodyConfirmed}
 use Rattle.arj_lock_view_law.proofs.ServerSteps.{servers_are_down}
 use Rattle.arj_lock_view_law.proofs.StartNamingSteps.{naming_is_down}
 use Rattle.arj_lock_run_law.specs.Beside.{KnowsEntry}
 use Rattle.arj_lock_run_law.specs.Fixed.{Fixed, view_of}
-use Rattle.arj_lock_run_law.specs.Sees.{HaveConfirms, IsFresh, SeesDown, SeesLocks, SeesMemory}
+use Rattle.arj_lock_run_law.specs.Sees.{HasConfirm, HaveConfirms, IsConfirmedAt, IsFresh, SeesDown, SeesLocks, SeesMemory, WereConfirmed}
 use Rattle.arj_lock_run_law.specs.Tied.{AreTied}
 use Rattle.arj_lock_run_law.specs.World.{FirstGoes}
 use Rattle.arj_lock_run_law.proofs.OtherSteps.{node_here, node_there, with_here}
@@ -122,25 +124,34 @@ module _ (hd : Header) (f : Fixed) (x : ℕ) (entry : KnowsEntry x 1 (first_disk
   }
 
   -- nobody has confirmed anyone, and nothing is prepared
-  none_down : (k : ℕ) (S : State) (sent : List Post) → HaveConfirms f x S sent (before k) None
-  none_down k S sent u (inl prepared) = absurd (cc prepared)
-  none_down k S sent u (inr (t, n, is, at, on)) = absurd (cc is)
+  nobody_had : (k : ℕ) (sent : List Post) (d : Disk) → WereConfirmed f x (start f.first) sent d
+  nobody_had k sent d u top on = absurd (cc on)
 
-  none_up : (k : ℕ) (S : State) (sent : List Post) → HaveConfirms f x S sent (first_disk hd k) (Some (parts_in k 1 (first_disk hd k)))
-  none_up k S sent u (inl prepared) = absurd (cc prepared)
-  none_up k S sent u (inr (t, n, is, at, on)) = absurd (by (k == 1) (ap (λ (z : Parts). z.naming) (one is) ∙ at))
+  none_down : (k : ℕ) (sent : List Post) → HaveConfirms f x k (start f.first) sent (before k) None
+  none_down k sent = (who, λ one. nobody_had k sent (before k))
     where
-      one : ◌≡◌ {A = Option Parts} (Some (parts_in k 1 (first_disk hd k))) (Some t) → parts_in k 1 (first_disk hd k) ≡ t
-      one same = cc same
+      who : (u : Uid) → IsConfirmedAt u (before k) None → HasConfirm f x (start f.first) sent u
+      who u (inl prepared) = absurd (cc prepared)
+      who u (inr (t, n, is, at, on)) = absurd (cc is)
 
-      by : (b : Bool) → cond b (Some (recovered_naming 1 (let d = first_disk hd k in d.names))) None ≡ Some n → ⊥
-      by true its = (let no_way : false ≡ true = ap (λ (z : Naming). is_on z.confirmed u) (same its) ∙ on in cc no_way)
+  none_up : (k : ℕ) (S : State) (sent : List Post) → NobodyConfirmed (start f.first) S → HaveConfirms f x k S sent (first_disk hd k) (Some (parts_in k 1 (first_disk hd k)))
+  none_up k S sent nobody = (who, λ one u top on. absurd (let no_way : false ≡ true = sym (ap (λ (g : Act → Bool). g (f.act u)) nobody) ∙ on in cc no_way))
+    where
+      who : (u : Uid) → IsConfirmedAt u (first_disk hd k) (Some (parts_in k 1 (first_disk hd k))) → HasConfirm f x S sent u
+      who u (inl prepared) = absurd (cc prepared)
+      who u (inr (t, n, is, at, on)) = absurd (by (k == 1) (ap (λ (z : Parts). z.naming) (one is) ∙ at))
         where
-          same : ◌≡◌ {A = Option Naming} (Some (recovered_naming 1 (let d = first_disk hd k in d.names))) (Some n) → recovered_naming 1 (let d = first_disk hd k in d.names) ≡ n
-          same q = cc q
-      by false its = cc its
+          one : ◌≡◌ {A = Option Parts} (Some (parts_in k 1 (first_disk hd k))) (Some t) → parts_in k 1 (first_disk hd k) ≡ t
+          one same = cc same
 
-  first_seen : (j : ℕ) → (S : State) × SeesLocks f x [] S (some_up j) × AreTied f x [] S
+          by : (b : Bool) → cond b (Some (recovered_naming 1 (let d = first_disk hd k in d.names))) None ≡ Some n → ⊥
+          by true its = (let no_way : false ≡ true = ap (λ (z : Naming). is_on z.confirmed u) (same its) ∙ on in cc no_way)
+            where
+              same : ◌≡◌ {A = Option Naming} (Some (recovered_naming 1 (let d = first_disk hd k in d.names))) (Some n) → recovered_naming 1 (let d = first_disk hd k in d.names) ≡ n
+              same q = cc q
+          by false its = cc its
+
+  first_seen : (j : ℕ) → (S : State) × SeesLocks f x [] S (some_up j) × AreTied f x [] S × NobodyConfirmed (start f.first) S
   unfolding some_up
   first_seen zero = (
     start f.first,
@@ -148,12 +159,13 @@ module _ (hd : Header) (f : Fixed) (x : ℕ) (entry : KnowsEntry x 1 (first_disk
       run = machine.stay;
       nodes = λ k n is. subst (λ (m : Node). SeesMemory (view_of f x [] k) (start f.first) m.disk m.live) (its k n is) (down_start k);
       absent = λ k is. absurd (cc is);
-      confirms = λ k n is. subst (λ (m : Node). HaveConfirms f x (start f.first) [] m.disk m.live) (its k n is) (none_down k (start f.first) []);
+      confirms = λ k n is. subst (λ (m : Node). HaveConfirms f x k (start f.first) [] m.disk m.live) (its k n is) (none_down k []);
       posts = λ p there. absurd there;
       fresh = fresh_start;
       now = omega arith;
     },
     tied_first,
+    refl,
   )
     where
       its : (k : ℕ) (n : Node) → ◌≡◌ {A = Option Node} (Some (record { number = k; disk = before k; live = None })) (Some n) → record { number = k; disk = before k; live = None } ≡ n
@@ -165,7 +177,7 @@ module _ (hd : Header) (f : Fixed) (x : ℕ) (entry : KnowsEntry x 1 (first_disk
       let down : SeesDown (view_of f x [] k) h.0 (before k) = s.nodes k _ (down_at j k (omega arith)) in
       let g = started f x [] k h.0 (before k) (some_up j) (record { run = s.run; nodes = λ i n other is. s.nodes i n is; absent = λ i other is. s.absent i is; confirms = λ i n other is. s.confirms i n is; posts = s.posts; fresh = s.fresh; now = s.now }) down (none_decided k h.0 down)
       (λ one inc. subst (λ (i : ℕ). is_some (at_number x (let n = recovered_naming inc (let d = first_disk hd i in d.names) in n.objects)) ≡ true) (sym one) (entry refl inc)) in
-      (g.0, (let t = g.1 in with_here f x [] k (first_disk hd k) (Some (parts_in k 1 (first_disk hd k))) g.0 (some_up j) t.others t.up (none_up k g.0 (let N = some_up j in N.sent))), tied_still h.0 g.0 (let t = g.1 in t.moved) h.2)
+      (g.0, (let t = g.1 in with_here f x [] k (first_disk hd k) (Some (parts_in k 1 (first_disk hd k))) g.0 (some_up j) t.others t.up (none_up k g.0 (let N = some_up j in N.sent) (t.nobody ∙ h.3))), tied_still h.0 g.0 (let t = g.1 in t.moved) h.2, (let t = g.1 in t.nobody ∙ h.3))
 
   -- a place is within the list
   within : {A : Type 0} (items : List A) (k : ℕ) (a : A) → slice_get items k ≡ Some a → k < length items
@@ -199,7 +211,7 @@ module _ (hd : Header) (f : Fixed) (x : ℕ) (entry : KnowsEntry x 1 (first_disk
           run = s.run;
           nodes = λ k n is. (let p = placed k n is in s.nodes k n (up_at (length all) k p.0 p.1 ∙ ap Some (first_at hd k n is)));
           absent = λ k is. (before k, s.nodes k (record { number = k; disk = before k; live = None }) (still_down k is));
-          confirms = λ k n is. (let p = placed k n is in subst (λ (ps : List Post). HaveConfirms f x h.0 ps n.disk n.live) (sent_none (length all)) (s.confirms k n (up_at (length all) k p.0 p.1 ∙ ap Some (first_at hd k n is))));
+          confirms = λ k n is. (let p = placed k n is in subst (λ (ps : List Post). HaveConfirms f x k h.0 ps n.disk n.live) (sent_none (length all)) (s.confirms k n (up_at (length all) k p.0 p.1 ∙ ap Some (first_at hd k n is))));
           posts = λ p there. absurd there;
           fresh = s.fresh;
           now = subst (λ (ls : List Line). (let S = h.0 in S.now) ≤ length ls + 1) (lines_none (length all)) s.now;

@@ -18,6 +18,7 @@ use Rattle.arj_view_law.specs.Seen.{Seen}
 use Rattle.arj_view_law.specs.Walks.{halted}
 use Rattle.arj_lock_view_law.specs.Actions.{IsIdle, IsSteady}
 use Rattle.arj_lock_view_law.specs.Begins.{IsUntouched}
+use Rattle.arj_lock_view_law.specs.Going.{NobodyConfirmed}
 use Rattle.arj_lock_view_law.specs.Stops.{IfDecided, IsUnitOf, OnlyStopped}
 use Rattle.arj_lock_view_law.specs.Telling.{View}
 use Rattle.arj_lock_view_law.proofs.StopSteps.{stops_are_taken, stops_stay}
@@ -38,10 +39,10 @@ module _ (f : Fixed) (x : ℕ) (begun : List Action) (k : ℕ) where
 
   -- ---- a node that is down
 
-  down_halted : (e : ℕ) (S : State) (d : Disk) (M : Seen) → SeesOthers f x begun k S M → SeesDown v S d → HaveConfirms f x S M.sent d None → SeesLocks f x begun S (halted e k d M)
+  down_halted : (e : ℕ) (S : State) (d : Disk) (M : Seen) → SeesOthers f x begun k S M → SeesDown v S d → HaveConfirms f x k S M.sent d None → SeesLocks f x begun S (halted e k d M)
   down_halted e S d M others s confirms = with_here f x begun k d None S _ (said_others f x begun k e (body.Halted k ∷ []) S M others) s confirms
 
-  pub halt_down : (e : ℕ) (S : State) (d : Disk) (M : Seen) → SeesOthers f x begun k S M → SeesDown v S d → HaveConfirms f x S M.sent d None → IsTiedNow f x begun S M.lines → (T : State) × SeesLocks f x begun T (halted e k d M) × AreTied f x (let N = halted e k d M in N.lines) T × Run S T
+  pub halt_down : (e : ℕ) (S : State) (d : Disk) (M : Seen) → SeesOthers f x begun k S M → SeesDown v S d → HaveConfirms f x k S M.sent d None → IsTiedNow f x begun S M.lines → (T : State) × SeesLocks f x begun T (halted e k d M) × AreTied f x (let N = halted e k d M in N.lines) T × Run S T
   halt_down e S d M others s confirms now = (S, down_halted e S d M others s confirms, tied_down f x begun e k s.tree s.last S M.lines s.past s.stopped now, stay)
 
   -- ---- a node that is up
@@ -87,13 +88,14 @@ module _ (f : Fixed) (x : ℕ) (begun : List Action) (k : ℕ) where
   -- where a top's record is on the disk that is left, it is decided, and has no line yet
   pub halt_last : (last : Option Uid) (e : ℕ) (R S : State) (d g : Disk) (t : Parts) (M : Seen) → IfDecided f.act t.coord last S → g.inc ≡ d.inc → ((u : Uid) → last ≡ Some u → is_some (at_uid u g.intents) ≡ true) → AreRecordsOf v last g.intents S
       → IsSteady f.act f.paths t.coord → ((u : Uid) (b : Branch) → branch_of u t.coord.tree ≡ Some b → Contains begun (action_of b)) → t.server.inc ≡ d.inc → t.coord.tree.node ≡ k
-      → HoldsNamingIn (record { fixed = f; x = x; begun = begun; state = R }) k t.naming → SeesOthers f x begun k S M → SeesUp v S d t → HaveConfirms f x S M.sent g None → IsTiedNow f x begun S M.lines → (T : State) × SeesLocks f x begun T (halted e k g M) × AreTied f x (let N = halted e k g M in N.lines) T × Run S T
+      → HoldsNamingIn (record { fixed = f; x = x; begun = begun; state = R }) k t.naming → SeesOthers f x begun k S M → SeesUp v S d t → HaveConfirms f x k S M.sent g None → IsTiedNow f x begun S M.lines → (T : State) × SeesLocks f x begun T (halted e k g M) × AreTied f x (let N = halted e k g M in N.lines) T × Run S T
   halt_last last e R S d g t M decided inc there records steady of level node holds others s confirms now =
       let h = stops_are_taken f.act f.code f.paths x t.coord last S steady decided s.coord in
       let T = h.state in
       let only = h.holds.1 in
+      let nobody : NobodyConfirmed S T = ap (λ (z : State). z.confirmed) only.rest in
       let reached = reached_of f x begun k S M others in
-      let next = others_go f x begun k S T M others h.run (λ j disk live other seen. memory_stopped S T reached h.run v t.coord.tree steady.alike s.home only j disk live other seen) (fresh_stopped S T t steady of only others.fresh) (let q = others.now in let e : T.now ≡ S.now = ap (λ (z : State). z.now) only.rest in omega (arith, q, e)) in
+      let next = others_go f x begun k S T M others h.run (λ elsewhere. nobody) (λ j disk live other seen. memory_stopped S T reached h.run v t.coord.tree steady.alike s.home only j disk live other seen) (fresh_stopped S T t steady of only others.fresh) (let q = others.now in let e : T.now ≡ S.now = ap (λ (z : State). z.now) only.rest in omega (arith, q, e)) in
       let sees = up_stopped S T reached h.run v t.coord.tree only d t s in
       let fall = fallen f x begun k R T M t g.inc next (level ∙ sym inc) holds s.place (λ n is. s.inc n is ∙ sym inc) sees.0 sees.1 in
       let U = fall.0 in
@@ -110,11 +112,11 @@ module _ (f : Fixed) (x : ℕ) (begun : List Action) (k : ℕ) where
           home = s.home;
           past = past_on S U ends v t.coord.tree s.past;
           records = records_on S U ends v last g.intents records;
-        }) (confirms_later f x S U reached (go_on h.run z.run) M.sent M.sent (λ r i. i) g None confirms),
+        }) (confirms_later f x k S U reached (go_on h.run z.run) (λ one. z.nobody ∙ nobody) M.sent M.sent (λ r i. i) g None confirms),
         (let y = tied_moved f x begun T U (let N = halted e k g M in N.lines) z.moved (tied_behind f x begun e (body.Halted k ∷ []) S T M.lines (refl, tt) now (tied_halts f x begun e k t.coord.tree last S T M.lines node s.past h.holds.0 only now)) in y.tied),
         go_on h.run z.run,
       )
 
   pub halt_up : (e : ℕ) (R S : State) (d : Disk) (t : Parts) (M : Seen) → IsSteady f.act f.paths t.coord → ((u : Uid) (b : Branch) → branch_of u t.coord.tree ≡ Some b → Contains begun (action_of b)) → t.server.inc ≡ d.inc → t.coord.tree.node ≡ k
-      → HoldsNamingIn (record { fixed = f; x = x; begun = begun; state = R }) k t.naming → SeesOthers f x begun k S M → SeesUp v S d t → HaveConfirms f x S M.sent d None → IsTiedNow f x begun S M.lines → (T : State) × SeesLocks f x begun T (halted e k d M) × AreTied f x (let N = halted e k d M in N.lines) T × Run S T
+      → HoldsNamingIn (record { fixed = f; x = x; begun = begun; state = R }) k t.naming → SeesOthers f x begun k S M → SeesUp v S d t → HaveConfirms f x k S M.sent d None → IsTiedNow f x begun S M.lines → (T : State) × SeesLocks f x begun T (halted e k d M) × AreTied f x (let N = halted e k d M in N.lines) T × Run S T
   halt_up e R S d t M steady of level node holds others s confirms now = halt_last None e R S d d t M tt refl (λ u is. absurd (cc is)) s.records steady of level node holds others s confirms now

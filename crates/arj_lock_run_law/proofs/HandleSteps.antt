@@ -1,8 +1,8 @@
 -- A node takes a message that isn't for its coordinator: the machine goes along, and the object is seen in the whole world.
-use Rattle.std.proofs.Common.{◌≡◌, ◌⊎◌, ◌∙◌, ◌==◌, ℕ, List, [], ◌∷◌, true, cond, eqb-true, length, Option, Some, None, refl, sym, ap, subst, inl, inr, ⊎_elim, Contains, arith}
-use Rattle.std.specs.Prelude.{is_some}
+use Rattle.std.proofs.Common.{◌≡◌, ◌⊎◌, ◌∙◌, ◌==◌, ℕ, List, [], ◌∷◌, Bool, true, cond, eqb-true, length, Option, Some, None, refl, sym, ap, subst, inl, inr, ⊎_elim, Contains, arith}
+use Rattle.std.specs.Prelude.{⊤, is_some}
 use Rattle.arj_lock.proofs.Members as list
-use Rattle.arj_lock.proofs.Members.{in_to}
+use Rattle.arj_lock.proofs.Members.{in_from, in_to}
 use Rattle.arj_protocol.specs.Words.{Ask, Asked, End, Head, Message, ObjectState, Uid, asks, is_on}
 use Rattle.arj_protocol.specs.Words.ask
 use Rattle.arj_protocol.specs.Words.ending
@@ -10,14 +10,14 @@ use Rattle.arj_protocol.specs.Words.message
 use Rattle.arj_protocol.specs.Words.role
 use Rattle.arj_protocol.specs.Words.voted
 use Rattle.arj_protocol.specs.Words.confirmed
-use Rattle.arj_protocol.specs.Ask.{Reply, answers, asked_by, last_end, response}
+use Rattle.arj_protocol.specs.Ask.{Reply, answers, asked_by, last_end, response, top_of}
 use Rattle.arj_protocol.specs.Coord.{Coord}
 use Rattle.arj_protocol.specs.Effect.{Disk, Do, Effect, Prepare, Say, Send, is_prepared}
 use Rattle.arj_protocol.specs.Named.{Named}
 use Rattle.arj_protocol.specs.Naming.{Naming}
 use Rattle.arj_protocol.specs.Node.{Handled, Parts, Took, Void, handle, handle_ask, is_meant, taken}
 use Rattle.arj_protocol.specs.Tree.{Branch, branch_of}
-use Rattle.arj_lock_law.specs.Actions.{Act, In}
+use Rattle.arj_lock_law.specs.Actions.{Act, In, is_top}
 use Rattle.arj_lock_law.specs.Machine.{Run}
 use Rattle.arj_lock_law.specs.State as state
 use Rattle.arj_lock_law.specs.State.{Ballot, State}
@@ -29,30 +29,32 @@ use Rattle.arj_view_law.specs.Seen.{Post, Seen, Within}
 use Rattle.arj_view_law.specs.Walks.{Up, Walks}
 use Rattle.arj_lock_view_law.specs.Actions.{IsSteady}
 use Rattle.arj_lock_view_law.specs.Calling.{IsReached}
-use Rattle.arj_lock_view_law.specs.Going.{Goes, OnlyNaming}
+use Rattle.arj_lock_view_law.specs.Going.{Goes, NobodyConfirmed, OnlyNaming}
 use Rattle.arj_lock_view_law.specs.Handling.{AreAnswersShown, OnlyServing, ShowsReply, server_after}
-use Rattle.arj_lock_view_law.specs.Hearing.{AreRepliesShown, IsAskedShown, IsEndShown, IsOtherShown, IsRequestShown, IsShownBy, SeesNamingIn, ShowsNamingReply, Site, naming_after}
+use Rattle.arj_lock_view_law.specs.Hearing.{AreConfirmsAnswered, AreRepliesShown, IsAskedShown, IsEndShown, IsOtherShown, IsRequestShown, IsShownBy, SeesNamingIn, ShowsNamingReply, Site, naming_after}
 use Rattle.arj_lock_view_law.specs.Inputs.{SeesWhole}
 use Rattle.arj_lock_view_law.specs.Namings.{ShowsEndAt}
 use Rattle.arj_lock_view_law.specs.Telling.{Sees, View}
 use Rattle.arj_lock_view_law.proofs.HandledSteps.{messages_are_taken}
 use Rattle.arj_lock_view_law.proofs.HearingSteps.{messages_are_heard}
 use Rattle.arj_lock_view_law.proofs.ReplySteps.{replies_stay_shown}
-use Rattle.arj_lock_run_law.specs.Beside.{Case, HoldsNamingIn, IsSeenIn, KnowsSpot, Spot, view_in, world_at}
+use Rattle.arj_lock_run_law.specs.Beside.{Case, HoldsNamingIn, IsSeenIn, KnowsSpot, Spot, told_in, view_in, world_at}
 use Rattle.arj_lock_run_law.specs.Posts.{IsAnswerSeen, IsPostSeen}
 use Rattle.arj_lock_run_law.specs.Fixed.{Fixed}
-use Rattle.arj_lock_run_law.specs.Sees.{AreHome, ArePast, HasConfirm, HaveConfirms, SeesUp}
+use Rattle.arj_lock_run_law.specs.Sees.{AreHome, ArePast, HasConfirm, HaveConfirms, IsConfirmedAt, IsOverIn, SeesUp}
 use Rattle.arj_lock_run_law.specs.World.{IsSeenSo, MessagesGo, is_for_parts}
-use Rattle.arj_lock_run_law.proofs.ConfirmSteps.{IsNew, IsNoted, Notes, message_noted, named_grant, yes_alone}
+use Rattle.arj_lock_run_law.proofs.ConfirmSteps.{IsLast, IsNew, IsNoted, IsSentLast, Notes, ended_by, message_noted, named_by, named_grant, yes_alone}
+use Rattle.arj_lock_run_law.proofs.EndedSteps.{ended_over}
 use Rattle.arj_lock_run_law.proofs.GoodSteps.{good_node, its, server_level, steady}
 use Rattle.arj_lock_run_law.proofs.HaltSteps.{halt_up}
 use Rattle.arj_lock_run_law.proofs.LeftSteps.{AreSentTo, IsLeft, IsPlain, IsSentTo, Leaves, message_left, void_without}
 use Rattle.arj_lock_run_law.proofs.MoveSteps.{action_is, action_named, coord_named, coord_serving, memory_named, memory_serving, naming_serving, sees_named}
-use Rattle.arj_lock_run_law.proofs.NameSteps.{confirms_later}
+use Rattle.arj_lock_run_law.proofs.NameSteps.{confirm_later}
 use Rattle.arj_lock_run_law.proofs.OtherSteps.{SeesOthers, confirms_of, fresh_named, fresh_on, now_named, others_go, others_of, past_on, records_on}
 use Rattle.arj_lock_run_law.proofs.ShownSteps.{shown_to_naming, shown_to_server, up_here}
-use Rattle.arj_lock_run_law.proofs.TieSteps.{IsMoved, moved_named, moved_serving, moved_then, tied_moved, tied_now}
-use Rattle.arj_lock_run_law.proofs.WalkSteps.{AreSendsSeen, up_same, walked}
+use Rattle.arj_lock_run_law.proofs.TieSteps.{IsMoved, IsTiedNow, moved_named, moved_serving, moved_then, tied_moved, tied_now}
+use Rattle.arj_lock_run_law.proofs.WalkSteps.{AreSendsSeen, HasSame, KeepsWho, StopsWell, up_same, walked}
+use Rattle.arj_lock_run_law.proofs.WhoSteps.{IsAnew, IsKept, keeps_who}
 
 -- ---- what naming counts on is left by a server
 
@@ -147,8 +149,11 @@ module _ (c : Case) (s : Spot) (from : ℕ) (m : Message) (p : Parts) (outs : Li
   reached_behind : IsReached behind_server
   reached_behind = (f.first, go_on others_S.run first.run)
 
+  nobody_behind : NobodyConfirmed S behind_server
+  nobody_behind = ap (λ (z : State). z.confirmed) only_serving.rest
+
   others_behind : SeesOthers f c.x c.begun k behind_server M
-  others_behind = others_go f c.x c.begun k S behind_server M others_S first.run (λ j disk live other seen_there. memory_serving V m S behind_server only_serving (view_in c j) disk live other seen_there)
+  others_behind = others_go f c.x c.begun k S behind_server M others_S first.run (λ elsewhere. nobody_behind) (λ j disk live other seen_there. memory_serving V m S behind_server only_serving (view_in c j) disk live other seen_there)
       (fresh_on f c.begun S behind_server (action_is V m S behind_server only_serving) (ap (λ (z : State). z.kept) only_serving.rest) (ap (λ (z : State). z.calls) only_serving.rest) (ap (λ (z : State). z.includes) only_serving.rest) others_S.fresh)
       (let o = others_S.now in let e : behind_server.now ≡ S.now = ap (λ (z : State). z.now) only_serving.rest in omega (arith, o, e))
 
@@ -168,6 +173,7 @@ module _ (c : Case) (s : Spot) (from : ℕ) (m : Message) (p : Parts) (outs : Li
     up : SeesUp V T d p
     answers : AreAnswersShown V T outs (asks m)
     replies : AreRepliesShown V T outs (asks m)
+    anew : AreConfirmsAnswered V from S T outs (asks m)
 
   up_with : (T : State) → T.action ≡ S.action → Sees V p.server T → SeesWhole f.act f.code c.x t.coord T → SeesNamingIn V T p.naming → SeesUp V T d p
   up_with T same server coord naming =
@@ -185,8 +191,8 @@ module _ (c : Case) (s : Spot) (from : ℕ) (m : Message) (p : Parts) (outs : Li
 
   at_one : k ≡ 1 → (T : State) × HasGone T
   at_one one =
-      let g : Goes behind_server (λ T. SeesNamingIn V T p.naming × OnlyNaming behind_server T × AreRepliesShown V T outs (asks m)) =
-      subst (λ (r : Handled). Goes behind_server (λ T. SeesNamingIn V T (naming_after t r) × OnlyNaming behind_server T × AreRepliesShown V T (outs_of r) (asks m))) taken_is
+      let g : Goes behind_server (λ T. SeesNamingIn V T p.naming × OnlyNaming behind_server T × AreRepliesShown V T outs (asks m) × AreConfirmsAnswered V from behind_server T outs (asks m)) =
+      subst (λ (r : Handled). Goes behind_server (λ T. SeesNamingIn V T (naming_after t r) × OnlyNaming behind_server T × AreRepliesShown V T (outs_of r) (asks m) × AreConfirmsAnswered V from behind_server T (outs_of r) (asks m))) taken_is
       (messages_are_heard site t from m behind_server (naming_counts site V m S behind_server only_serving t.naming (shown_to_naming c s from m is_seen knows there)) naming_behind) in
       let behind_naming = g.state in
       let only = g.holds.1 in (
@@ -194,12 +200,13 @@ module _ (c : Case) (s : Spot) (from : ℕ) (m : Message) (p : Parts) (outs : Li
         record {
           moved = moved_then S behind_server behind_naming (moved_serving V m S behind_server only_serving) (moved_named behind_server behind_naming only);
           run = go_on first.run g.run;
-          others = others_go f c.x c.begun k behind_server behind_naming M others_behind g.run (λ j disk live other seen_there. memory_named behind_server behind_naming reached_behind g.run only (view_in c j) disk live (λ its. other (its ∙ sym one)) seen_there)
+          others = others_go f c.x c.begun k behind_server behind_naming M others_behind g.run (λ elsewhere. absurd (elsewhere one)) (λ j disk live other seen_there. memory_named behind_server behind_naming reached_behind g.run only (view_in c j) disk live (λ its. other (its ∙ sym one)) seen_there)
               (fresh_named f c.begun behind_server behind_naming only others_behind.fresh)
               (now_named behind_server behind_naming (length M.lines) only others_behind.now);
           up = up_with behind_naming (action_named behind_server behind_naming reached_behind g.run only ∙ action_is V m S behind_server only_serving) (sees_named behind_server behind_naming reached_behind g.run only V p first.holds.0) (coord_named behind_server behind_naming reached_behind g.run only V t.coord coord_behind) g.holds.0;
           answers = later_answers behind_naming g.run (asks m) first.holds.2;
           replies = g.holds.2;
+          anew = λ a on. ⊎_elim (λ was. inl (sym (ap (λ (h : Act → Bool). h a) nobody_behind) ∙ was)) (λ new. inr new) (g.holds.3 a on);
         },
       )
     where
@@ -217,6 +224,7 @@ module _ (c : Case) (s : Spot) (from : ℕ) (m : Message) (p : Parts) (outs : Li
       up = up_with behind_server (action_is V m S behind_server only_serving) first.holds.0 coord_behind (none_there p.naming (let l = left.0 in l.place ∙ here.place));
       answers = first.holds.2;
       replies = no_replies (asks m) refl;
+      anew = λ a on. inl (sym (ap (λ (h : Act → Bool). h a) nobody_behind) ∙ on);
     },
   )
     where
@@ -318,8 +326,11 @@ module _ (c : Case) (s : Spot) (from : ℕ) (m : Message) (p : Parts) (outs : Li
   -- ---- the walk
 
   -- whom it confirmed, as far as it is known now
-  had : (T : State) → HasGone T → HaveConfirms f c.x T M.sent d (Some t)
-  had T has = confirms_later f c.x S T (f.first, others_S.run) has.run M.sent M.sent (λ r i. i) d (Some t) (confirms_of f c.x c.begun k d (Some t) S M is_seen.sees)
+  before : (u : Uid) → IsConfirmedAt u d (Some t) → HasConfirm f c.x S M.sent u
+  before = (confirms_of f c.x c.begun k d (Some t) S M is_seen.sees).0
+
+  had : (T : State) → HasGone T → (u : Uid) → IsConfirmedAt u d (Some t) → HasConfirm f c.x T M.sent u
+  had T has u at = confirm_later f c.x S T (f.first, others_S.run) has.run M.sent M.sent (λ r i. i) u (before u at)
 
   -- who is confirmed anew: the Confirm is there, and it is answered Yes
   anew : (T : State) → HasGone T → (u : Uid) → IsNew from (asks m) outs u → HasConfirm f c.x T M.sent u
@@ -338,8 +349,11 @@ module _ (c : Case) (s : Spot) (from : ℕ) (m : Message) (p : Parts) (outs : Li
         subst (λ (w : Uid). T.confirmed (f.act w) ≡ true) new.top (shows g.0 g.1));
   }
 
-  noted : IsNoted t from (asks m) p outs
-  noted = subst (Notes t from (asks m)) is (message_noted k d t from m mine)
+  abbrev last : Option (Uid × End)
+  last = last_end (told_in m)
+
+  noted : IsNoted t from (asks m) last p outs
+  noted = subst (Notes t from (asks m) last) is (message_noted k d t from last m mine refl)
 
   -- so it is of all whom naming confirmed now
   confirmed_now : (T : State) → HasGone T → (n : Naming) (u : Uid) → p.naming ≡ Some n → is_on n.confirmed u ≡ true → HasConfirm f c.x T M.sent u
@@ -350,17 +364,87 @@ module _ (c : Case) (s : Spot) (from : ℕ) (m : Message) (p : Parts) (outs : Li
   ready_now T has u (inl prepared) = had T has u (inl prepared)
   ready_now T has u (inr (states, i)) = anew T has u (noted.readied u states i)
 
+  -- ---- a stop
+
+  known : (u : Uid) (b : Branch) → branch_of u t.coord.tree ≡ Some b → Contains c.begun (action_of b)
+  known u b found = (let g = good_node c s is_seen in let h = g.coord in h.known) u b found
+
+  module _ (e : ℕ) (after : HoldsNamingIn c s.node p.naming) (T : State) (has : HasGone T) where
+    abbrev Stop : Disk → Seen → Type 0
+    Stop h N = StopsWell f c.x c.begun k e S h N
+
+    -- once the machine went along
+    halt : (h : Disk) (N : Seen) → HasSame d.inc d.intents h → SeesOthers f c.x c.begun k T N → HaveConfirms f c.x k T N.sent h None → IsTiedNow f c.x c.begun T N.lines → Stop h N
+    halt h N same others confirms now =
+        let u = halt_up f c.x c.begun k e S T h p N (subst (λ (q : Coord). IsSteady f.act f.paths q) (sym (let l = left.0 in l.coord)) (steady c s is_seen)) known_then (server_level c s is_seen from m p outs is ∙ sym same.0) (ap (λ (q : Coord). (let t = q.tree in t.node)) (let l = left.0 in l.coord) ∙ (let i = its c s is_seen in i.node)) after others (up_same f c.x c.begun k T d h p same.0 same.1 has.up) confirms now in
+        (u.0, u.1, u.2, go_on has.run u.3)
+      where
+        known_then : (u : Uid) (b : Branch) → branch_of u p.coord.tree ≡ Some b → Contains c.begun (action_of b)
+        known_then u b found = known u b (subst (λ (q : Coord). branch_of u q.tree ≡ Some b) (let l = left.0 in l.coord) found)
+
+    -- or where it is left as it was
+    halt_back : (h : Disk) (N : Seen) → HasSame d.inc d.intents h → SeesOthers f c.x c.begun k S N → HaveConfirms f c.x k S N.sent h None → IsTiedNow f c.x c.begun S N.lines → Stop h N
+    halt_back h N same others confirms now = halt_up f c.x c.begun k e S S h t N (steady c s is_seen) known ((let i = its c s is_seen in i.server) ∙ sym same.0) (let i = its c s is_seen in i.node) holds_before others (up_same f c.x c.begun k S d h t same.0 same.1 here) confirms now
+      where
+        holds_before : HoldsNamingIn c s.node t.naming
+        holds_before n at = (let z = knows.naming n at in z.holds)
+
+    -- ---- the walk
+
+    abbrev Goes_on : Type 0
+    Goes_on = Walks (IsSeenSo c) e k outs (Up (IsSeenSo c) k p) d M
+
+    goes_with : (I : List Effect → Disk → Seen → Type 0) → KeepsWho f c.x c.begun k S T e (HasSame d.inc d.intents) I → I outs d M → Goes_on
+    goes_with I keeps begin = walked f c.x c.begun k S T e p d.inc d.intents M.sent I keeps halt has.run (λ h same. up_same f c.x c.begun k T d h p same.0 same.1 has.up) (confirmed_now T has)
+        outs d M begin (sends_by T has outs (λ to z i. i)) (let l = left.0 in l.plain) (λ r i. i) (ready_now T has) (refl, refl) has.others (tied_moved f c.x c.begun S T M.lines has.moved (tied_now c (world_at s) is_seen))
+
+    -- elsewhere nobody is confirmed
+    goes_elsewhere : (k ≡ 1 → ⊥) → Goes_on
+    goes_elsewhere other = goes_with (λ es h N. ⊤) (record { works = λ w es h N i. tt; says = λ b es h N plain i. tt; sends = λ to z es h N more quiet i. tt; stops = λ how w es h N same i. inl (λ at. absurd (other at)); ends = λ h N i at. absurd (other at) }) tt
+
+    module _ (one : k ≡ 1) where
+      over : (u : Uid) → ended_by t.naming last u ≡ true → is_top (f.act u) ≡ true → S.confirmed (f.act u) ≡ true → IsOverIn (f.act u) S
+      over u ends top on = ended_over c s from m is_seen there t.naming knows.naming u ends top
+
+      abbrev Anew : Uid → Type 0
+      Anew u = IsAnew f c.x c.begun k S T e from m (HasSame d.inc d.intents) one (f.first, others_S.run) has.run M.sent there (ended_by t.naming last) over halt_back u
+
+      abbrev Kept : List Effect → Disk → Seen → Type 0
+      Kept = IsKept f c.x c.begun k S T e from m (HasSame d.inc d.intents) one (f.first, others_S.run) has.run M.sent there (ended_by t.naming last) over halt_back
+
+      -- who is confirmed anew, and of whom entries are prepared
+      as_anew : (u : Uid) → IsNew from (asks m) outs u → Anew u
+      as_anew u new = record { head = new.head; grants = new.grants; excluded = new.excluded; included = new.included; is = new.is; top = new.top }
+
+      begins : Kept outs d M
+      begins = record {
+        within = λ q i. i;
+        old = (confirms_of f c.x c.begun k d (Some t) S M is_seen.sees).1 one;
+        new = λ u top on. ⊎_elim (λ was. inl was) (λ a. inr (
+          record { head = a.head; grants = a.grants; excluded = a.excluded; included = a.included; is = a.is; top = sym (its_one u (top_of (let h = a.head in h.path)) a.top) },
+          named_by c.x a.grant a.grants a.given,
+          inl (in_from (Send from (response (asked_by a.head) (Reply.Confirmed confirmed.Yes))) outs a.yes),
+        )) (has.anew (f.act u) on);
+        ends = noted.ends;
+        had = λ u prepared. inl (before u (inl prepared));
+        readied = λ u states i. as_anew u (noted.readied u states i);
+        back = λ h grants excluded included at. (last_one h grants excluded included at (asks m) at noted.sends, inl (others_S, tied_now c (world_at s) is_seen));
+      }
+        where
+          its_one : (u w : Uid) → f.act u ≡ f.act w → u ≡ w
+          its_one u w same = (let a = is_seen.agrees in let h = a.whole in let l = h.alike in l.one u w same)
+
+          last_one : (h : Head) (grants excluded included : List (ℕ × ℕ)) → asks m ≡ Some (h, ask.Confirm grants excluded included) → (q : Option (Head × Ask)) → q ≡ Some (h, ask.Confirm grants excluded included) → IsSentLast q outs → IsLast outs
+          last_one h grants excluded included at q its sends = subst (λ (z : Option (Head × Ask)). IsSentLast z outs) its sends
+
+      goes_here : Goes_on
+      goes_here = goes_with Kept (keeps_who f c.x c.begun k S T e from m (HasSame d.inc d.intents) one (f.first, others_S.run) has.run M.sent there (ended_by t.naming last) over halt_back) begins
+
   pub message_goes : (e : ℕ) → HoldsNamingIn c s.node p.naming → Walks (IsSeenSo c) e k outs (Up (IsSeenSo c) k p) d M
-  message_goes e after =
-      let T = gone.0 in
-      let has = gone.1 in
-      walked f c.x c.begun k S T e p d.inc d.intents M.sent
-      (λ h N same others confirms now. let u = halt_up f c.x c.begun k e S T h p N (subst (λ (q : Coord). IsSteady f.act f.paths q) (sym (let l = left.0 in l.coord)) (steady c s is_seen)) known (server_level c s is_seen from m p outs is ∙ sym same.0) (ap (λ (q : Coord). (let t = q.tree in t.node)) (let l = left.0 in l.coord) ∙ (let i = its c s is_seen in i.node)) after others (up_same f c.x c.begun k T d h p same.0 same.1 has.up) confirms now in (u.0, u.1, u.2, go_on has.run u.3))
-      has.run (λ h same. up_same f c.x c.begun k T d h p same.0 same.1 has.up) (confirmed_now T has)
-      outs d M (sends_by T has outs (λ to z i. i)) (let l = left.0 in l.plain) (λ r i. i) (ready_now T has) (refl, refl) has.others (tied_moved f c.x c.begun S T M.lines has.moved (tied_now c (world_at s) is_seen))
+  message_goes e after = ⊎_elim (goes_here e after gone.0 gone.1) (goes_elsewhere e after gone.0 gone.1) (one_or k)
     where
-      known : (u : Uid) (b : Branch) → branch_of u p.coord.tree ≡ Some b → Contains c.begun (action_of b)
-      known u b found = (let g = good_node c s is_seen in let h = g.coord in h.known) u b (subst (λ (q : Coord). branch_of u q.tree ≡ Some b) (let l = left.0 in l.coord) found)
+      one_or : (j : ℕ) → (j ≡ 1) ⊎ (j ≡ 1 → ⊥)
+      one_or j = grind arith
 
 pub messages_go : MessagesGo
 messages_go c s e from m p outs is_seen knows after there mine meant is = message_goes c s from m p outs is_seen knows there mine meant is e after

@@ -10,6 +10,8 @@ pub mod TopSteps
 pub mod ShownSteps
 pub mod LeftSteps
 pub mod ConfirmSteps
+pub mod WhoSteps
+pub mod EndedSteps
 pub mod HandleSteps
 pub mod LineSteps
 pub mod RestartSteps

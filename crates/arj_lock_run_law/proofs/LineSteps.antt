@@ -23,4 +23,4 @@ pub stops_go : StopsGo
 stops_go c s e seen holds agrees =
     let z = seen.sees in
     halt_up c.fixed c.x c.begun s.node e c.state c.state s.disk s.parts s.seen (steady c s seen) (λ u b found. (let g = good_node c s seen in let h = g.coord in h.known u b found)) (let i = its c s seen in i.server) (let i = its c s seen in i.node) holds
-    (others_of c.fixed c.x c.begun s.node s.disk (Some s.parts) c.state s.seen z) (here_of c.fixed c.x c.begun s.node s.disk (Some s.parts) c.state s.seen z) (confirms_down c.fixed c.x c.state (let M = s.seen in M.sent) s.disk s.disk (Some s.parts) refl (confirms_of c.fixed c.x c.begun s.node s.disk (Some s.parts) c.state s.seen z)) (tied_now c (world_at s) seen)
+    (others_of c.fixed c.x c.begun s.node s.disk (Some s.parts) c.state s.seen z) (here_of c.fixed c.x c.begun s.node s.disk (Some s.parts) c.state s.seen z) (confirms_down c.fixed c.x s.node c.state (let M = s.seen in M.sent) s.disk s.disk (Some s.parts) refl (confirms_of c.fixed c.x c.begun s.node s.disk (Some s.parts) c.state s.seen z)) (tied_now c (world_at s) seen)

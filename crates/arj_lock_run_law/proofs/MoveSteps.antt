@@ -41,6 +41,7 @@ nothing_on inc S T same s = record {
   recorded = subst (λ (n : state.Naming). n.recorded < (inc + 1) * 4294967296) (sym same) s.recorded;
   empty = subst (λ (n : state.Naming). (a : Act) → (n.rows a ≡ 0) × (n.asked a ≡ false)) (sym same) s.empty;
   nobody = subst (λ (n : state.Naming). (a : Act) → (n.told a ≡ false) × (n.confirmed a ≡ false)) (sym same) s.nobody;
+  made = subst (λ (n : state.Naming). (m : Act) → n.made m < n.first) (sym same) s.made;
 }
 
 -- ---- where only memory and machine are at stake
@@ -138,6 +139,7 @@ module _ (S : State) (A : Act → state.Action) (line : ℕ) where
       live = λ l is. (let k = o.live l is in record { server = k.server; named = k.named; incarnation = k.incarnation });
       made = λ t m is. (let k = o.made t m is in record { last = k.last; server = k.server; maker = k.maker; sent = k.sent; noted = k.noted });
       asked = o.asked;
+      making = o.making;
     };
     told = s.told;
     confirmed = s.confirmed;

@@ -20,7 +20,7 @@ use Rattle.arj_view_law.specs.Seen.{Post, Seen, at, posted, said}
 use Rattle.arj_lock_view_law.specs.Actions.{IsIdle}
 use Rattle.arj_lock_view_law.specs.Begins.{IsUntouched}
 use Rattle.arj_lock_view_law.specs.Calling.{IsReached}
-use Rattle.arj_lock_view_law.specs.Going.{OnlyNaming}
+use Rattle.arj_lock_view_law.specs.Going.{NobodyConfirmed, OnlyNaming}
 use Rattle.arj_lock_view_law.specs.Telling.{HasEnded, View}
 use Rattle.arj_lock_run_law.specs.Fixed.{Fixed, view_of}
 use Rattle.arj_lock_run_law.specs.Posts.{IsPostSeen}
@@ -74,7 +74,7 @@ module _ (f : Fixed) (x : ℕ) (begun : List Action) where
     pub run : Run (start f.first) S
     pub nodes : (j : ℕ) (n : Node) → (j ≡ k → ⊥) → M.nodes j ≡ Some n → SeesMemory (view_of f x begun j) S n.disk n.live
     pub absent : (j : ℕ) → (j ≡ k → ⊥) → M.nodes j ≡ None → (d : Disk) × SeesDown (view_of f x begun j) S d
-    pub confirms : (j : ℕ) (n : Node) → (j ≡ k → ⊥) → M.nodes j ≡ Some n → HaveConfirms f x S M.sent n.disk n.live
+    pub confirms : (j : ℕ) (n : Node) → (j ≡ k → ⊥) → M.nodes j ≡ Some n → HaveConfirms f x j S M.sent n.disk n.live
     pub posts : (p : Post) → seen.In p M.sent → IsPostSeen f x begun M.sent S p
     pub fresh : IsFresh f begun S
     pub now : S.now ≤ length M.lines + 1
@@ -91,15 +91,15 @@ module _ (f : Fixed) (x : ℕ) (begun : List Action) where
   pub here_of : (k : ℕ) (d : Disk) (live : Option Parts) (S : State) (M : Seen) → SeesLocks f x begun S (at k d live M) → SeesMemory (view_of f x begun k) S d live
   here_of k d live S M s = s.nodes k (record { number = k; disk = d; live = live }) (node_here k d live M)
 
-  pub confirms_of : (k : ℕ) (d : Disk) (live : Option Parts) (S : State) (M : Seen) → SeesLocks f x begun S (at k d live M) → HaveConfirms f x S M.sent d live
+  pub confirms_of : (k : ℕ) (d : Disk) (live : Option Parts) (S : State) (M : Seen) → SeesLocks f x begun S (at k d live M) → HaveConfirms f x k S M.sent d live
   confirms_of k d live S M s = s.confirms k (record { number = k; disk = d; live = live }) (node_here k d live M)
 
-  pub with_here : (k : ℕ) (d : Disk) (live : Option Parts) (S : State) (M : Seen) → SeesOthers k S M → SeesMemory (view_of f x begun k) S d live → HaveConfirms f x S M.sent d live → SeesLocks f x begun S (at k d live M)
+  pub with_here : (k : ℕ) (d : Disk) (live : Option Parts) (S : State) (M : Seen) → SeesOthers k S M → SeesMemory (view_of f x begun k) S d live → HaveConfirms f x k S M.sent d live → SeesLocks f x begun S (at k d live M)
   with_here k d live S M s here confirms = record {
     run = s.run;
     nodes = λ j n is. ⊎_elim (λ (same : j ≡ k). its j same n is) (λ (other : j ≡ k → ⊥). s.nodes j n other (sym (node_there k d live M j other) ∙ is)) (apart j k);
     absent = λ j is. ⊎_elim (λ (same : j ≡ k). absurd (there (sym (node_here k d live M) ∙ ap (λ (i : ℕ). (let N = at k d live M in N.nodes i)) (sym same) ∙ is))) (λ (other : j ≡ k → ⊥). s.absent j other (sym (node_there k d live M j other) ∙ is)) (apart j k);
-    confirms = λ j n is. ⊎_elim (λ (same : j ≡ k). subst (λ (m : Node). HaveConfirms f x S M.sent m.disk m.live) (node_is j same n is) confirms) (λ (other : j ≡ k → ⊥). s.confirms j n other (sym (node_there k d live M j other) ∙ is)) (apart j k);
+    confirms = λ j n is. ⊎_elim (λ (same : j ≡ k). subst (λ (i : ℕ). HaveConfirms f x i S M.sent n.disk n.live) (sym same) (subst (λ (m : Node). HaveConfirms f x k S M.sent m.disk m.live) (node_is j same n is) confirms)) (λ (other : j ≡ k → ⊥). s.confirms j n other (sym (node_there k d live M j other) ∙ is)) (apart j k);
     posts = s.posts;
     fresh = s.fresh;
     now = s.now;
@@ -134,19 +134,19 @@ module _ (f : Fixed) (x : ℕ) (begun : List Action) where
     run = s.run;
     nodes = s.nodes;
     absent = s.absent;
-    confirms = λ j n other is. confirms_more f x S M.sent (p ∷ M.sent) (λ r i. inr i) n.disk n.live (s.confirms j n other is);
+    confirms = λ j n other is. confirms_more f x j S M.sent (p ∷ M.sent) (λ r i. inr i) n.disk n.live (s.confirms j n other is);
     posts = λ q there. ⊎_elim (λ (same : p ≡ q). subst (IsPostSeen f x begun (p ∷ M.sent) S) same its) (λ (old : seen.In q M.sent). posts_stay f x begun begun M.sent (p ∷ M.sent) q S S (λ a c. c) (λ r i. inr i) (reached_of k S M s) machine.stay (s.posts q old)) there;
     fresh = s.fresh;
     now = s.now;
   }
 
   -- the machine goes along
-  pub others_go : (k : ℕ) (S T : State) (M : Seen) → SeesOthers k S M → Run S T → ((j : ℕ) (d : Disk) (live : Option Parts) → (j ≡ k → ⊥) → SeesMemory (view_of f x begun j) S d live → SeesMemory (view_of f x begun j) T d live) → IsFresh f begun T → T.now ≤ length M.lines + 1 → SeesOthers k T M
-  others_go k S T M s run nodes fresh now = record {
+  pub others_go : (k : ℕ) (S T : State) (M : Seen) → SeesOthers k S M → Run S T → ((k ≡ 1 → ⊥) → NobodyConfirmed S T) → ((j : ℕ) (d : Disk) (live : Option Parts) → (j ≡ k → ⊥) → SeesMemory (view_of f x begun j) S d live → SeesMemory (view_of f x begun j) T d live) → IsFresh f begun T → T.now ≤ length M.lines + 1 → SeesOthers k T M
+  others_go k S T M s run nobody nodes fresh now = record {
     run = go_on s.run run;
     nodes = λ j n other is. nodes j n.disk n.live other (s.nodes j n other is);
     absent = λ j other is. (let a = s.absent j other is in (a.0, nodes j a.0 None other a.1));
-    confirms = λ j n other is. confirms_later f x S T (reached_of k S M s) run M.sent M.sent (λ r i. i) n.disk n.live (s.confirms j n other is);
+    confirms = λ j n other is. confirms_later f x j S T (reached_of k S M s) run (λ one. nobody (λ its. other (one ∙ sym its))) M.sent M.sent (λ r i. i) n.disk n.live (s.confirms j n other is);
     posts = λ p there. posts_stay f x begun begun M.sent M.sent p S T (λ a c. c) (λ r i. i) (reached_of k S M s) run (s.posts p there);
     fresh = fresh;
     now = now;

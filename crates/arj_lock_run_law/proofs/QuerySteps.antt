@@ -226,7 +226,7 @@ module _ (c : Case) (s : Spot) (is_seen : IsSeenIn c (world_at s)) where
         let End = Up P k s.parts in
         let outs = answer_query from u js C in
         subst (λ es. Walks P e k es End s.disk s.seen) (append-nil outs) (quiet_walk f c.x c.begun k e P End S sent s.disk outs [] answer_quiet answer_seen
-        (λ N w o now agrees. (S, with_here f c.x c.begun k s.disk (Some s.parts) S N o here (confirms_more f c.x S sent N.sent w s.disk (Some s.parts) (confirms_of f c.x c.begun k s.disk (Some s.parts) S s.seen is_seen.sees)), now.tied, stay)) s.seen (λ r i. i) others (tied_now c (world_at s) is_seen))
+        (λ N w o now agrees. (S, with_here f c.x c.begun k s.disk (Some s.parts) S N o here (confirms_more f c.x k S sent N.sent w s.disk (Some s.parts) (confirms_of f c.x c.begun k s.disk (Some s.parts) S s.seen is_seen.sees)), now.tied, stay)) s.seen (λ r i. i) others (tied_now c (world_at s) is_seen))
 
 pub queries_go : QueriesGo
 queries_go c s e from u is_seen about = query_goes c s is_seen from u about e

@@ -20,7 +20,7 @@ use Rattle.arj_lock_view_law.specs.Acting.{OnlyActed}
 use Rattle.arj_lock_view_law.specs.Actions.{IsIdle, IsPlaced}
 use Rattle.arj_lock_view_law.specs.Begins.{IsUntouched}
 use Rattle.arj_lock_view_law.specs.Ending.{ChangesOne, committed_at}
-use Rattle.arj_lock_view_law.specs.Going.{Goes}
+use Rattle.arj_lock_view_law.specs.Going.{Goes, NobodyConfirmed}
 use Rattle.arj_lock_view_law.specs.Stops.{HasStopped}
 use Rattle.arj_lock_view_law.specs.Telling.{AreOneTree, HasEnded, View}
 use Rattle.arj_lock_view_law.proofs.StopSteps.{records_are_found}
@@ -106,10 +106,13 @@ module _ (f : Fixed) (x : ℕ) (begun : List Action) (k : ℕ) (whole : AreOneTr
         same_in : (n : ℕ) → ((a : Action) → Contains begun a → root (f.act (act_of a)) ≡ n → ⊥) → (a : Act) → root a ≡ n → T.action a ≡ S.action a
         same_in n none a home = only.others a (λ same_unit. none its_action top.1 (ap (λ (z : Uid). root (f.act z)) top.2 ∙ sym same_unit ∙ home))
 
+    pub nobody_found : NobodyConfirmed S T
+    nobody_found = ap (λ (z : State). z.confirmed) only.rest
+
     pub others_found : SeesOthers f x begun k T N
     others_found =
         let o = said_others f x begun k e (line ∷ []) S M others in
-        others_go f x begun k S T N o g.run (λ j disk live other seen_there. memory_acted S T (reached_of f x begun k S N o) g.run v w whole.alike (s.home w branch found) only j disk live other seen_there) fresh_found
+        others_go f x begun k S T N o g.run (λ elsewhere. nobody_found) (λ j disk live other seen_there. memory_acted S T (reached_of f x begun k S N o) g.run v w whole.alike (s.home w branch found) only j disk live other seen_there) fresh_found
         (let h = g.holds.2 in let l : length N.lines ≡ length M.lines + 1 = length-append M.lines _ in omega (arith, h, l))
 
     -- the journal is tied with the line

@@ -35,12 +35,12 @@ use Rattle.arj_lock_view_law.specs.Telling.{AreOneTree, HasEnded, View}
 use Rattle.arj_lock_run_law.specs.Beside.{Case, IsSeenIn, KnowsEntry}
 use Rattle.arj_lock_run_law.specs.Fixed.{Fixed, family_of, view_of}
 use Rattle.arj_lock_run_law.specs.Posts.{AreToldSo, IsToldSo}
-use Rattle.arj_lock_run_law.specs.Sees.{HaveConfirms, SeesDown}
+use Rattle.arj_lock_run_law.specs.Sees.{HasConfirm, IsConfirmedAt, HaveConfirms, SeesDown}
 use Rattle.arj_lock_run_law.specs.World.{IsSeenSo, RestartsGo}
 use Rattle.arj_lock_run_law.proofs.HaltSteps.{halt_down}
 use Rattle.arj_lock_run_law.proofs.NameSteps.{confirms_down, confirms_later, confirms_more, found_keys}
 use Rattle.arj_lock_run_law.proofs.OtherSteps.{SeesOthers, confirms_of, here_of, others_of, posted_others, reached_of, said_others, with_here}
-use Rattle.arj_lock_run_law.proofs.RestartSteps.{down_found, others_found, run_record, tied_record}
+use Rattle.arj_lock_run_law.proofs.RestartSteps.{down_found, nobody_found, others_found, run_record, tied_record}
 use Rattle.arj_lock_run_law.proofs.StartSteps.{HasStarted, started}
 use Rattle.arj_lock_run_law.proofs.TieSteps.{IsTiedNow, tied_again, tied_moved, tied_now, tied_plain, tied_quiet}
 use Rattle.arj_lock_run_law.proofs.WalkSteps.{AreSendsSeen, IsSendSeen}
@@ -89,9 +89,9 @@ module _ (f : Fixed) (x : ℕ) (begun : List Action) (k e : ℕ) (P : Seen → T
 
   -- ---- records that are found
 
-  module _ (whole : AreOneTree (family_of f begun)) (R : State) (d D : Disk) (rest : List Effect) (go : (T : State) (N : Seen) → SeesOthers f x begun k T N → (z : SeesDown (view_of f x begun k) T d) → z.last ≡ None → HaveConfirms f x T N.sent d None → IsTiedNow f x begun T N.lines → Run R T → Walks P e k rest E D N) where
+  module _ (whole : AreOneTree (family_of f begun)) (R : State) (d D : Disk) (rest : List Effect) (go : (T : State) (N : Seen) → SeesOthers f x begun k T N → (z : SeesDown (view_of f x begun k) T d) → z.last ≡ None → HaveConfirms f x k T N.sent d None → IsTiedNow f x begun T N.lines → Run R T → Walks P e k rest E D N) where
     records_walk : (es : List (Uid × Intent)) → ((u : Uid) (i : Intent) → list.In {X = Uid × Intent} (u, i) es → IsTopAction begun u) → ((u : Uid) (i : Intent) → list.In {X = Uid × Intent} (u, i) es → list.In {X = Uid × Intent} (u, i) d.intents)
-        → (S : State) (N : Seen) → SeesOthers f x begun k S N → (s : SeesDown (view_of f x begun k) S d) → ((u : Uid) → s.last ≡ Some u → (i : Intent) × list.In {X = Uid × Intent} (u, i) es) → HaveConfirms f x S N.sent d None → IsTiedNow f x begun S N.lines → Run R S → Walks P e k (recovered_records k es ++ rest) E D N
+        → (S : State) (N : Seen) → SeesOthers f x begun k S N → (s : SeesDown (view_of f x begun k) S d) → ((u : Uid) → s.last ≡ Some u → (i : Intent) × list.In {X = Uid × Intent} (u, i) es) → HaveConfirms f x k S N.sent d None → IsTiedNow f x begun S N.lines → Run R S → Walks P e k (recovered_records k es ++ rest) E D N
     records_walk [] tops kept S N others s pending confirms now run = go S N others s (none s.last refl) confirms now run
       where
         none : (o : Option Uid) → s.last ≡ o → s.last ≡ None
@@ -110,12 +110,12 @@ module _ (f : Fixed) (x : ℕ) (begun : List Action) (k e : ℕ) (P : Seen → T
             first_of q = sym (ap (λ (z : Uid × Intent). z.0) q)
         later u other (j, inr there) = (j, there)
 
-        by : ((T : State) (L : Seen) → SeesOthers f x begun k T L → (z : SeesDown (view_of f x begun k) T d) → ((u : Uid) → z.last ≡ Some u → (j : Intent) × list.In {X = Uid × Intent} (u, j) es) → HaveConfirms f x T L.sent d None → IsTiedNow f x begun T L.lines → Run R T → Walks P e k (recovered_records k es ++ rest) E D L) → (o : Option Uid) → s.last ≡ o → Walks P e k (recovered_records k es ++ rest) E D (said e (body.Recovered k w ∷ []) N)
+        by : ((T : State) (L : Seen) → SeesOthers f x begun k T L → (z : SeesDown (view_of f x begun k) T d) → ((u : Uid) → z.last ≡ Some u → (j : Intent) × list.In {X = Uid × Intent} (u, j) es) → HaveConfirms f x k T L.sent d None → IsTiedNow f x begun T L.lines → Run R T → Walks P e k (recovered_records k es ++ rest) E D L) → (o : Option Uid) → s.last ≡ o → Walks P e k (recovered_records k es ++ rest) E D (said e (body.Recovered k w ∷ []) N)
         by next None is = next S _ (said_others f x begun k e (body.Recovered k w ∷ []) S N others) s (λ u its. absurd (let bad : None ≡ Some u = sym is ∙ its in cc bad)) confirms (old (λ its. (let bad : None ≡ Some w = sym is ∙ its in cc bad))) run
         by next (Some u) is = ⊎_elim
             (λ (same : u ≡ w). (let its : s.last ≡ Some w = is ∙ ap Some same in
             let z = down_found f x begun k whole S d w N e others s its (tops w i (inl refl)) in
-            next _ _ (others_found f x begun k whole S d w N e others s its (tops w i (inl refl))) z.0 (λ y none. absurd (let bad : None ≡ Some y = sym z.1 ∙ none in cc bad)) (confirms_later f x S _ (reached_of f x begun k S N others) (run_record f x begun k whole S d w N e others s its (tops w i (inl refl))) N.sent N.sent (λ r there. there) d None confirms) (tied_record f x begun k whole S d w N e others s its (tops w i (inl refl)) now) (go_on run (run_record f x begun k whole S d w N e others s its (tops w i (inl refl))))))
+            next _ _ (others_found f x begun k whole S d w N e others s its (tops w i (inl refl))) z.0 (λ y none. absurd (let bad : None ≡ Some y = sym z.1 ∙ none in cc bad)) (confirms_later f x k S _ (reached_of f x begun k S N others) (run_record f x begun k whole S d w N e others s its (tops w i (inl refl))) (λ one. nobody_found f x begun k whole S d w N e others s its (tops w i (inl refl))) N.sent N.sent (λ r there. there) d None confirms) (tied_record f x begun k whole S d w N e others s its (tops w i (inl refl)) now) (go_on run (run_record f x begun k whole S d w N e others s its (tops w i (inl refl))))))
             (λ (other : u ≢ w). next S _ (said_others f x begun k e (body.Recovered k w ∷ []) S N others) s (λ y its. later y (λ same. other (let two : ◌≡◌ {A = Option Uid} (Some u) (Some y) = sym is ∙ its in let one : u ≡ y = cc two in one ∙ same)) (pending y its)) confirms (old (λ its. other (let two : ◌≡◌ {A = Option Uid} (Some u) (Some w) = sym is ∙ its in cc two))) run)
             (uid_cases u w)
 
@@ -204,7 +204,7 @@ module _ (hd : Header) (c : Case) (e k : ℕ) (d : Disk) (M : Seen) (is_seen : I
   here_risen : SeesDown v S risen
   here_risen = record {
     server = (let s = here.server in record { last = s.last; low = (let l = s.low in omega (arith, l)); empty = s.empty });
-    naming = λ one. (let n = here.naming one in record { bound = (let b = n.bound in omega (arith, b)); first = (let b = n.first in omega (arith, b)); recorded = (let b = n.recorded in omega (arith, b)); empty = n.empty; nobody = n.nobody });
+    naming = λ one. (let n = here.naming one in record { bound = (let b = n.bound in omega (arith, b)); first = (let b = n.first in omega (arith, b)); recorded = (let b = n.recorded in omega (arith, b)); empty = n.empty; nobody = n.nobody; made = n.made });
     tree = here.tree;
     last = here.last;
     stopped = here.stopped;
@@ -214,17 +214,17 @@ module _ (hd : Header) (c : Case) (e k : ℕ) (d : Disk) (M : Seen) (is_seen : I
     records = here.records;
   }
 
-  halts : (D : Disk) (N : Seen) → SeesDown v S D → SeesOthers f c.x c.begun k S N → HaveConfirms f c.x S N.sent D None → IsTiedNow f c.x c.begun S N.lines → P (halted e k D N)
+  halts : (D : Disk) (N : Seen) → SeesDown v S D → SeesOthers f c.x c.begun k S N → HaveConfirms f c.x k S N.sent D None → IsTiedNow f c.x c.begun S N.lines → P (halted e k D N)
   halts D N s o h now agrees = halt_down f c.x c.begun k e S D N o s h now
 
-  looks : (D : Disk) (N : Seen) → SeesDown v S D → SeesOthers f c.x c.begun k S N → HaveConfirms f c.x S N.sent D None → IsTiedNow f c.x c.begun S N.lines → Stops P e k Look D N
+  looks : (D : Disk) (N : Seen) → SeesDown v S D → SeesOthers f c.x c.begun k S N → HaveConfirms f c.x k S N.sent D None → IsTiedNow f c.x c.begun S N.lines → Stops P e k Look D N
   looks D N s o h now Before = halts D N s o h now
   looks D N s o h now After = halts D N s o h now
   looks D N s o h now (InPart which) = halts D N s o h now
 
   -- whom naming had confirmed
-  had : (D : Disk) (N : Seen) → D.names ≡ d.names → Within M.sent N.sent → HaveConfirms f c.x S N.sent D None
-  had D N names within = confirms_down f c.x S N.sent d D None names (confirms_more f c.x S M.sent N.sent within d None (confirms_of f c.x c.begun k d None S M is_seen.sees))
+  had : (D : Disk) (N : Seen) → D.names ≡ d.names → Within M.sent N.sent → HaveConfirms f c.x k S N.sent D None
+  had D N names within = confirms_down f c.x k S N.sent d D None names (confirms_more f c.x k S M.sent N.sent within d None (confirms_of f c.x c.begun k d None S M is_seen.sees))
 
   rises : (N : Seen) → Within M.sent N.sent → SeesOthers f c.x c.begun k S N → IsTiedNow f c.x c.begun S N.lines → Stops P e k (PutInc inc) d N
   rises N w o now Before = halts d N here o (had d N refl w) now
@@ -241,12 +241,11 @@ module _ (hd : Header) (c : Case) (e k : ℕ) (d : Disk) (M : Seen) (is_seen : I
   Sent = tolds_again d.intents ++ (map query_about Hs ++ Hellos)
 
   -- naming confirms whose entries are prepared, and no one else
-  confirms_up : (T : State) (sent : List Post) → HaveConfirms f c.x T sent d None → HaveConfirms f c.x T sent risen (Some (parts_in k inc d))
-  confirms_up T sent have u (inl prepared) = have u (inl prepared)
-  confirms_up T sent have u (inr (t, n, is, at, on)) = have u (inl (found_keys u (let z = d.names in z.pend) ((λ i. is_on (confirmed_back (k == 1) n (ap (λ (z : Parts). z.naming) (one is) ∙ at) i) u) ∙ on)))
+  confirms_up : (T : State) (sent : List Post) → HaveConfirms f c.x k T sent d None → HaveConfirms f c.x k T sent risen (Some (parts_in k inc d))
+  confirms_up T sent have = (who, have.1)
     where
-      one : ◌≡◌ {A = Option Parts} (Some (parts_in k inc d)) (Some t) → parts_in k inc d ≡ t
-      one same = cc same
+      one : (t : Parts) → ◌≡◌ {A = Option Parts} (Some (parts_in k inc d)) (Some t) → parts_in k inc d ≡ t
+      one t same = cc same
 
       confirmed_back : (b : Bool) (n : Naming) → cond b (Some (recovered_naming inc d.names)) None ≡ Some n → prepared_actions d.names ≡ n.confirmed
       confirmed_back true n its = ap (λ (z : Naming). z.confirmed) (same its)
@@ -255,10 +254,14 @@ module _ (hd : Header) (c : Case) (e k : ℕ) (d : Disk) (M : Seen) (is_seen : I
           same q = cc q
       confirmed_back false n its = absurd (cc its)
 
+      who : (u : Uid) → IsConfirmedAt u risen (Some (parts_in k inc d)) → HasConfirm f c.x T sent u
+      who u (inl prepared) = have.0 u (inl prepared)
+      who u (inr (t, n, is, at, on)) = have.0 u (inl (found_keys u (let z = d.names in z.pend) ((λ i. is_on (confirmed_back (k == 1) n (ap (λ (z : Parts). z.naming) (one t is) ∙ at) i) u) ∙ on)))
+
   -- what is sent, and the end
-  ends_walk : (R T : State) → Run c.state T → (N : Seen) → HasStarted f c.x c.begun k R d N T → ((u : Uid) (i : Intent) → list.In {X = Uid × Intent} (u, i) d.intents → HasEnded v T u ending.Commit) → HaveConfirms f c.x T N.sent d None → IsTiedNow f c.x c.begun T N.lines → Walks P e k Sent E risen N
+  ends_walk : (R T : State) → Run c.state T → (N : Seen) → HasStarted f c.x c.begun k R d N T → ((u : Uid) (i : Intent) → list.In {X = Uid × Intent} (u, i) d.intents → HasEnded v T u ending.Commit) → HaveConfirms f c.x k T N.sent d None → IsTiedNow f c.x c.begun T N.lines → Walks P e k Sent E risen N
   ends_walk R T run N has so confirms now =
-      let end : (L : Seen) → Within N.sent L.sent → SeesOthers f c.x c.begun k T L → IsTiedNow f c.x c.begun T L.lines → Walks P e k [] E risen L = λ L w o n agrees. (T, with_here f c.x c.begun k risen (Some (parts_in k inc d)) T L o has.up (confirms_more f c.x T N.sent L.sent w risen (Some (parts_in k inc d)) (confirms_up T N.sent confirms)), n.tied, run) in
+      let end : (L : Seen) → Within N.sent L.sent → SeesOthers f c.x c.begun k T L → IsTiedNow f c.x c.begun T L.lines → Walks P e k [] E risen L = λ L w o n agrees. (T, with_here f c.x c.begun k risen (Some (parts_in k inc d)) T L o has.up (confirms_more f c.x k T N.sent L.sent w risen (Some (parts_in k inc d)) (confirms_up T N.sent confirms)), n.tied, run) in
       quiet_walk f c.x c.begun k e P E T N.sent risen (tolds_again d.intents) (map query_about Hs ++ Hellos) (tolds_quiet d.intents) (tolds_seen f c.x c.begun k T N.sent d.intents so)
       (λ L w o n. quiet_walk f c.x c.begun k e P E T N.sent risen (map query_about Hs) Hellos (queries_quiet Hs) (queries_seen f c.x c.begun k T N.sent Hs)
       (λ K y q m. subst (λ es. Walks P e k es E risen K) (append-nil Hellos) (quiet_walk f c.x c.begun k e P E T N.sent risen Hellos [] (hellos_quiet k inc (without_number k (numbers_to hd.nodes))) (hellos_seen f c.x c.begun k T N.sent inc (without_number k (numbers_to hd.nodes))) end K y q m)) L w o n)
@@ -268,7 +271,7 @@ module _ (hd : Header) (c : Case) (e k : ℕ) (d : Disk) (M : Seen) (is_seen : I
   last_walk : (N : Seen) → Within M.sent N.sent → SeesOthers f c.x c.begun k S N → IsTiedNow f c.x c.begun S N.lines → Walks P e k (recovered_records k d.intents ++ Sent) E risen N
   last_walk N w o now = records_walk f c.x c.begun k e P E whole S d risen Sent
       (λ T L os z none h n r. (let g = started f c.x c.begun k T d L os z none entry in
-      ends_walk T g.0 (go_on r (let q = g.1 in q.run)) L g.1 (λ u i there. (let z = g.1 in let y = z.up in ⊎_elim (λ none. absurd (cc none)) (λ so. so) (y.records u i (in_to {X = Uid × Intent} (u, i) d.intents there)))) (confirms_later f c.x T g.0 (reached_of f c.x c.begun k T L os) (let q = g.1 in q.run) L.sent L.sent (λ r there. there) d None h) (tied_moved f c.x c.begun T g.0 L.lines (let q = g.1 in q.moved) n)))
+      ends_walk T g.0 (go_on r (let q = g.1 in q.run)) L g.1 (λ u i there. (let z = g.1 in let y = z.up in ⊎_elim (λ none. absurd (cc none)) (λ so. so) (y.records u i (in_to {X = Uid × Intent} (u, i) d.intents there)))) (confirms_later f c.x k T g.0 (reached_of f c.x c.begun k T L os) (let q = g.1 in q.run) (λ one. (let q = g.1 in q.nobody)) L.sent L.sent (λ r there. there) d None h) (tied_moved f c.x c.begun T g.0 L.lines (let q = g.1 in q.moved) n)))
       d.intents tops (λ u i there. there) S N o here (λ u is. recorded u is) (had d N refl w) now stay
     where
       tops : (u : Uid) (i : Intent) → list.In {X = Uid × Intent} (u, i) d.intents → IsTopAction c.begun u

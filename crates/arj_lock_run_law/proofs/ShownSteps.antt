@@ -25,6 +25,7 @@ use Rattle.arj_part_law.specs.Tops.{Owners}
 use Rattle.arj_part_law.proofs.Begun.{begun_fits}
 use Rattle.arj_view_law.specs.Seen as seen
 use Rattle.arj_view_law.specs.Seen.{Post}
+use Rattle.arj_lock_view_law.specs.Actions.{IsPlaced}
 use Rattle.arj_lock_view_law.specs.Calling.{IsReached}
 use Rattle.arj_lock_view_law.specs.Commits.{IsRightBelow}
 use Rattle.arj_lock_view_law.specs.Ends.{MayGo}
@@ -146,7 +147,7 @@ module _ (c : Case) (s : Spot) (from : ℕ) (m : Message) (is_seen : IsSeenIn c 
         had.confirmed (ap (λ (a : Ask). names_object c.x (grants_in a)) (sym same) ∙ named_by c.x g grants given)
       where
         had : HasConfirm c.fixed c.x S (let M = s.seen in M.sent) (top_of h.path)
-        had = confirms_of c.fixed c.x c.begun s.node s.disk (Some s.parts) S s.seen is_seen.sees (top_of h.path)
+        had = (confirms_of c.fixed c.x c.begun s.node s.disk (Some s.parts) S s.seen is_seen.sees).0 (top_of h.path)
             (⊎_elim (λ on. inr (s.parts, n, refl, at_naming, on)) (λ prepared. inl prepared) (or_cases (is_on n.confirmed (top_of h.path)) (is_prepared (top_of h.path) (let d = s.disk in d.names)) was))
 
     request_shown : (h : Head) (a : Ask) → asks m ≡ Some (h, a) → FitsAsk c.begun h a → IsRequestSeen v h a S → IsRequestShown site n S h a
@@ -204,7 +205,7 @@ module _ (c : Case) (s : Spot) (from : ℕ) (m : Message) (is_seen : IsSeenIn c 
         by kind.Top is = plain (ap is_plain is)
         by kind.Independent is = plain (ap is_plain is)
         by kind.Serial is = absurd (so.unserial is)
-        by kind.Nested is = inr (inr (subst (HasNothingAt n o) so.of (k.nothing o so.action at so.begun is told_it fresh_it)))
+        by kind.Nested is = inr (inr (subst (HasNothingAt n o) so.of (k.nothing o so.action at so.begun is told_it fresh_it), ap (λ (w : Uid). is_top (place_in c w)) (sym so.of) ∙ (subst (IsPlaced (place_in c (act_of so.action))) is (whole.placed so.action so.begun)).1))
         by kind.Constituent is = goes is (stood v.family whole so.action so.begun so.unserial S (ap (λ (w : Uid). (let z = S.action (place_in c w) in z.stage)) so.of ∙ so.committed) (λ its. ap (λ (w : Uid). (let z = S.action (Root (root (place_in c w))) in z.stage)) so.of ∙ so.over its))
 
     end_shown : (e : Option (Uid × End)) → ((u : Uid) → e ≡ Some (u, ending.Commit) → IsToldCommit s u) → ((u : Uid) → e ≡ Some (u, ending.Abort) → IsToldAbort s u) → ((u : Uid) (f : End) → e ≡ Some (u, f) → IsToldSo v S u f) → IsEndShown site n S e

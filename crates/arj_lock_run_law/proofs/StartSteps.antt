@@ -23,7 +23,7 @@ use Rattle.arj_part_law.proofs.GoodTrees.{found_by, place_in}
 use Rattle.arj_view_law.specs.Seen.{Seen}
 use Rattle.arj_lock_view_law.specs.Calling.{IsReached}
 use Rattle.arj_lock_view_law.specs.Copies.{OnlyServer}
-use Rattle.arj_lock_view_law.specs.Going.{Goes, OnlyNaming}
+use Rattle.arj_lock_view_law.specs.Going.{Goes, NobodyConfirmed, OnlyNaming}
 use Rattle.arj_lock_view_law.specs.Handling.{OnlyServing}
 use Rattle.arj_lock_view_law.specs.Hearing.{SeesNamingIn}
 use Rattle.arj_lock_view_law.specs.Namings.{SeesNaming}
@@ -82,6 +82,7 @@ module _ (f : Fixed) (x : ℕ) (begun : List Action) (k : ℕ) where
   pub record HasStarted (S : State) (d : Disk) (M : Seen) (T : State) : Type 0 where
     pub moved : IsMoved S T
     pub run : Run S T
+    pub nobody : NobodyConfirmed S T
     pub others : SeesOthers f x begun k T M
     pub up : SeesUp v T (record d { inc = d.inc + 1 }) (parts_in k (d.inc + 1) d)
 
@@ -99,8 +100,11 @@ module _ (f : Fixed) (x : ℕ) (begun : List Action) (k : ℕ) where
       serving : OnlyServing v m S behind_server
       serving = serving_of v m S behind_server only
 
+      nobody_behind : NobodyConfirmed S behind_server
+      nobody_behind = ap (λ (z : State). z.confirmed) only.rest
+
       others_behind : SeesOthers f x begun k behind_server M
-      others_behind = others_go f x begun k S behind_server M others run_serving (λ j disk live other seen_there. memory_serving v m S behind_server serving (view_of f x begun j) disk live other seen_there)
+      others_behind = others_go f x begun k S behind_server M others run_serving (λ elsewhere. nobody_behind) (λ j disk live other seen_there. memory_serving v m S behind_server serving (view_of f x begun j) disk live other seen_there)
           (fresh_on f begun S behind_server (action_is v m S behind_server serving) (ap (λ (z : State). z.kept) only.rest) (ap (λ (z : State). z.calls) only.rest) (ap (λ (z : State). z.includes) only.rest) others.fresh)
           (let o = others.now in let e : behind_server.now ≡ S.now = ap (λ (z : State). z.now) only.rest in omega (arith, o, e))
 
@@ -134,21 +138,22 @@ module _ (f : Fixed) (x : ℕ) (begun : List Action) (k : ℕ) where
           its_inc false n is = absurd (cc is)
 
       -- naming starts at node 1
-      named : (one : (k == 1) ≡ true) (behind_naming : State) → Run behind_server behind_naming → SeesNaming v (recovered_naming inc d.names) behind_naming → OnlyNaming behind_server behind_naming → HasStarted S d M behind_naming
-      named one behind_naming run seen_naming only_named = record {
+      named : (one : (k == 1) ≡ true) (behind_naming : State) → Run behind_server behind_naming → SeesNaming v (recovered_naming inc d.names) behind_naming → OnlyNaming behind_server behind_naming → NobodyConfirmed behind_server behind_naming → HasStarted S d M behind_naming
+      named one behind_naming run seen_naming only_named nobody = record {
         moved = moved_then S behind_server behind_naming (moved_serving v m S behind_server serving) (moved_named behind_server behind_naming only_named);
         run = go_on run_serving run;
-        others = others_go f x begun k behind_server behind_naming M others_behind run (λ j disk live other seen_there. memory_named behind_server behind_naming reached_behind run only_named (view_of f x begun j) disk live (λ its. other (its ∙ sym (eqb-true k 1 one))) seen_there) (fresh_named f begun behind_server behind_naming only_named others_behind.fresh) (now_named behind_server behind_naming (length M.lines) only_named others_behind.now);
+        nobody = nobody ∙ nobody_behind;
+        others = others_go f x begun k behind_server behind_naming M others_behind run (λ elsewhere. nobody) (λ j disk live other seen_there. memory_named behind_server behind_naming reached_behind run only_named (view_of f x begun j) disk live (λ its. other (its ∙ sym (eqb-true k 1 one))) seen_there) (fresh_named f begun behind_server behind_naming only_named others_behind.fresh) (now_named behind_server behind_naming (length M.lines) only_named others_behind.now);
         up = up_with behind_naming (action_named behind_server behind_naming reached_behind run only_named ∙ action_is v m S behind_server serving) (sees_named behind_server behind_naming reached_behind run only_named v (parts_in k inc d) server_behind) (subst (λ (b : Bool). SeesNamingIn v behind_naming (cond b (Some (recovered_naming inc d.names)) None)) (sym one) seen_naming);
       }
 
       starts : (b : Bool) → (k == 1) ≡ b → (T : State) × HasStarted S d M T
-      starts false is = (behind_server, record { moved = moved_serving v m S behind_server serving; run = run_serving; others = others_behind; up = up_with behind_server (action_is v m S behind_server serving) server_behind (subst (λ (b : Bool). SeesNamingIn v behind_server (cond b (Some (recovered_naming inc d.names)) None)) (sym is) tt) })
+      starts false is = (behind_server, record { moved = moved_serving v m S behind_server serving; run = run_serving; nobody = nobody_behind; others = others_behind; up = up_with behind_server (action_is v m S behind_server serving) server_behind (subst (λ (b : Bool). SeesNamingIn v behind_server (cond b (Some (recovered_naming inc d.names)) None)) (sym is) tt) })
       starts true is =
           let one : k ≡ 1 = eqb-true k 1 is in
           let o = there (at_number x (let n = recovered_naming inc d.names in n.objects)) (entry one inc) in
           let h = naming_starts v d.inc inc d.names o.0 behind_server (omega arith) o.1 (nothing_on d.inc S behind_server (naming_is v m S behind_server serving) (s.naming one)) in
-          (h.state, named is h.state h.run h.holds.0 h.holds.1)
+          (h.state, named is h.state h.run h.holds.0 h.holds.1 h.holds.2)
         where
           there : (o : Option Named) → is_some o ≡ true → (n : Named) × (o ≡ Some n)
           there None is = absurd (cc is)

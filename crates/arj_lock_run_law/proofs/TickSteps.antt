@@ -224,7 +224,7 @@ module _ (c : Case) (s : Spot) (is_seen : IsSeenIn c (world_at s)) (asks_so : Kn
       (quiet_walk f c.x c.begun k e P End S sent s.disk outs (tolds ++ queries) (requests_quiet outs (again_requests C.doings C)) asked
       (λ N w o n. quiet_walk f c.x c.begun k e P End S sent s.disk tolds queries (tolds_quiet C.telling) (tolds_seen f c.x c.begun k S sent C.telling told_so)
       (λ L y q m. subst (λ es. Walks P e k es End s.disk L) (append-nil queries) (quiet_walk f c.x c.begun k e P End S sent s.disk queries [] (queries_quiet (holders s.disk s.parts)) (queries_seen f c.x c.begun k S sent (holders s.disk s.parts))
-      (λ K z p now agrees. (S, with_here f c.x c.begun k s.disk (Some (with_coord s.parts E)) S K p up_after (confirms_more f c.x S sent K.sent z s.disk (Some (with_coord s.parts E)) (confirms_same f c.x S sent s.disk s.disk s.parts (with_coord s.parts E) refl refl (confirms_of f c.x c.begun k s.disk (Some s.parts) S s.seen is_seen.sees))), now.tied, stay)) L y q m)) N w o n)
+      (λ K z p now agrees. (S, with_here f c.x c.begun k s.disk (Some (with_coord s.parts E)) S K p up_after (confirms_more f c.x k S sent K.sent z s.disk (Some (with_coord s.parts E)) (confirms_same f c.x k S sent s.disk s.disk s.parts (with_coord s.parts E) refl refl (confirms_of f c.x c.begun k s.disk (Some s.parts) S s.seen is_seen.sees))), now.tied, stay)) L y q m)) N w o n)
       s.seen (λ r i. i) others (tied_now c (world_at s) is_seen))
 
 pub ticks_go : TicksGo

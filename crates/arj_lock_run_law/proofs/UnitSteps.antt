@@ -1,12 +1,12 @@
 -- A coordinator does something for one unit: all else is seen as before.
-use Rattle.std.proofs.Common.{◌≡◌, ◌≢◌, ◌≤◌, ◌<◌, ◌⊎◌, ◌∙◌, ◌+◌, ℕ, List, Option, Some, None, sym, ap, subst, inl, ⊎_elim, length, Contains}
+use Rattle.std.proofs.Common.{◌≡◌, ◌≢◌, ◌≤◌, ◌<◌, ◌⊎◌, ◌∙◌, ◌+◌, ℕ, true, false, List, Option, Some, None, sym, ap, subst, inl, ⊎_elim, length, Contains}
 use Rattle.arj_protocol.specs.Words.{Uid, entry, first_uid}
 use Rattle.arj_protocol.specs.Ask.{top_of}
 use Rattle.arj_protocol.specs.Effect.{Disk}
 use Rattle.arj_protocol.specs.Naming.{Naming}
 use Rattle.arj_protocol.specs.Node.{Parts}
 use Rattle.arj_protocol.specs.Order.{binding_number}
-use Rattle.arj_lock_law.specs.Actions.{In, Root, root}
+use Rattle.arj_lock_law.specs.Actions.{In, Root, is_top, root}
 use Rattle.arj_lock_law.specs.Machine.{Run}
 use Rattle.arj_lock_law.specs.State as state
 use Rattle.arj_lock_law.specs.State.{State}
@@ -18,6 +18,7 @@ use Rattle.arj_lock_view_law.specs.Calling.{IsReached, OnlyCalled}
 use Rattle.arj_lock_view_law.specs.Hearing.{SeesNamingIn}
 use Rattle.arj_lock_view_law.specs.Including.{OnlyIncluded}
 use Rattle.arj_lock_view_law.specs.Inputs.{OnlyEnded}
+use Rattle.arj_lock_view_law.specs.Named.{HasLast}
 use Rattle.arj_lock_view_law.specs.Rows.{SeesRows}
 use Rattle.arj_lock_view_law.specs.Telling.{Sees, View}
 use Rattle.arj_lock_view_law.specs.Namings.{HaveFirsts}
@@ -37,6 +38,7 @@ module _ (f : Fixed) (x unit : ℕ) (S T : State) (reached : IsReached S) (run :
   pub called_unit : OnlyCalled unit S T → OnlyUnit f x unit S T
   called_unit o = record {
     naming = ap (λ (s : State). s.naming) o.rest;
+    confirmed = ap (λ (s : State). s.confirmed) o.rest;
     servers = ap (λ (s : State). s.server) o.rest;
     actions = o.actions;
     ended = o.ended;
@@ -52,6 +54,7 @@ module _ (f : Fixed) (x unit : ℕ) (S T : State) (reached : IsReached S) (run :
   pub ended_unit : OnlyEnded unit S T → OnlyUnit f x unit S T
   ended_unit o = record {
     naming = ap (λ (s : State). s.naming) o.rest;
+    confirmed = ap (λ (s : State). s.confirmed) o.rest;
     servers = ap (λ (s : State). s.server) o.rest;
     actions = o.others;
     ended = o.ended;
@@ -67,6 +70,7 @@ module _ (f : Fixed) (x unit : ℕ) (S T : State) (reached : IsReached S) (run :
   pub included_unit : OnlyIncluded S T → ((k : state.Include) → In k T.includes → In k S.includes ⊎ (root k.act ≡ unit)) → OnlyUnit f x unit S T
   included_unit o fresh = record {
     naming = ap (λ (s : State). s.naming) o;
+    confirmed = ap (λ (s : State). s.confirmed) o;
     servers = ap (λ (s : State). s.server) o;
     actions = λ a other. ap (λ (s : State). s.action a) o;
     ended = λ a over. ap (λ (s : State). s.action a) o;
@@ -103,6 +107,7 @@ module _ (f : Fixed) (x unit : ℕ) (S T : State) (only : OnlyUnit f x unit S T)
         noted = λ yes. only.sent (state.Recorded (binding_number m.binding)) (k.noted yes);
       });
       asked = λ t is. o.asked t (ap (λ (z : state.Naming). z.asked (w.family.act t)) (sym only.naming) ∙ is);
+      making = subst (λ (z : state.Naming). (t : Uid) → is_top (w.family.act t) ≡ true → z.first ≤ z.made (w.family.act t) → z.told (w.family.act t) ≡ false → HasLast w.family.act s.named z t) (sym only.naming) o.making;
     };
     told = λ p topped free. ap (λ (z : state.Naming). z.told (w.family.act (top_of p))) only.naming ∙ s.told p topped free;
     confirmed = λ u is. s.confirmed u (ap (λ (z : state.Naming). z.confirmed (w.family.act u)) (sym only.naming) ∙ is);
@@ -150,4 +155,4 @@ module _ (f : Fixed) (x unit : ℕ) (begun : List Action) (S T : State) (only : 
 module _ (f : Fixed) (x unit : ℕ) (begun : List Action) (k : ℕ) (S T : State) (M : Seen) (run : Run S T) (only : OnlyUnit f x unit S T) (home : (u : Uid) → root (f.act u) ≡ unit → (let r = first_uid (f.paths u) in r.node) ≡ k)
     (one : (a : Action) × Contains begun a × (root (f.act (act_of a)) ≡ unit)) (changed : (u : Uid) → IsUnbegun begun u → T.action (f.act u) ≡ S.action (f.act u)) where
   pub others_unit : T.now ≤ length M.lines + 1 → SeesOthers f x begun k S M → SeesOthers f x begun k T M
-  others_unit now s = others_go f x begun k S T M s run (λ j disk live other seen. memory_unit f x unit S T only begun k home j disk live other seen) (fresh_unit f x unit begun S T only one changed s.fresh) now
+  others_unit now s = others_go f x begun k S T M s run (λ elsewhere. only.confirmed) (λ j disk live other seen. memory_unit f x unit S T only begun k home j disk live other seen) (fresh_unit f x unit begun S T only one changed s.fresh) now

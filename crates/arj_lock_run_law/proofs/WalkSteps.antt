@@ -4,7 +4,7 @@ use Rattle.std.specs.Prelude.{⊤}
 use Rattle.std.specs.List.{AllByRecursion, list_all}
 use Rattle.std.proofs.lemmas.Bool.{and_parts}
 use Rattle.arj_lock.proofs.Members as list
-use Rattle.arj_protocol.specs.Words.{ObjectState, Uid, is_on}
+use Rattle.arj_protocol.specs.Words.{Body, Message, ObjectState, Uid, is_on}
 use Rattle.arj_protocol.specs.Words.role
 use Rattle.arj_protocol.specs.Effect.{After, Before, Disk, Effect, InPart, Intent, Say, Send, Do, Stop, Work, Look, PutInc, Prepare, Commit, Abort, PutIntent, RemoveIntent, is_prepared, stopped, worked}
 use Rattle.arj_protocol.specs.Naming.{Naming}
@@ -14,11 +14,11 @@ use Rattle.arj_lock_law.specs.Machine.{Run}
 use Rattle.arj_lock_law.specs.State.{State}
 use Rattle.arj_lock_line_law.specs.Steps.{is_plain}
 use Rattle.arj_part_law.specs.Actions.{Action}
-use Rattle.arj_view_law.specs.Seen.{Post, Seen, Within, posted, said}
+use Rattle.arj_view_law.specs.Seen.{AreQuiet, Post, Seen, Within, posted, said}
 use Rattle.arj_view_law.specs.Walks.{Up, Walks, halted}
 use Rattle.arj_lock_run_law.specs.Fixed.{Fixed, view_of}
 use Rattle.arj_lock_run_law.specs.Posts.{IsPostSeen}
-use Rattle.arj_lock_run_law.specs.Sees.{HasConfirm, HaveConfirms, SeesLocks, SeesUp}
+use Rattle.arj_lock_run_law.specs.Sees.{HasConfirm, HaveConfirms, IsConfirmedAt, SeesLocks, SeesUp, WereConfirmed}
 use Rattle.arj_lock_run_law.specs.Tied.{AreTied}
 use Rattle.arj_lock_run_law.specs.World.{IsSeenSo}
 use Rattle.arj_lock_run_law.proofs.NameSteps.{confirm_more, prepared_stopped, prepared_worked}
@@ -91,9 +91,22 @@ module _ (f : Fixed) (x : ℕ) (begun : List Action) (k : ℕ) where
     records = λ u i found. s.records u i (subst (λ js. Contains {X = Uid × Intent} js (u, i)) records found);
   }
 
+  -- what a stop leaves, with who is confirmed in another state of the machine
+  abbrev pub StopsWell : ℕ → State → Disk → Seen → Type 0
+  StopsWell e S d M = (U : State) × SeesLocks f x begun U (halted e k d M) × AreTied f x (let N = halted e k d M in N.lines) U × Run S U
+
+  -- What is kept along the walk, so that at each stop naming did confirm whom the machine's naming has, or the machine is left elsewhere; and at
+  -- the end naming did.
+  pub record KeepsWho (S T : State) (e : ℕ) (has : Disk → Type 0) (I : List Effect → Disk → Seen → Type 0) : Type 0 where
+    pub works : (w : Work) (es : List Effect) (d : Disk) (M : Seen) → I (Do w ∷ es) d M → I es (worked w d) M
+    pub says : (b : Body) (es : List Effect) (d : Disk) (M : Seen) → is_plain b ≡ true → I (Say b ∷ es) d M → I es d (said e (b ∷ []) M)
+    pub sends : (to : ℕ) (m : Message) (es : List Effect) (d : Disk) (M : Seen) (more : List Body) → AreQuiet more → I (Send to m ∷ es) d M → I es d (said e more (posted (record { from = k; to = to; message = m }) M))
+    pub stops : (how : Stop) (w : Work) (es : List Effect) (d : Disk) (M : Seen) → has (stopped how w d) → I (Do w ∷ es) d M → (k ≡ 1 → WereConfirmed f x T M.sent (stopped how w d)) ⊎ StopsWell e S (stopped how w d) M
+    pub ends : (d : Disk) (M : Seen) → I [] d M → k ≡ 1 → WereConfirmed f x T M.sent d
+
   -- where this is so at each stop, and at the end
-  module _ (S T : State) (e : ℕ) (v : Parts) (i : ℕ) (js : List (Uid × Intent)) (sent : List Post)
-      (halt : (d : Disk) (M : Seen) → HasSame i js d → SeesOthers f x begun k T M → HaveConfirms f x T M.sent d None → IsTiedNow f x begun T M.lines → (U : State) × SeesLocks f x begun U (halted e k d M) × AreTied f x (let N = halted e k d M in N.lines) U × Run S U) (run : Run S T)
+  module _ (S T : State) (e : ℕ) (v : Parts) (i : ℕ) (js : List (Uid × Intent)) (sent : List Post) (I : List Effect → Disk → Seen → Type 0) (keeps : KeepsWho S T e (HasSame i js) I)
+      (halt : (d : Disk) (M : Seen) → HasSame i js d → SeesOthers f x begun k T M → HaveConfirms f x k T M.sent d None → IsTiedNow f x begun T M.lines → StopsWell e S d M) (run : Run S T)
       (end : (d : Disk) → HasSame i js d → SeesUp (view_of f x begun k) T d v)
       (confirmed : (n : Naming) (u : Uid) → v.naming ≡ Some n → is_on n.confirmed u ≡ true → HasConfirm f x T sent u) where
     -- a Confirm was sent of each whose entries are prepared, or will be
@@ -108,27 +121,29 @@ module _ (f : Fixed) (x : ℕ) (begun : List Action) (k : ℕ) where
     ready_on o es d ready u (inl prepared) = ready u (inl prepared)
     ready_on o es d ready u (inr (states, there)) = ready u (inr (states, inr there))
 
-    at_stop : (how : Stop) (w : Work) (es : List Effect) (d : Disk) (M : Seen) → Within sent M.sent → AreReady d (Do w ∷ es) → HaveConfirms f x T M.sent (stopped how w d) None
+    at_stop : (how : Stop) (w : Work) (es : List Effect) (d : Disk) (M : Seen) → Within sent M.sent → AreReady d (Do w ∷ es) → (u : Uid) → IsConfirmedAt u (stopped how w d) None → HasConfirm f x T M.sent u
     at_stop how w es d M within ready u (inl prepared) = confirm_more f x T sent M.sent within u (⊎_elim (λ old. ready u (inl old)) (λ new. ready u (inr (new.0, inl (ap Do (sym new.1))))) (prepared_stopped how w d u prepared))
     at_stop how w es d M within ready u (inr (t, n, is, at, on)) = absurd (cc is)
 
-    at_end : (d : Disk) (M : Seen) → Within sent M.sent → AreReady d [] → HaveConfirms f x T M.sent d (Some v)
+    at_end : (d : Disk) (M : Seen) → Within sent M.sent → AreReady d [] → (u : Uid) → IsConfirmedAt u d (Some v) → HasConfirm f x T M.sent u
     at_end d M within ready u (inl prepared) = confirm_more f x T sent M.sent within u (ready u (inl prepared))
     at_end d M within ready u (inr (t, n, is, at, on)) = confirm_more f x T sent M.sent within u (confirmed n u (ap (λ (z : Parts). z.naming) (one is) ∙ at) on)
       where
         one : ◌≡◌ {A = Option Parts} (Some v) (Some t) → v ≡ t
         one same = cc same
 
-    pub walked : (outs : List Effect) (d : Disk) (M : Seen) → AreSendsSeen T sent outs → AreAll leaves outs → Within sent M.sent → AreReady d outs → HasSame i js d → SeesOthers f x begun k T M → IsTiedNow f x begun T M.lines
+    pub walked : (outs : List Effect) (d : Disk) (M : Seen) → I outs d M → AreSendsSeen T sent outs → AreAll leaves outs → Within sent M.sent → AreReady d outs → HasSame i js d → SeesOthers f x begun k T M → IsTiedNow f x begun T M.lines
         → Walks (IsSeenSo (record { fixed = f; x = x; begun = begun; state = S })) e k outs (Up (IsSeenSo (record { fixed = f; x = x; begun = begun; state = S })) k v) d M
-    walked [] d M sends plain within ready same others now = λ agrees. (T, with_here f x begun k d (Some v) T M others (end d same) (at_end d M within ready), now.tied, run)
-    walked (Do w ∷ es) d M sends plain within ready same others now =
-        let p = and_parts (leaves_work w) (list_all leaves es) plain in
-        (λ how agrees. halt (stopped how w d) M (stopped_same i js how w d p.0 same) others (at_stop how w es d M within ready) now, walked es (worked w d) M sends.1 p.1 within (ready_then w es d ready) (worked_same i js w d p.0 same) others now)
-    walked (Say b ∷ es) d M sends plain within ready same others now =
+    walked [] d M who sends plain within ready same others now = λ agrees. (T, with_here f x begun k d (Some v) T M others (end d same) (at_end d M within ready, keeps.ends d M who), now.tied, run)
+    walked (Do w ∷ es) d M who sends plain within ready same others now =
+        let p = and_parts (leaves_work w) (list_all leaves es) plain in (
+          λ how agrees. (let left = stopped_same i js how w d p.0 same in ⊎_elim (λ were. halt (stopped how w d) M left others (at_stop how w es d M within ready, were) now) (λ well. well) (keeps.stops how w es d M left who)),
+          walked es (worked w d) M (keeps.works w es d M who) sends.1 p.1 within (ready_then w es d ready) (worked_same i js w d p.0 same) others now,
+        )
+    walked (Say b ∷ es) d M who sends plain within ready same others now =
         let p = and_parts (is_plain b) (list_all leaves es) plain in
-        walked es d (said e (b ∷ []) M) sends.1 p.1 within (ready_on (Say b) es d ready) same (said_others f x begun k e (b ∷ []) T M others) (tied_plain f x begun e (b ∷ []) T M.lines (p.0, tt) now)
-    walked (Send to m ∷ es) d M sends plain within ready same others now = λ more quiet.
+        walked es d (said e (b ∷ []) M) (keeps.says b es d M p.0 who) sends.1 p.1 within (ready_on (Say b) es d ready) same (said_others f x begun k e (b ∷ []) T M others) (tied_plain f x begun e (b ∷ []) T M.lines (p.0, tt) now)
+    walked (Send to m ∷ es) d M who sends plain within ready same others now = λ more quiet.
         let p : Post = record { from = k; to = to; message = m } in
-        walked es d (said e more (posted p M)) sends.1 plain (λ q there. inr (within q there)) (ready_on (Send to m) es d ready) same
+        walked es d (said e more (posted p M)) (keeps.sends to m es d M more quiet who) sends.1 plain (λ q there. inr (within q there)) (ready_on (Send to m) es d ready) same
         (said_others f x begun k e more T (posted p M) (posted_others f x begun k p T M others (sends.0 (p ∷ M.sent) (λ q there. inr (within q there))))) (tied_quiet f x begun e more T M.lines quiet now)

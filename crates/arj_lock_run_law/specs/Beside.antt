@@ -1,6 +1,6 @@
 -- What a run's own relations have to give beside what is seen in the machine, so that what naming and servers do is seen again.
 use Rattle.std.specs.Prelude.{◌≡◌, ◌<◌, ℕ, List, [], true, false, Option, Some, Contains, is_some}
-use Rattle.arj_protocol.specs.Words.{End, Message, Row, Uid, before_last, is_held_by, is_on, uids_of}
+use Rattle.arj_protocol.specs.Words.{End, Message, Row, Uid, before_last, is_held_by, is_on, uid_eq, uids_of}
 use Rattle.arj_protocol.specs.Words.ending
 use Rattle.arj_protocol.specs.Words.kind
 use Rattle.arj_protocol.specs.Words.message
@@ -9,7 +9,7 @@ use Rattle.arj_protocol.specs.Confirm.{recovered_naming}
 use Rattle.arj_protocol.specs.Copy.{Copy}
 use Rattle.arj_protocol.specs.Effect.{Disk}
 use Rattle.arj_protocol.specs.Named.{Named}
-use Rattle.arj_protocol.specs.Naming.{Naming}
+use Rattle.arj_protocol.specs.Naming.{Naming, loses_row}
 use Rattle.arj_protocol.specs.Node.{Parts}
 use Rattle.arj_protocol.specs.Order.{at_number}
 use Rattle.arj_protocol.specs.Server.{Server, is_told}
@@ -129,13 +129,15 @@ abbrev pub HoldsNamingIn : Case → ℕ → Option Naming → Type 0
 HoldsNamingIn c k o = (n : Naming) → o ≡ Some n → HoldsNaming c k n
 
 -- Besides: an abort that comes to it of a committed top whose unit isn't over is of one that it didn't confirm. Where the commit of a
--- constituent comes that it confirmed, each row of that can pass to its serializing action; and of a nested action it has nothing.
+-- constituent comes that it confirmed, each row of that can pass to its serializing action; and of a nested action it has nothing. Whoever
+-- loses a row with another action stands below that.
 pub record KnowsNaming (c : Case) (s : Spot) (n : Naming) : Type 0 where
   pub holds : HoldsNaming c s.node n
   pub unconfirmed : (u : Uid) → IsToldAbort s u → is_on n.told u ≡ false → IsCommittedTop c u → (IsUnitOver c u → ⊥) → IsConfirmedNow c u → ⊥
   pub heirs : (o : Named) (a : Action) → at_number c.x n.objects ≡ Some o → Contains c.begun a → a.kind ≡ kind.Constituent → IsToldCommit s (act_of a) → is_on n.told (act_of a) ≡ false → IsConfirmedNow c (act_of a)
       → (r : Row) → Contains o.rows r → is_held_by (act_of a) r ≡ true → before_last r.holder ≡ before_last (uids_of a.path)
   pub nothing : (o : Named) (a : Action) → at_number c.x n.objects ≡ Some o → Contains c.begun a → a.kind ≡ kind.Nested → IsToldCommit s (act_of a) → is_on n.told (act_of a) ≡ false → HasNothingAt n o (act_of a)
+  pub lost : (w u : Uid) → uid_eq u w ≡ false → loses_row w u n ≡ true → (a : Action) × Contains c.begun a × (act_of a ≡ u) × (is_on (uids_of a.path) w ≡ true)
 
 -- What is known at the node; and who takes part in each commit is known in the world: all Confirms of a top are one.
 pub record KnowsSpot (c : Case) (s : Spot) : Type 0 where

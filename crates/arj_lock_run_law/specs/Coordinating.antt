@@ -29,6 +29,7 @@ use Rattle.arj_view_law.specs.Walks.{Up, Walks}
 use Rattle.arj_lock_fact_law.specs.Works.{KnowsEnds}
 use Rattle.arj_lock_view_law.specs.Acting.{IsFirst, IsFreeToEnd}
 use Rattle.arj_lock_view_law.specs.Calling.{IsAtWork, IsCalling, IsElsewhere, IsWaiting, ShowsAnswer}
+use Rattle.arj_lock_view_law.specs.Going.{NobodyConfirmed}
 use Rattle.arj_lock_view_law.specs.Including.{ShowsInclude}
 use Rattle.arj_lock_view_law.specs.Inputs.{AreTopped, HasLowGrant, SeesWhole, plan_now}
 use Rattle.arj_lock_view_law.specs.Listed.{AreUnserial}
@@ -48,6 +49,7 @@ use Rattle.arj_lock_run_law.specs.World.{IsSeenSo}
 -- coordinator without an action of the unit is seen as before.
 pub record OnlyUnit (f : Fixed) (x unit : ℕ) (S T : State) : Type 0 where
   pub naming : T.naming ≡ S.naming
+  pub confirmed : NobodyConfirmed S T
   pub servers : T.server ≡ S.server
   pub actions : (a : Act) → root a ≢ unit → T.action a ≡ S.action a
   pub ended : (a : Act) → 3 ≤ (S.action a).stage → T.action a ≡ S.action a

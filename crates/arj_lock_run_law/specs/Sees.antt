@@ -3,8 +3,9 @@
 use Rattle.std.specs.Prelude.{◌≡◌, ◌≢◌, ◌≤◌, ◌⊎◌, ℕ, ◌+◌, ◌==◌, true, List, Option, Some, None, Contains, is_some, length}
 use Rattle.arj_protocol.specs.Words.{Head, Uid, asks, first_uid, is_on}
 use Rattle.arj_protocol.specs.Words.ask
+use Rattle.arj_protocol.specs.Words.confirmed
 use Rattle.arj_protocol.specs.Words.ending
-use Rattle.arj_protocol.specs.Ask.{top_of}
+use Rattle.arj_protocol.specs.Ask.{Reply, asked_by, response, top_of}
 use Rattle.arj_protocol.specs.Confirm.{Grants, Marks}
 use Rattle.arj_protocol.specs.Effect.{Disk, Intent, is_prepared}
 use Rattle.arj_protocol.specs.Naming.{Naming}
@@ -12,7 +13,7 @@ use Rattle.arj_protocol.specs.Node.{Parts}
 use Rattle.arj_protocol.specs.Order.{at_uid}
 use Rattle.arj_protocol.specs.Step.{Node}
 use Rattle.arj_protocol.specs.Tree.{Branch, Tree, branch_of}
-use Rattle.arj_lock_law.specs.Actions.{Root, is_action, root}
+use Rattle.arj_lock_law.specs.Actions.{Act, Root, is_action, is_top, root}
 use Rattle.arj_lock_law.specs.Machine.{Run, start}
 use Rattle.arj_lock_law.specs.State.{State}
 use Rattle.arj_part_law.specs.Actions.{Action, act_of}
@@ -98,9 +99,35 @@ pub record HasConfirm (f : Fixed) (x : ℕ) (S : State) (sent : List Post) (u : 
   pub top : top_of (let h = head in h.path) ≡ u
   pub confirmed : names_object x grants ≡ true → S.confirmed (f.act u) ≡ true
 
--- so it is of each that a node has confirmed
-abbrev pub HaveConfirms : Fixed → ℕ → State → List Post → Disk → Option Parts → Type 0
-HaveConfirms f x S sent d live = (u : Uid) → IsConfirmedAt u d live → HasConfirm f x S sent u
+-- The answer Yes was sent by naming's node to a Confirm of the top, which names the object.
+pub record WasAnsweredYes (x : ℕ) (sent : List Post) (u : Uid) : Type 0 where
+  pub post : Post
+  pub head : Head
+  pub grants : Grants
+  pub excluded : Marks
+  pub included : Marks
+  pub there : In post sent
+  pub is : asks (let p = post in p.message) ≡ Some (head, ask.Confirm grants excluded included)
+  pub to : (let p = post in p.to) ≡ 1
+  pub top : top_of (let h = head in h.path) ≡ u
+  pub names : names_object x grants ≡ true
+  pub yes : In (record { from = (let p = post in p.to); to = (let p = post in p.from); message = response (asked_by head) (Reply.Confirmed confirmed.Yes) }) sent
+
+-- the action has ended in the machine, or its unit is over
+abbrev pub IsOverIn : Act → State → Type 0
+IsOverIn a S = (3 ≤ (let b = S.action a in b.stage)) ⊎ ((let b = S.action (Root (root a)) in b.stage) ≡ 3)
+
+-- Naming did confirm the top: it was answered Yes, or has entries prepared on this disk, or is over.
+abbrev pub WasConfirmed : Fixed → ℕ → State → List Post → Disk → Uid → Type 0
+WasConfirmed f x S sent d u = WasAnsweredYes x sent u ⊎ ((is_prepared u (let k = d in k.names) ≡ true) ⊎ IsOverIn (f.act u) S)
+
+-- so it is of each top that the machine's naming confirmed once
+abbrev pub WereConfirmed : Fixed → ℕ → State → List Post → Disk → Type 0
+WereConfirmed f x S sent d = (u : Uid) → is_top (f.act u) ≡ true → S.confirmed (f.act u) ≡ true → WasConfirmed f x S sent d u
+
+-- Of each that a node has confirmed a Confirm was sent; and whom the machine's naming confirmed naming did confirm, at node 1.
+abbrev pub HaveConfirms : Fixed → ℕ → ℕ → State → List Post → Disk → Option Parts → Type 0
+HaveConfirms f x k S sent d live = ((u : Uid) → IsConfirmedAt u d live → HasConfirm f x S sent u) × (k ≡ 1 → WereConfirmed f x S sent d)
 
 -- ---- what isn't begun yet
 
@@ -116,13 +143,13 @@ pub record IsFresh (f : Fixed) (begun : List Action) (S : State) : Type 0 where
 -- ---- the world
 
 -- The object in the whole world: a run of the machine from its first value, whose state is seen at each node, and where there is none as at
--- one that never starts, in whom nodes confirmed, in each message that was sent, and of what wasn't begun; and no line of the machine stands
+-- one that never starts, in whom naming confirmed, in each message that was sent, and of what wasn't begun; and no line of the machine stands
 -- behind the journal's.
 pub record SeesLocks (f : Fixed) (x : ℕ) (begun : List Action) (S : State) (M : Seen) : Type 0 where
   pub run : Run (start f.first) S
   pub nodes : (k : ℕ) (n : Node) → M.nodes k ≡ Some n → SeesMemory (view_of f x begun k) S n.disk n.live
   pub absent : (k : ℕ) → M.nodes k ≡ None → (d : Disk) × SeesDown (view_of f x begun k) S d
-  pub confirms : (k : ℕ) (n : Node) → M.nodes k ≡ Some n → HaveConfirms f x S M.sent n.disk n.live
+  pub confirms : (k : ℕ) (n : Node) → M.nodes k ≡ Some n → HaveConfirms f x k S M.sent n.disk n.live
   pub posts : (p : Post) → In p M.sent → IsPostSeen f x begun M.sent S p
   pub fresh : IsFresh f begun S
   pub now : S.now ≤ length M.lines + 1

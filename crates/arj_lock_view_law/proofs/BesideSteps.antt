@@ -113,6 +113,7 @@ module _ (S : State) (servers : ℕ → machine.Server) (yes : Act → ℕ) (vot
     live = λ l is. (let k = s.live l is in record { server = k.server; named = k.named; incarnation = k.incarnation });
     made = λ t m is. (let k = s.made t m is in record { last = k.last; server = k.server; maker = k.maker; sent = sent (machine.Made (act t) (binding_number m.binding)) k.sent; noted = λ yes_noted. sent (machine.Recorded (binding_number m.binding)) (k.noted yes_noted) });
     asked = s.asked;
+    making = s.making;
   }
 
 pub coords_stay_seen : CoordsStaySeen

@@ -15,7 +15,7 @@ use Rattle.arj_lock_law.specs.State.{State}
 use Rattle.arj_lock_law.specs.Steps.{BindLive, BindNew, Grant}
 use Rattle.arj_lock_law.proofs.Paths.{act_here, act_other, at_here, same_is}
 use Rattle.arj_part_law.specs.Tops.{Owners}
-use Rattle.arj_part_law.proofs.Keys.{put_cases, with_on}
+use Rattle.arj_part_law.proofs.Keys.{put_cases, put_other, put_same, with_on}
 use Rattle.arj_lock_view_law.specs.Acts.{Acts, AreOne, IsTopped}
 use Rattle.arj_lock_view_law.specs.Bindings.{BindsAreSeen, IsGood}
 use Rattle.arj_lock_view_law.specs.Going.{Goes, NobodyTold, OnlyNaming, ShowsBound}
@@ -86,7 +86,7 @@ module _ (act : Acts) (owner : Owners) (x : ℕ) (n : Place) (o : Named) (p : Pa
 
   -- a lock conflicts
   refused : (holder : Uid) (m : Mode) → Goes S (Answers count o (Some (bound.Conflict holder m)))
-  refused holder m = record { state = S; run = stay; holds = (sees, nothing_else, (refl, refl), tt) }
+  refused holder m = record { state = S; run = stay; holds = (sees, nothing_else, (refl, (refl, refl)), tt) }
 
   -- a recorded binding is of this incarnation
   present : (b : Binding) → o.recorded ≡ Some b → S.naming.first ≤ S.naming.recorded
@@ -112,6 +112,7 @@ module _ (act : Acts) (owner : Owners) (x : ℕ) (n : Place) (o : Named) (p : Pa
       live = λ k is. let s = sees.live k is in record { server = s.server; named = s.named; incarnation = s.incarnation };
       made = λ t m is. let s = sees.made t m is in record { last = s.last; server = s.server; maker = s.maker; sent = inr s.sent; noted = λ h. inr (s.noted h) };
       asked = sees.asked;
+      making = sees.making;
     }
 
     live_goes : Goes S (Answers count (locked x p mode.Read o) (Some (bound.Live l.binding l.server l.inc inc stores)))
@@ -121,7 +122,7 @@ module _ (act : Acts) (owner : Owners) (x : ℕ) (n : Place) (o : Named) (p : Pa
       holds = (
         live_sees,
         record { rest = refl; bindings = λ b i. refl; sent = λ m i. inr i },
-        (refl, refl),
+        (refl, (refl, refl)),
         (inl (ap (machine.Live a) (sym (sees.recorded l.binding (good.live l live)))), (let s = sees.live l live in s.server), (let s = sees.live l live in (s.named, s.incarnation)), more),
       );
     }
@@ -143,9 +144,10 @@ module _ (act : Acts) (owner : Owners) (x : ℕ) (n : Place) (o : Named) (p : Pa
         live = sees.live;
         made = sees.made;
         asked = sees.asked;
+        making = sees.making;
       },
       nothing_else,
-      (refl, refl),
+      (refl, (refl, refl)),
       (let s = sees.made (top_of p) m is in (s.sent, s.server, s.maker, more)),
     );
   }
@@ -214,13 +216,17 @@ module _ (act : Acts) (owner : Owners) (x : ℕ) (n : Place) (o : Named) (p : Pa
           (λ (other : (t ≢ top_of p) × (at_uid t o.made ≡ Some m)). old_made t m other.0 other.1)
           (put_cases t (top_of p) fresh m o.made is);
       asked = sees.asked;
+      making = λ t topped_so since untold. ⊎_elim
+          (λ (own : t ≡ top_of p). (fresh, ap (λ (w : Uid). at_uid w after.made) own ∙ put_same (top_of p) fresh o.made, sym (ap (λ (w : Uid). V.naming.made (act w)) own ∙ act_here S.naming.made a b)))
+          (λ (apart : t ≢ top_of p). (let same_made = act_other S.naming.made a b (act t) (other_act act one t (top_of p) apart) in let h = sees.making t topped_so (subst (λ (j : ℕ). S.naming.first ≤ j) same_made since) untold in (h.0, put_other t (top_of p) fresh o.made apart ∙ h.1, h.2 ∙ sym same_made)))
+          (uid_cases t (top_of p));
     }
 
     new_goes : Goes S (Answers (count + 1) after (Some (bound.Make (record { inc = inc; count = count + 1 }) server inc stores)))
     new_goes = record {
       state = V;
       run = step (BindNew a b server) (topped.top, sees.bound, clear_seen act (entry x) (top_path p) mode.Write o.rows S.naming.rows topped.along sees.rows free) stay;
-      holds = (new_sees, record { rest = refl; bindings = λ k less. old_binding k (let m = sees.bound in omega (arith, less, m)); sent = λ m i. inr i }, (refl, refl), (new_made.sent, new_made.server, new_made.maker, (let m = sees.bound in omega (arith, m, before))));
+      holds = (new_sees, record { rest = refl; bindings = λ k less. old_binding k (let m = sees.bound in omega (arith, less, m)); sent = λ m i. inr i }, (refl, (refl, refl)), (new_made.sent, new_made.server, new_made.maker, (let m = sees.bound in omega (arith, m, before))));
     }
 
   -- ---- an include
@@ -252,9 +258,10 @@ module _ (act : Acts) (owner : Owners) (x : ℕ) (n : Place) (o : Named) (p : Pa
           live = λ k is. let s = sees.live k is in record { server = s.server; named = s.named; incarnation = s.incarnation };
           made = λ t m is. let s = sees.made t m is in record { last = s.last; server = s.server; maker = s.maker; sent = inr s.sent; noted = λ h. inr (s.noted h) };
           asked = write_asked;
+          making = sees.making;
         },
         record { rest = refl; bindings = λ k less. refl; sent = λ m i. inr i },
-        (refl, refl),
+        (refl, (refl, refl)),
         inl (ap (machine.Granted a) (sym sees.first)),
       );
     }

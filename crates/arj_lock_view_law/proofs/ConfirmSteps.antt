@@ -1,5 +1,5 @@
 -- Whole naming goes at a Confirm.
-use Rattle.std.proofs.Common.{◌≡◌, ◌⊎◌, ◌∙◌, ◌*◌, ◌==◌, ◌||◌, if◌then◌else◌, not, ℕ, List, [], ◌∷◌, Bool, true, false, cond, Option, Some, None, refl, sym, ap, subst, inl, inr, ⊎_elim, arith, eqb-true}
+use Rattle.std.proofs.Common.{Contains, ◌≡◌, ◌⊎◌, ◌∙◌, ◌*◌, ◌==◌, ◌||◌, if◌then◌else◌, not, ℕ, List, [], ◌∷◌, Bool, true, false, cond, Option, Some, None, refl, sym, ap, subst, inl, inr, ⊎_elim, arith, eqb-true}
 use Rattle.std.specs.Prelude.{option_map}
 use Rattle.std.proofs.lemmas.Bool.{or_parts}
 use Rattle.arj_lock.proofs.Members as list
@@ -27,7 +27,7 @@ use Rattle.arj_part_law.proofs.Keys.{with_on}
 use Rattle.arj_lock_view_law.specs.Acts.{Acts}
 use Rattle.arj_lock_view_law.specs.Going.{Goes, OnlyNaming}
 use Rattle.arj_lock_view_law.specs.Named.{SeesNamed}
-use Rattle.arj_lock_view_law.specs.Namings.{ConfirmsAreTaken, HaveFirsts, IsAsking, IsConfirming, SeesNaming, ShowsConfirmed, StandsFirst, place_of}
+use Rattle.arj_lock_view_law.specs.Namings.{ConfirmsAreTaken, HaveFirsts, IsAsking, IsConfirming, OnlyConfirms, SeesNaming, ShowsConfirmed, StandsFirst, place_of}
 use Rattle.arj_lock_view_law.specs.Telling.{View}
 use Rattle.arj_lock_view_law.proofs.FirstRows.{first_confirmed, first_more, first_of, have_locked}
 use Rattle.arj_lock_view_law.proofs.NamingSteps.{naming_itself, not_itself}
@@ -131,7 +131,7 @@ module _ (v : View) (owner : Owners) (p : Path) (grants : Grants) (excluded incl
   top = top_of p
 
   abbrev Takes : Served Naming ConfirmedReply → Type 0
-  Takes r = Goes S (λ T. SeesNaming v r.part T × OnlyNaming S T × ShowsConfirmed v top grants T r.reply)
+  Takes r = Goes S (λ T. SeesNaming v r.part T × OnlyNaming S T × OnlyConfirms v top grants S T r.reply × ShowsConfirmed v top grants T r.reply)
 
   -- the top is among those that naming confirmed
   confirms_seen : (m : Naming) → SeesNaming v m S → SeesNaming v (confirms top m) S
@@ -190,7 +190,15 @@ module _ (v : View) (owner : Owners) (p : Path) (grants : Grants) (excluded incl
       live = λ l is. let z = k.live l is in record { server = z.server; named = z.named; incarnation = z.incarnation };
       made = λ t q is. let z = k.made t q is in record { last = z.last; server = z.server; maker = z.maker; sent = z.sent; noted = z.noted };
       asked = k.asked;
+      making = k.making;
     }
+
+    only_top : OnlyConfirms v top grants S T (Some confirmed.Yes)
+    only_top a h = by (same a (act top)) refl h
+      where
+        by : (b : Bool) → same a (act top) ≡ b → cond b true (S.confirmed a) ≡ true → (S.confirmed a ≡ true) ⊎ ((a ≡ act top) × (◌≡◌ {A = Option ConfirmedReply} (Some confirmed.Yes) (Some confirmed.Yes)) × (h : ℕ) × Contains {X = ℕ × ℕ} grants (v.x, h))
+        by true is k = inr (same_is a (act top) is, refl, g, in_to {X = ℕ × ℕ} (v.x, g) grants given)
+        by false is k = inl k
 
     step_goes : Takes (record { part = confirms top m; outs = []; reply = Some confirmed.Yes })
     step_goes = record {
@@ -199,6 +207,7 @@ module _ (v : View) (owner : Owners) (p : Path) (grants : Grants) (excluded incl
       holds = (
         record { named = s.named; there = s.there; seen = named_after; told = s.told; confirmed = who_confirmed; firsts = λ r i. first_confirmed act asking.one top m.confirmed (with_uid top m.confirmed) S.naming.confirmed r.holder new (λ u old. with_on u top m.confirmed (inr old)) (s.firsts r i) },
         record { rest = refl; bindings = λ b l. refl; sent = λ z i. i },
+        only_top,
         (λ h c. act_here S.confirmed (act top) true),
       );
     }
@@ -207,13 +216,13 @@ module _ (v : View) (owner : Owners) (p : Path) (grants : Grants) (excluded incl
   yes_goes : (m : Naming) → SeesNaming v m S → is_on m.confirmed top ≡ false → first_of_each (other_grant n) grants ≡ None → Takes (record { part = confirms top m; outs = []; reply = Some confirmed.Yes })
   yes_goes m s new looked = ⊎_elim
       (λ (h : (g : ℕ) × list.In (v.x, g) grants). step_goes m s new h.0 h.1 (grant_now n v.x h.0 grants looked h.1))
-      (λ (none : (g : ℕ) → list.In (v.x, g) grants → ⊥). record { state = S; run = stay; holds = (confirms_seen m s, naming_itself S, (λ g c. absurd (none g (in_from (v.x, g) grants c)))) })
+      (λ (none : (g : ℕ) → list.In (v.x, g) grants → ⊥). record { state = S; run = stay; holds = (confirms_seen m s, naming_itself S, (λ a old. inl old), (λ g c. absurd (none g (in_from (v.x, g) grants c)))) })
       (has_grant v.x grants)
 
   -- ---- what is answered
 
   refused_goes : (r : ConfirmedReply) → checked p grants excluded included d n ≡ Some r → Takes (reply n r)
-  refused_goes r is = record { state = S; run = stay; holds = (sees, naming_itself S, shown r is) }
+  refused_goes r is = record { state = S; run = stay; holds = (sees, naming_itself S, (λ a old. inl old), shown r is) }
     where
       shown : (q : ConfirmedReply) → checked p grants excluded included d n ≡ Some q → ShowsConfirmed v top grants S (Some q)
       shown confirmed.Yes h = absurd (checks_refuse p grants excluded included d n h)
@@ -245,9 +254,9 @@ module _ (v : View) (owner : Owners) (p : Path) (grants : Grants) (excluded incl
 
       prepared : (ss : List ObjectState) (a : Prep) → Takes (prepared_by top ss (lock_all (wanted top grants excluded d) p n) a)
       prepared ss Ready = let g = yes_goes (let t = lock_all (wanted top grants excluded d) p n in t.part) locked_seen new looked in record { state = g.state; run = g.run; holds = g.holds }
-      prepared ss (InDoubt u holder) = record { state = S; run = stay; holds = (locked_seen, naming_itself S, tt) }
-      prepared ss (Already u) = record { state = S; run = stay; holds = (locked_seen, naming_itself S, tt) }
-      prepared ss (Old u w) = record { state = S; run = stay; holds = (locked_seen, naming_itself S, tt) }
+      prepared ss (InDoubt u holder) = record { state = S; run = stay; holds = (locked_seen, naming_itself S, (λ a old. inl old), tt) }
+      prepared ss (Already u) = record { state = S; run = stay; holds = (locked_seen, naming_itself S, (λ a old. inl old), tt) }
+      prepared ss (Old u w) = record { state = S; run = stay; holds = (locked_seen, naming_itself S, (λ a old. inl old), tt) }
 
       by : (ss : List ObjectState) → Takes (confirm_entries top ss d (lock_all (wanted top grants excluded d) p n))
       by [] = let g = yes_goes (let t = lock_all (wanted top grants excluded d) p n in t.part) locked_seen new looked in record { state = g.state; run = g.run; holds = g.holds }
@@ -258,8 +267,8 @@ module _ (v : View) (owner : Owners) (p : Path) (grants : Grants) (excluded incl
     where
       by : (none e : Bool) → (is_on n.confirmed top || is_prepared top d) ≡ e → (r : Option ConfirmedReply) → checked p grants excluded included d n ≡ r
           → Takes (if none then void n else (if e then reply (confirms top n) confirmed.Yes else confirm_new p grants excluded included d n r))
-      by true e again r is = record { state = S; run = stay; holds = (sees, naming_itself S, tt) }
-      by false true again r is = record { state = S; run = stay; holds = (confirms_seen n sees, naming_itself S, (λ g c. confirming.again g c again)) }
+      by true e again r is = record { state = S; run = stay; holds = (sees, naming_itself S, (λ a old. inl old), tt) }
+      by false true again r is = record { state = S; run = stay; holds = (confirms_seen n sees, naming_itself S, (λ a old. inl old), (λ g c. confirming.again g c again)) }
       by false false again (Some r) is = refused_goes r is
       by false false again None is = new_goes (or_parts (is_on n.confirmed top) (is_prepared top d) again).0 is
 

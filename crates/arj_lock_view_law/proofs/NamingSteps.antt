@@ -25,7 +25,7 @@ use Rattle.arj_part_law.specs.Tops.{Owners}
 use Rattle.arj_part_law.proofs.Pairs.{each_at}
 use Rattle.arj_lock_view_law.specs.Acts.{Acts}
 use Rattle.arj_lock_view_law.specs.Bindings.{IsUntold}
-use Rattle.arj_lock_view_law.specs.Going.{Goes, NobodyTold, OnlyNaming, ShowsBound, ShowsNoted}
+use Rattle.arj_lock_view_law.specs.Going.{Goes, NobodyConfirmed, NobodyTold, OnlyNaming, ShowsBound, ShowsNoted}
 use Rattle.arj_lock_view_law.specs.Named.{IsNamedSo, SeesNamed}
 use Rattle.arj_lock_view_law.specs.Namings.{BindsAreTaken, HaveFirsts, HellosAreTaken, IsAsking, NotesAreTaken, SeesNaming, StandsFirst, place_of}
 use Rattle.arj_lock_view_law.specs.Telling.{View}
@@ -49,6 +49,7 @@ counted_more v n o count S more s = record {
   live = s.live;
   made = s.made;
   asked = s.asked;
+  making = s.making;
 }
 
 -- who stands on a path that isn't over wasn't told of
@@ -106,8 +107,8 @@ module _ (v : View) (owner : Owners) (p : Path) (n : Naming) (S : State) (asking
     there = put_same v.x new n.objects;
     seen = s;
     told = λ q topped fresh. ap (λ (f : Act → Bool). f (act (top_of q))) none.0 ∙ sees.told q topped fresh;
-    confirmed = λ u h. sees.confirmed u (sym (ap (λ (f : Act → Bool). f (act u)) none.1) ∙ h);
-    firsts = subst (λ (f : Act → Bool). HaveFirsts act n.confirmed f new.rows) (sym none.1) firsts;
+    confirmed = λ u h. sees.confirmed u (sym (ap (λ (f : Act → Bool). f (act u)) none.1.0) ∙ h);
+    firsts = subst (λ (f : Act → Bool). HaveFirsts act n.confirmed f new.rows) (sym none.1.0) firsts;
   }
 
   -- or another one
@@ -140,21 +141,21 @@ module _ (v : View) (owner : Owners) (p : Path) (n : Naming) (S : State) (asking
     bound_by y o = bind_named n.inc y p include avoid (listed_entry y d) (record { named = o; count = n.count })
 
     abbrev BindTakes : ℕ → Served Naming BoundReply → Type 0
-    BindTakes y r = Goes S (λ T. SeesNaming v r.part T × OnlyNaming S T × (y ≡ v.x → ShowsBound act (top_of p) avoid T r.reply))
+    BindTakes y r = Goes S (λ T. SeesNaming v r.part T × OnlyNaming S T × NobodyConfirmed S T × (y ≡ v.x → ShowsBound act (top_of p) avoid T r.reply))
 
     bind_void : (y : ℕ) → BindTakes y (void n)
-    bind_void y = record { state = S; run = stay; holds = (sees, naming_itself S, λ same. tt) }
+    bind_void y = record { state = S; run = stay; holds = (sees, naming_itself S, refl, λ same. tt) }
 
     bind_own : binding_number avoid < S.naming.bound → (o : Named) → at_number v.x n.objects ≡ Some o → BindTakes v.x (on_counted v.x (bind_named n.inc v.x p include avoid (listed_entry v.x d)) n (Some o))
     bind_own before o found = goes_to
         (binds_are_seen act owner v.x (place_of n) o p include avoid (listed_entry v.x d) S asking.one asking.topped before (asking.good o found) (sees_found o found))
-        (λ T g. (own_put (let c = (bound_by v.x o).part in c.named) (let c = (bound_by v.x o).part in c.count) T g.2 (have_bound (StandsFirst act n.confirmed S.naming.confirmed) p own_first n.inc v.x (listed_entry v.x d) (record { named = o; count = n.count }) (firsts_found o found) include avoid) g.0, g.1, λ same. g.3))
+        (λ T g. (own_put (let c = (bound_by v.x o).part in c.named) (let c = (bound_by v.x o).part in c.count) T g.2 (have_bound (StandsFirst act n.confirmed S.naming.confirmed) p own_first n.inc v.x (listed_entry v.x d) (record { named = o; count = n.count }) (firsts_found o found) include avoid) g.0, g.1, g.2.1.1, λ same. g.3))
 
     bind_other : (y : ℕ) (o : Named) → (y == v.x) ≡ false → is_eq (nat_cmp v.x y) ≡ false → BindTakes y (on_counted y (bind_named n.inc y p include avoid (listed_entry y d)) n (Some o))
     bind_other y o off apart = record {
       state = S;
       run = stay;
-      holds = (other_put y (let c = (bound_by y o).part in c.named) (let c = (bound_by y o).part in c.count) (bind_counts n.inc y p include avoid (listed_entry y d) (record { named = o; count = n.count })) apart, naming_itself S, λ same. absurd (not_itself y v.x off same));
+      holds = (other_put y (let c = (bound_by y o).part in c.named) (let c = (bound_by y o).part in c.count) (bind_counts n.inc y p include avoid (listed_entry y d) (record { named = o; count = n.count })) apart, naming_itself S, refl, λ same. absurd (not_itself y v.x off same));
     }
 
     pub bind_taken : (y : ℕ) → (y ≡ v.x → binding_number avoid < S.naming.bound) → BindTakes y (bind p y include avoid d n)
@@ -175,12 +176,12 @@ module _ (v : View) (owner : Owners) (p : Path) (n : Naming) (S : State) (asking
 
   module _ (b : Binding) (i : ℕ) where
     abbrev NoteTakes : ℕ → Served Naming RecordedReply → Type 0
-    NoteTakes y r = Goes S (λ T. SeesNaming v r.part T × OnlyNaming S T × (y ≡ v.x → ShowsNoted b T r.reply))
+    NoteTakes y r = Goes S (λ T. SeesNaming v r.part T × OnlyNaming S T × NobodyConfirmed S T × (y ≡ v.x → ShowsNoted b T r.reply))
 
     note_own : is_over p n ≡ false → IsNamedSo S b i → (o : Named) → at_number v.x n.objects ≡ Some o → NoteTakes v.x (on_named v.x (note_named v.x (top_of p) b i) n (Some o))
     note_own fresh named o found = goes_to
         (notes_are_seen act owner v.x (place_of n) o (top_of p) b i S asking.one untold named (asking.good o found) (sees_found o found))
-        (λ T g. (own_put (let r = note_named v.x (top_of p) b i o in r.part) n.count T g.2 (have_noted (StandsFirst act n.confirmed S.naming.confirmed) v.x (top_of p) b i o (firsts_found o found)) g.0, g.1, λ same. g.3))
+        (λ T g. (own_put (let r = note_named v.x (top_of p) b i o in r.part) n.count T g.2 (have_noted (StandsFirst act n.confirmed S.naming.confirmed) v.x (top_of p) b i o (firsts_found o found)) g.0, g.1, g.2.1.1, λ same. g.3))
       where
         untold : IsUntold act owner (place_of n) S (top_of p)
         untold = record { own = apart (top_of p) top_there; above = apart (owner (top_of p)) (let f = asking.fits in f.owned); seen = sees.told p asking.topped fresh }
@@ -196,17 +197,17 @@ module _ (v : View) (owner : Owners) (p : Path) (n : Naming) (S : State) (asking
     note_other y o off apart = record {
       state = S;
       run = stay;
-      holds = (other_put y (let r = note_named y (top_of p) b i o in r.part) n.count (omega arith) apart, naming_itself S, λ same. absurd (not_itself y v.x off same));
+      holds = (other_put y (let r = note_named y (top_of p) b i o in r.part) n.count (omega arith) apart, naming_itself S, refl, λ same. absurd (not_itself y v.x off same));
     }
 
     pub note_taken : (y g : ℕ) → (y ≡ v.x → IsNamedSo S b i) → NoteTakes y (note p y b i g n)
     note_taken y g named = by (is_over p n) refl (at_number y n.objects) refl (g == n.inc)
       where
         nothing : NoteTakes y (void n)
-        nothing = record { state = S; run = stay; holds = (sees, naming_itself S, λ same. tt) }
+        nothing = record { state = S; run = stay; holds = (sees, naming_itself S, refl, λ same. tt) }
 
         changed : NoteTakes y (reply n (recorded.Changed (what.Inc g n.inc)))
-        changed = record { state = S; run = stay; holds = (sees, naming_itself S, λ same. tt) }
+        changed = record { state = S; run = stay; holds = (sees, naming_itself S, refl, λ same. tt) }
 
         here : is_over p n ≡ false → (o : Named) → at_number y n.objects ≡ Some o → NoteTakes y (on_named y (note_named y (top_of p) b i) n (Some o))
         here fresh o found = ⊎_elim

@@ -3,6 +3,7 @@ use Rattle.std.proofs.Common.{◌≡◌, ◌≢◌, ◌≤◌, ◌<◌, ◌∙�
 use Rattle.std.specs.Prelude.{min}
 use Rattle.std.specs.List.{list_any}
 use Rattle.std.proofs.lemmas.Bool.{and_parts}
+use Rattle.arj_base.proofs.Uids.{uid_cases}
 use Rattle.arj_protocol.specs.Words.{Uid, Binding, RecordedReply, entry, is_on, lower_row}
 use Rattle.arj_protocol.specs.Words.recorded
 use Rattle.arj_protocol.specs.Effect.{reply, void}
@@ -15,7 +16,7 @@ use Rattle.arj_lock_law.specs.State.{State}
 use Rattle.arj_lock_law.specs.Steps.{IsCurrent, Record}
 use Rattle.arj_lock_law.proofs.Paths.{act_cases, other_way}
 use Rattle.arj_part_law.specs.Tops.{Owners}
-use Rattle.arj_part_law.proofs.Keys.{put_cases}
+use Rattle.arj_part_law.proofs.Keys.{put_cases, put_other, put_same}
 use Rattle.arj_lock_view_law.specs.Acts.{Acts, AreOne}
 use Rattle.arj_lock_view_law.specs.Bindings.{HellosAreSeen, IsGood, IsUntold, NotesAreSeen}
 use Rattle.arj_lock_view_law.specs.Going.{Goes, NobodyTold, OnlyNaming, ShowsNoted}
@@ -31,11 +32,11 @@ module _ (act : Acts) (owner : Owners) (x : ℕ) (n : Place) (o : Named) (t : Ui
   nothing_else = record { rest = refl; bindings = λ k l. refl; sent = λ m j. j }
 
   unknown : Goes S (Answers o None)
-  unknown = record { state = S; run = stay; holds = (sees, nothing_else, (refl, refl), tt) }
+  unknown = record { state = S; run = stay; holds = (sees, nothing_else, (refl, (refl, refl)), tt) }
 
   -- it was recorded before
   again : In (machine.Recorded (binding_number b)) S.net → Goes S (Answers o (Some recorded.Yes))
-  again there = record { state = S; run = stay; holds = (sees, nothing_else, (refl, refl), there) }
+  again there = record { state = S; run = stay; holds = (sees, nothing_else, (refl, (refl, refl)), there) }
 
   -- ---- it is recorded
 
@@ -130,13 +131,17 @@ module _ (act : Acts) (owner : Owners) (x : ℕ) (n : Place) (o : Named) (t : Ui
       }));
       made = made_after;
       asked = sees.asked;
+      making = λ u top since free. ⊎_elim
+          (λ (mine : u ≡ t). (record m { recorded = true }, ap (λ (w : Uid). at_uid w used.made) mine ∙ put_same t (record m { recorded = true }) o.made, (let s = sees.made t m made in sym (ap (λ (w : Uid). S.naming.made (act w)) mine ∙ s.last))))
+          (λ (other : u ≢ t). (let h = sees.making u top since free in (h.0, put_other u t (record m { recorded = true }) o.made other ∙ h.1, h.2)))
+          (uid_cases u t);
     }
 
     noted_goes : Goes S (Answers after (Some recorded.Yes))
     noted_goes = record {
       state = T;
       run = step (Record k) guard stay;
-      holds = (subst (λ (v : Named). SeesNamed act x n v T) (same_rest (is_lowered x t used)) seen_after, record { rest = refl; bindings = λ j l. refl; sent = λ q j. inr j }, (refl, refl), inl (ap machine.Recorded is));
+      holds = (subst (λ (v : Named). SeesNamed act x n v T) (same_rest (is_lowered x t used)) seen_after, record { rest = refl; bindings = λ j l. refl; sent = λ q j. inr j }, (refl, (refl, refl)), inl (ap machine.Recorded is));
     }
 
   -- ---- whichever it is
@@ -180,6 +185,7 @@ hellos_are_seen act x n o node inc S sees = record {
   live = λ l is. sees.live l (kept o.live l is);
   made = sees.made;
   asked = sees.asked;
+  making = sees.making;
 }
   where
     kept : (v : Option Live) (l : Live) → live_after node inc v ≡ Some l → v ≡ Some l

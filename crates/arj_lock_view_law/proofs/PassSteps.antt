@@ -17,7 +17,7 @@ use Rattle.arj_lock_law.specs.Machine.{next, stay, step}
 use Rattle.arj_lock_law.specs.State.{State}
 use Rattle.arj_lock_law.specs.Steps.{DropEntry, PassEntry}
 use Rattle.arj_lock_law.specs.Rows as machine
-use Rattle.arj_lock_law.proofs.Paths.{differ, not_below, on_same, on_self, same_is, same_self}
+use Rattle.arj_lock_law.proofs.Paths.{act_here, differ, not_below, on_same, on_self, same_is, same_self}
 use Rattle.arj_lock_law.proofs.Rows.{pass_cases}
 use Rattle.arj_part_law.specs.Objects.{IsToldOf}
 use Rattle.arj_part_law.specs.Rows.{Told}
@@ -28,7 +28,7 @@ use Rattle.arj_lock_view_law.specs.Ends.{CommitsAreSeen, MayGo, MayPass, OnlyTol
 use Rattle.arj_lock_view_law.specs.Going.{Goes, OnlyNaming, SameConfirmed}
 use Rattle.arj_lock_view_law.specs.Named.{Place, SeesNamed}
 use Rattle.arj_lock_view_law.specs.Rows.{SeesRows, held_in, strength}
-use Rattle.arj_lock_view_law.proofs.EndSteps.{ended_seen, only_naming, told_below}
+use Rattle.arj_lock_view_law.proofs.EndSteps.{ended_seen, only_naming, told_below, told_itself, told_still}
 use Rattle.arj_lock_view_law.proofs.RowSteps.{counts, part_of, stronger_is}
 
 -- ---- what is held, row by row
@@ -192,7 +192,7 @@ module _ (act : Acts) (owner : Owners) (x : ℕ) (n : Place) (told : Told) (o : 
     commit_goes = record {
       state = T;
       run = step (DropEntry (act u)) may stay;
-      holds = (ended_seen act owner x n told o u S later good sees (pass_rows u o.rows) T.naming.rows T.naming.told (gone_seen act one (entry x) u o.rows S.naming.rows sees.rows), only_naming S T.naming, told_below act u S, refl);
+      holds = (ended_seen act owner x n told o u S later good sees (pass_rows u o.rows) T.naming.rows T.naming.told (λ top. told_itself act u S) (told_still act u S) (gone_seen act one (entry x) u o.rows S.naming.rows sees.rows), only_naming S T.naming, told_below act u S, (refl, refl));
     }
 
   -- ---- or pass
@@ -203,6 +203,16 @@ module _ (act : Acts) (owner : Owners) (x : ℕ) (n : Place) (told : Told) (o : 
 
     rows_passed : SeesRows act (entry x) (pass_rows u o.rows) V.naming.rows
     rows_passed = passed_seen act one (entry x) u s o.rows good.rows.one (Root may.unit) may.number may.serial may.below (λ r i held. may.heirs r (in_to r o.rows i) held) S.naming.rows sees.rows
+
+    told_now : V.naming.told (act u) ≡ true
+    told_now = ap V.naming.told may.below ∙ act_here S.naming.told (Sub (Root may.unit) may.number) true
+
+    told_before : (a : Act) → V.naming.told a ≡ false → S.naming.told a ≡ false
+    told_before a off = by (same a (Sub (Root may.unit) may.number)) off
+      where
+        by : (w : Bool) → cond w true (S.naming.told a) ≡ false → S.naming.told a ≡ false
+        by true is = absurd (cc is)
+        by false is = is
 
     told_passed : OnlyTold act u S V
     told_passed a h = by (same a (Sub (Root may.unit) may.number)) refl h
@@ -215,7 +225,7 @@ module _ (act : Acts) (owner : Owners) (x : ℕ) (n : Place) (told : Told) (o : 
     pass_goes = record {
       state = V;
       run = step (PassEntry may.unit may.number) (ap (λ (b : Act). (S.action b).stage) (sym may.below) ∙ may.committed) stay;
-      holds = (ended_seen act owner x n told o u S later good sees (pass_rows u o.rows) V.naming.rows V.naming.told rows_passed, only_naming S V.naming, told_passed, refl);
+      holds = (ended_seen act owner x n told o u S later good sees (pass_rows u o.rows) V.naming.rows V.naming.told (λ top. told_now) told_before rows_passed, only_naming S V.naming, told_passed, (refl, refl));
     }
 
 pub commits_are_seen : CommitsAreSeen

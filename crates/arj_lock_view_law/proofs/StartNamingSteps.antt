@@ -23,10 +23,10 @@ back_at d x (e ∷ es) o h = by (is_eq (nat_cmp x e.0.num)) h (back_at d x es o)
     by false is rest = rest is
 
 pub naming_stops : NamingStops
-naming_stops v owner n S few good sees = falls_are_seen v.family.act owner v.x (place_of n) sees.named S few (good sees.named sees.there) sees.seen
+naming_stops v owner n S few reached good sees = falls_are_seen v.family.act owner v.x (place_of n) sees.named S few reached (good sees.named sees.there) sees.seen
 
 pub naming_is_down : NamingIsDown
-naming_is_down first inc = record { bound = omega arith; first = omega arith; recorded = omega arith; empty = λ a. (refl, refl); nobody = λ a. (refl, refl) }
+naming_is_down first inc = record { bound = omega arith; first = omega arith; recorded = omega arith; empty = λ a. (refl, refl); nobody = λ a. (refl, refl); made = λ m. omega arith }
 
 pub naming_starts : NamingStarts
 naming_starts v inc i d o S up there down = goes_to
@@ -36,11 +36,12 @@ naming_starts v inc i d o S up there down = goes_to
         named = o;
         there = there;
         seen = subst (λ (z : Named). SeesNamed v.family.act v.x (place_of (recovered_naming i d)) z T) (sym back.1) g.0;
-        told = λ p topped fresh. (g.2 _).0;
-        confirmed = λ u h. (let k = g.2 (v.family.act u) in absurd (cc (sym h ∙ k.1)));
-        firsts = subst (λ (z : Named). HaveFirsts v.family.act (let n = recovered_naming i d in n.confirmed) T.naming.confirmed z.rows) (sym back.1) (firsts_back v.family.act T.naming.confirmed back.0.0 back.0.1 d.pend (λ a. (g.2 a).1));
+        told = λ p topped fresh. (g.3 _).0;
+        confirmed = λ u h. (let k = g.3 (v.family.act u) in absurd (cc (sym h ∙ k.1)));
+        firsts = subst (λ (z : Named). HaveFirsts v.family.act (let n = recovered_naming i d in n.confirmed) T.naming.confirmed z.rows) (sym back.1) (firsts_back v.family.act T.naming.confirmed back.0.0 back.0.1 d.pend (λ a. (g.3 a).1));
       },
       g.1,
+      g.2,
     ))
   where
     back : (e : Uid × ObjectState) × (o ≡ unnamed (rows_back e.0 e.1 (pending_of e.0 d.pend)))

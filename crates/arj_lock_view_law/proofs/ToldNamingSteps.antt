@@ -22,7 +22,7 @@ use Rattle.arj_part_law.proofs.Keys.{drop_on, on_with, with_on}
 use Rattle.arj_part_law.proofs.Pairs.{each_at}
 use Rattle.arj_lock_view_law.specs.Acts.{Acts, IsTopped}
 use Rattle.arj_lock_view_law.specs.Ends.{MayGo, MayPass, OnlyTold}
-use Rattle.arj_lock_view_law.specs.Going.{Goes, OnlyNaming, SameConfirmed}
+use Rattle.arj_lock_view_law.specs.Going.{Goes, NobodyConfirmed, OnlyNaming, SameConfirmed}
 use Rattle.arj_lock_view_law.specs.Named.{SeesNamed}
 use Rattle.arj_lock_view_law.specs.Namings.{EndsAreTold, HasNothingAt, HaveFirsts, IsTelling, SeesNaming, ShowsEndAt, place_of}
 use Rattle.arj_lock_view_law.specs.Rows.{SeesRows}
@@ -71,8 +71,8 @@ module _ (v : View) (owner : Owners) (u : Uid) (e : End) (n : Naming) (S : State
     confirmed = λ w h. ⊎_elim
         (λ (there : is_on n.confirmed w ≡ true). ⊎_elim (λ (own : w ≡ u). inr (with_on w u n.told (inl own))) (λ (other : w ≢ u). inl (drop_on w u n.confirmed other there)) (uid_cases w u))
         (λ (old : is_on n.told w ≡ true). inr (with_on w u n.told (inr old)))
-        (sees.confirmed w (sym (ap (λ (g : Act → Bool). g (act w)) same) ∙ h));
-    firsts = subst (λ (g : Act → Bool). HaveFirsts act (drop_uid u n.confirmed) g (let o = end_named u f sees.named in o.rows)) (sym same) (firsts_ended act n.confirmed S.naming.confirmed u f sees.named sees.firsts);
+        (sees.confirmed w (sym (ap (λ (g : Act → Bool). g (act w)) same.0) ∙ h));
+    firsts = subst (λ (g : Act → Bool). HaveFirsts act (drop_uid u n.confirmed) g (let o = end_named u f sees.named in o.rows)) (sym same.0) (firsts_ended act n.confirmed S.naming.confirmed u f sees.named sees.firsts);
   }
     where
       untold : (p : Path) → IsTopped act p → list_any heard (top_path p) ≡ false → (b : Bool) → T.naming.told (act (top_of p)) ≡ b → b ≡ false
@@ -83,16 +83,16 @@ module _ (v : View) (owner : Owners) (u : Uid) (e : End) (n : Naming) (S : State
           (only (act (top_of p)) is))
 
   abbrev Takes : End → Type 0
-  Takes f = Goes S (λ T. SeesNaming v (end_locks u f n) T × OnlyNaming S T)
+  Takes f = Goes S (λ T. SeesNaming v (end_locks u f n) T × OnlyNaming S T × NobodyConfirmed S T)
 
   abort_goes : MayGo S (act u) → Takes ending.Abort
-  abort_goes may = goes_to (aborts_are_seen act owner v.x (place_of n) heard sees.named u S telling.owned later may (telling.good sees.named sees.there) sees.seen) (λ T g. (ended ending.Abort T g.2 g.3 g.0, g.1))
+  abort_goes may = goes_to (aborts_are_seen act owner v.x (place_of n) heard sees.named u S telling.owned later may (telling.good sees.named sees.there) sees.seen) (λ T g. (ended ending.Abort T g.2 g.3 g.0, g.1, g.3.1))
 
   commit_goes : MayGo S (act u) → Takes ending.Commit
-  commit_goes may = goes_to (commits_are_seen act owner v.x (place_of n) heard sees.named u S telling.one later may (telling.good sees.named sees.there) sees.seen) (λ T g. (ended ending.Commit T g.2 g.3 g.0, g.1))
+  commit_goes may = goes_to (commits_are_seen act owner v.x (place_of n) heard sees.named u S telling.one later may (telling.good sees.named sees.there) sees.seen) (λ T g. (ended ending.Commit T g.2 g.3 g.0, g.1, g.3.1))
 
   pass_goes : (s : Uid) → MayPass act u s sees.named S → Takes ending.Commit
-  pass_goes s may = goes_to (passes_are_seen act owner v.x (place_of n) heard sees.named u s S telling.one later may (telling.good sees.named sees.there) sees.seen) (λ T g. (ended ending.Commit T g.2 g.3 g.0, g.1))
+  pass_goes s may = goes_to (passes_are_seen act owner v.x (place_of n) heard sees.named u s S telling.one later may (telling.good sees.named sees.there) sees.seen) (λ T g. (ended ending.Commit T g.2 g.3 g.0, g.1, g.3.1))
 
   -- a constituent that naming didn't confirm
   unconfirmed : (s : Uid) → MayPass act u s sees.named S → is_on n.confirmed u ≡ false → MayGo S (act u)
@@ -103,27 +103,28 @@ module _ (v : View) (owner : Owners) (u : Uid) (e : End) (n : Naming) (S : State
       by true is = absurd (⊎_elim (λ (there : is_on n.confirmed u ≡ true). cc (sym there ∙ none)) (λ (old : is_on n.told u ≡ true). cc (sym old ∙ fresh)) (sees.confirmed u is))
 
   -- an action that has nothing here: the machine does nothing
-  nothing_goes : HasNothingAt n sees.named u → Takes ending.Abort
-  nothing_goes none = record {
+  nothing_goes : HasNothingAt n sees.named u → is_top (act u) ≡ false → Takes ending.Abort
+  nothing_goes none nested = record {
     state = S;
     run = stay;
     holds = (
-      ended ending.Abort S (λ b h. inl h) refl (ended_seen act owner v.x (place_of n) heard sees.named u S later (telling.good sees.named sees.there) sees.seen (drop_rows u (sees.named).rows) S.naming.rows S.naming.told
+      ended ending.Abort S (λ b h. inl h) (refl, refl) (ended_seen act owner v.x (place_of n) heard sees.named u S later (telling.good sees.named sees.there) sees.seen (drop_rows u (sees.named).rows) S.naming.rows S.naming.told (λ top. absurd (let bad : true ≡ false = sym top ∙ nested in cc bad)) (λ a off. off)
           (subst (λ (rs : List Row). SeesRows act (entry v.x) rs S.naming.rows) (sym (none_dropped u (sees.named).rows (λ r i. none.rows r (in_to r (sees.named).rows i)))) (sees.seen).rows)),
       naming_itself S,
+      refl,
     );
   }
 
   pub new_goes : Takes (taken_end u e n)
   new_goes = by e (telling.shown sees.named sees.there fresh)
     where
-      commit : (b : Bool) → is_on n.confirmed u ≡ b → MayGo S (act u) ⊎ (((s : Uid) × MayPass act u s sees.named S) ⊎ HasNothingAt n sees.named u) → Takes (cond b ending.Commit ending.Abort)
+      commit : (b : Bool) → is_on n.confirmed u ≡ b → MayGo S (act u) ⊎ (((s : Uid) × MayPass act u s sees.named S) ⊎ (HasNothingAt n sees.named u × (is_top (act u) ≡ false))) → Takes (cond b ending.Commit ending.Abort)
       commit true is (inl may) = commit_goes may
       commit true is (inr (inl (s, may))) = pass_goes s may
-      commit true is (inr (inr none)) = absurd (let e = none.unconfirmed in cc (sym is ∙ e))
+      commit true is (inr (inr none)) = absurd (let z = none.0 in let e = z.unconfirmed in cc (sym is ∙ e))
       commit false is (inl may) = abort_goes may
       commit false is (inr (inl (s, may))) = abort_goes (unconfirmed s may is)
-      commit false is (inr (inr none)) = nothing_goes none
+      commit false is (inr (inr none)) = nothing_goes none.0 none.1
 
       by : (f : End) → ShowsEndAt v n sees.named S u f → Takes (taken_end u f n)
       by ending.Abort shown = abort_goes shown
@@ -132,6 +133,6 @@ module _ (v : View) (owner : Owners) (u : Uid) (e : End) (n : Naming) (S : State
 pub ends_are_told : EndsAreTold
 ends_are_told v owner u e d n S telling sees = by (is_on n.told u) refl
   where
-    by : (b : Bool) → is_on n.told u ≡ b → Goes S (λ T. SeesNaming v (let t = cond b (did_nothing n) (told_new u (taken_end u e n) d n) in t.part) T × OnlyNaming S T)
-    by true old = record { state = S; run = stay; holds = (sees, naming_itself S) }
+    by : (b : Bool) → is_on n.told u ≡ b → Goes S (λ T. SeesNaming v (let t = cond b (did_nothing n) (told_new u (taken_end u e n) d n) in t.part) T × OnlyNaming S T × NobodyConfirmed S T)
+    by true old = record { state = S; run = stay; holds = (sees, naming_itself S, refl) }
     by false fresh = new_goes v owner u e n S telling fresh sees

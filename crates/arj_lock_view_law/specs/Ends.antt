@@ -12,7 +12,8 @@ use Rattle.arj_part_law.specs.Rows.{Told}
 use Rattle.arj_part_law.specs.Tops.{Owners}
 use Rattle.arj_lock_view_law.specs.Acts.{Acts, AreOne}
 use Rattle.arj_lock_view_law.specs.Bindings.{IsGood}
-use Rattle.arj_lock_view_law.specs.Going.{Goes, OnlyNaming, SameConfirmed}
+use Rattle.arj_lock_view_law.specs.Calling.{IsReached}
+use Rattle.arj_lock_view_law.specs.Going.{Goes, NobodyConfirmed, OnlyNaming, SameConfirmed}
 use Rattle.arj_lock_view_law.specs.Named.{Place, SeesNamed}
 
 -- each action stands below its owner, which is itself or its serializing action
@@ -60,21 +61,22 @@ PassesAreSeen = (act : Acts) (owner : Owners) (x : ℕ) (n : Place) (told : Told
 abbrev pub ExcludesAreSeen : Type 0
 ExcludesAreSeen = (act : Acts) (x : ℕ) (n : Place) (o : Named) (p : Path) (S : State) → SeesNamed act x n o S → SeesNamed act x n (locked x p mode.Exclude o) S
 
--- Naming is down, and its last incarnation was this one: the machine's naming has no rows, asked for nobody's, and was told of nobody and
--- confirmed nobody, in an incarnation that is at most the next one.
+-- Naming is down, and its last incarnation was this one: the machine's naming has no rows, asked for nobody's, was told of nobody and confirmed
+-- nobody, and made no binding, in an incarnation that is at most the next one.
 pub record SeesNothing (inc : ℕ) (S : State) : Type 0 where
   pub bound : S.naming.bound ≤ (inc + 1) * 4294967296
   pub first : S.naming.first ≤ (inc + 1) * 4294967296
   pub recorded : S.naming.recorded < (inc + 1) * 4294967296
   pub empty : (a : Act) → (S.naming.rows a ≡ 0) × (S.naming.asked a ≡ false)
   pub nobody : (a : Act) → (S.naming.told a ≡ false) × (S.naming.confirmed a ≡ false)
+  pub made : (m : Act) → S.naming.made m < S.naming.first
 
 -- Naming stops: so does the machine's. Counts of bindings have 32 bits.
 abbrev pub FallsAreSeen : Type 0
-FallsAreSeen = (act : Acts) (owner : Owners) (x : ℕ) (n : Place) (o : Named) (S : State) → n.count < 4294967296 → IsGood owner x n o → SeesNamed act x n o S → Goes S (λ T. SeesNothing n.inc T × OnlyNaming S T)
+FallsAreSeen = (act : Acts) (owner : Owners) (x : ℕ) (n : Place) (o : Named) (S : State) → n.count < 4294967296 → IsReached S → IsGood owner x n o → SeesNamed act x n o S → Goes S (λ T. SeesNothing n.inc T × OnlyNaming S T × NobodyConfirmed S T)
 
 -- Naming is up again in a later incarnation, whatever rows it gives back: the machine's naming restarts, unless it did already,
 -- and nobody is told of or confirmed.
 abbrev pub RestartsAreSeen : Type 0
 RestartsAreSeen = (act : Acts) (x inc : ℕ) (n : Place) (rows : List Row) (S : State) → inc < n.inc → n.count ≡ 0 → SeesNothing inc S
-    → Goes S (λ T. SeesNamed act x n (unnamed rows) T × OnlyNaming S T × ((a : Act) → (T.naming.told a ≡ false) × (T.naming.confirmed a ≡ false)))
+    → Goes S (λ T. SeesNamed act x n (unnamed rows) T × OnlyNaming S T × NobodyConfirmed S T × ((a : Act) → (T.naming.told a ≡ false) × (T.naming.confirmed a ≡ false)))

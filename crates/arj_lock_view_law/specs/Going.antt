@@ -23,9 +23,13 @@ pub record OnlyNaming (S T : State) : Type 0 where
   pub bindings : (b : ℕ) → b < S.naming.bound → T.binding b ≡ S.binding b
   pub sent : (m : machine.Message) → In m S.net → In m T.net
 
--- naming confirmed whom it had confirmed
+-- nobody was confirmed anew
+abbrev pub NobodyConfirmed : State → State → Type 0
+NobodyConfirmed S T = T.confirmed ≡ S.confirmed
+
+-- naming confirmed whom it had confirmed, in this incarnation and ever
 abbrev pub SameConfirmed : State → State → Type 0
-SameConfirmed S T = T.naming.confirmed ≡ S.naming.confirmed
+SameConfirmed S T = (T.naming.confirmed ≡ S.naming.confirmed) × NobodyConfirmed S T
 
 -- and was told of nobody else
 abbrev pub NobodyTold : State → State → Type 0

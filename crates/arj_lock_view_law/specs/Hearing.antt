@@ -1,13 +1,16 @@
 -- What a node does with a whole message, as far as its naming goes, in the machine of one object.
-use Rattle.std.specs.Prelude.{⊤, ◌≡◌, ◌<◌, ℕ, Bool, true, false, List, Option, Some, None, Contains}
+use Rattle.std.specs.Prelude.{⊤, ◌≡◌, ◌<◌, ◌⊎◌, ℕ, Bool, true, false, List, Option, Some, None, Contains}
 use Rattle.arj_protocol.specs.Words.{Ask, End, Head, Message, Uid, asks}
 use Rattle.arj_protocol.specs.Words.ask
+use Rattle.arj_protocol.specs.Words.confirmed
 use Rattle.arj_protocol.specs.Words.message
 use Rattle.arj_protocol.specs.Ask.{Reply, asked_by, last_end, response, top_of}
+use Rattle.arj_protocol.specs.Confirm.{Grants, Marks}
 use Rattle.arj_protocol.specs.Effect.{Disk, Effect, Send}
 use Rattle.arj_protocol.specs.Naming.{Naming}
 use Rattle.arj_protocol.specs.Node.{Handled, Parts, Took, Void, taken}
 use Rattle.arj_protocol.specs.Order.{binding_number}
+use Rattle.arj_lock_law.specs.Actions.{Act}
 use Rattle.arj_lock_law.specs.State.{State}
 use Rattle.arj_part_law.specs.Frames.{outs_of}
 use Rattle.arj_part_law.specs.Tops.{Owners}
@@ -79,6 +82,22 @@ abbrev pub AreRepliesShown : View → State → List Effect → Option (Head × 
 AreRepliesShown v T outs None = ⊤
 AreRepliesShown v T outs (Some q) = is_for_naming q.1 ≡ true → (to : ℕ) (z : Message) → Contains outs (Send to z) → (r : Reply) × (z ≡ response (asked_by q.0) r) × ShowsNamingReply v q.0 q.1 T r
 
+-- The request is a Confirm of this top, which has a grant on the object, and is answered Yes.
+pub record IsAnsweredYes (v : View) (from : ℕ) (q : Option (Head × Ask)) (outs : List Effect) (a : Act) : Type 0 where
+  pub head : Head
+  pub grants : Grants
+  pub excluded : Marks
+  pub included : Marks
+  pub is : q ≡ Some (head, ask.Confirm grants excluded included)
+  pub top : a ≡ v.family.act (top_of (let h = head in h.path))
+  pub grant : ℕ
+  pub given : Contains {X = ℕ × ℕ} grants (v.x, grant)
+  pub yes : Contains outs (Send from (response (asked_by head) (Reply.Confirmed confirmed.Yes)))
+
+-- nobody was confirmed anew but so
+abbrev pub AreConfirmsAnswered : View → ℕ → State → State → List Effect → Option (Head × Ask) → Type 0
+AreConfirmsAnswered v from S T outs q = (a : Act) → T.confirmed a ≡ true → (S.confirmed a ≡ true) ⊎ IsAnsweredYes v from q outs a
+
 -- ---- what the node does with it
 
 -- naming after it
@@ -86,8 +105,8 @@ abbrev pub naming_after : Parts → Handled → Option Naming
 naming_after t (Void outs) = t.naming
 naming_after t (Took u outs) = u.naming
 
--- A node takes a message: its naming is seen again, and what that answers is shown.
+-- A node takes a message: its naming is seen again, what that answers is shown, and whom the machine's naming confirms is answered Yes.
 abbrev pub MessagesAreHeard : Type 0
 MessagesAreHeard = (a : Site) (t : Parts) (from : ℕ) (m : Message) (S : State)
     → IsShownBy a S m (asks m) t.naming → SeesNamingIn a.view S t.naming
-    → let r = taken a.view.node a.disk t from m in Goes S (λ T. SeesNamingIn a.view T (naming_after t r) × OnlyNaming S T × AreRepliesShown a.view T (outs_of r) (asks m))
+    → let r = taken a.view.node a.disk t from m in Goes S (λ T. SeesNamingIn a.view T (naming_after t r) × OnlyNaming S T × AreRepliesShown a.view T (outs_of r) (asks m) × AreConfirmsAnswered a.view from S T (outs_of r) (asks m))

@@ -1,9 +1,9 @@
 -- One object at the naming service, as the lock machine has it.
-use Rattle.std.specs.Prelude.{◌≡◌, ◌≤◌, ◌<◌, ◌⊎◌, ℕ, ◌+◌, ◌*◌, true, Some, None}
+use Rattle.std.specs.Prelude.{◌≡◌, ◌≤◌, ◌<◌, ◌⊎◌, ℕ, ◌+◌, ◌*◌, true, false, Some, None}
 use Rattle.arj_protocol.specs.Words.{Uid, Binding, entry, is_on}
 use Rattle.arj_protocol.specs.Named.{Named, Made, Live}
 use Rattle.arj_protocol.specs.Order.{at_uid, binding_number}
-use Rattle.arj_lock_law.specs.Actions.{In}
+use Rattle.arj_lock_law.specs.Actions.{In, is_top}
 use Rattle.arj_lock_law.specs.State as machine
 use Rattle.arj_lock_law.specs.State.{State}
 use Rattle.arj_part_law.specs.Rows.{Told}
@@ -38,8 +38,13 @@ pub record Place : Type 0 where
   pub inc : ℕ
   pub count : ℕ
 
+-- naming has the last binding that the machine's made for the top
+abbrev pub HasLast : Acts → Named → machine.Naming → Uid → Type 0
+HasLast act o n t = (m : Made) × (at_uid t o.made ≡ Some m) × (binding_number m.binding ≡ n.made (act t))
+
 -- An object at naming: its locks, which binding is recorded, live and made for whom, and who asked by an include, unless it was
--- told of its end. Bindings that are still to be made are new to the machine.
+-- told of its end. Bindings that are still to be made are new to the machine, and what that made last for a top whose end it wasn't told is
+-- there.
 pub record SeesNamed (act : Acts) (x : ℕ) (n : Place) (o : Named) (S : State) : Type 0 where
   pub rows : SeesRows act (entry x) o.rows S.naming.rows
   pub bound : S.naming.bound ≤ binding_number (record { inc = n.inc; count = n.count + 1 })
@@ -50,3 +55,4 @@ pub record SeesNamed (act : Acts) (x : ℕ) (n : Place) (o : Named) (S : State) 
   pub live : (l : Live) → o.live ≡ Some l → SeesLive l S
   pub made : (t : Uid) (m : Made) → at_uid t o.made ≡ Some m → SeesMade act t m S
   pub asked : (t : Uid) → S.naming.asked (act t) ≡ true → (n.told t ≡ true) ⊎ (is_on o.asked t ≡ true)
+  pub making : (t : Uid) → is_top (act t) ≡ true → S.naming.first ≤ S.naming.made (act t) → S.naming.told (act t) ≡ false → HasLast act o S.naming t

@@ -9,15 +9,16 @@ use Rattle.arj_protocol.specs.Effect.{Pair, is_prepared}
 use Rattle.arj_protocol.specs.Named.{Named}
 use Rattle.arj_protocol.specs.Naming.{Naming, bind, hello, is_over, note, told}
 use Rattle.arj_protocol.specs.Order.{at_number, binding_number}
-use Rattle.arj_lock_law.specs.Actions.{Act, In}
+use Rattle.arj_lock_law.specs.Actions.{Act, In, is_top}
 use Rattle.arj_lock_law.specs.Machine.{start}
 use Rattle.arj_lock_law.specs.State as machine
 use Rattle.arj_lock_law.specs.State.{State}
 use Rattle.arj_part_law.specs.Tops.{Fits, Owners}
 use Rattle.arj_lock_view_law.specs.Acts.{Acts, AreOne, IsAlong, IsTopped}
 use Rattle.arj_lock_view_law.specs.Bindings.{IsGood}
+use Rattle.arj_lock_view_law.specs.Calling.{IsReached}
 use Rattle.arj_lock_view_law.specs.Ends.{AreOwned, MayGo, MayPass, SeesNothing}
-use Rattle.arj_lock_view_law.specs.Going.{Goes, OnlyNaming, ShowsBound, ShowsNoted}
+use Rattle.arj_lock_view_law.specs.Going.{Goes, NobodyConfirmed, OnlyNaming, ShowsBound, ShowsNoted}
 use Rattle.arj_lock_view_law.specs.Named.{IsNamedSo, Place, SeesNamed}
 use Rattle.arj_lock_view_law.specs.Telling.{View}
 
@@ -65,13 +66,13 @@ pub record IsAsking (v : View) (owner : Owners) (p : Path) (n : Naming) : Type 0
 abbrev pub BindsAreTaken : Type 0
 BindsAreTaken = (v : View) (owner : Owners) (p : Path) (y : ℕ) (include : Bool) (avoid : Binding) (d : Pair) (n : Naming) (S : State)
     → IsAsking v owner p n → (y ≡ v.x → binding_number avoid < S.naming.bound) → SeesNaming v n S
-    → let r = bind p y include avoid d n in Goes S (λ T. SeesNaming v r.part T × OnlyNaming S T × (y ≡ v.x → ShowsBound v.family.act (top_of p) avoid T r.reply))
+    → let r = bind p y include avoid d n in Goes S (λ T. SeesNaming v r.part T × OnlyNaming S T × NobodyConfirmed S T × (y ≡ v.x → ShowsBound v.family.act (top_of p) avoid T r.reply))
 
 -- A Record of any object, with an incarnation that its top's root heard where it is of this one: naming is seen again, and the answer is shown.
 abbrev pub NotesAreTaken : Type 0
 NotesAreTaken = (v : View) (owner : Owners) (p : Path) (y : ℕ) (b : Binding) (i g : ℕ) (n : Naming) (S : State)
     → IsAsking v owner p n → (y ≡ v.x → IsNamedSo S b i) → SeesNaming v n S
-    → let r = note p y b i g n in Goes S (λ T. SeesNaming v r.part T × OnlyNaming S T × (y ≡ v.x → ShowsNoted b T r.reply))
+    → let r = note p y b i g n in Goes S (λ T. SeesNaming v r.part T × OnlyNaming S T × NobodyConfirmed S T × (y ≡ v.x → ShowsNoted b T r.reply))
 
 -- ---- a Hello
 
@@ -90,7 +91,7 @@ pub record HasNothingAt (n : Naming) (o : Named) (u : Uid) : Type 0 where
 -- committed, or pass them to its unit, or the action has nothing here.
 abbrev pub ShowsEndAt : View → Naming → Named → State → Uid → End → Type 0
 ShowsEndAt v n o S u ending.Abort = MayGo S (v.family.act u)
-ShowsEndAt v n o S u ending.Commit = MayGo S (v.family.act u) ⊎ (((s : Uid) × MayPass v.family.act u s o S) ⊎ HasNothingAt n o u)
+ShowsEndAt v n o S u ending.Commit = MayGo S (v.family.act u) ⊎ (((s : Uid) × MayPass v.family.act u s o S) ⊎ (HasNothingAt n o u × (is_top (v.family.act u) ≡ false)))
 
 -- An end comes to naming: two actions have two places in the machine, each stands there below its owner, the object is good, and an end that
 -- is new to naming is shown.
@@ -103,7 +104,7 @@ pub record IsTelling (v : View) (owner : Owners) (u : Uid) (e : End) (n : Naming
 -- An end: naming takes it for an abort or a commit, or was told before, and is seen again.
 abbrev pub EndsAreTold : Type 0
 EndsAreTold = (v : View) (owner : Owners) (u : Uid) (e : End) (d : Pair) (n : Naming) (S : State)
-    → IsTelling v owner u e n S → SeesNaming v n S → let r = told u e d n in Goes S (λ T. SeesNaming v r.part T × OnlyNaming S T)
+    → IsTelling v owner u e n S → SeesNaming v n S → let r = told u e d n in Goes S (λ T. SeesNaming v r.part T × OnlyNaming S T × NobodyConfirmed S T)
 
 -- ---- a Confirm
 
@@ -111,6 +112,10 @@ EndsAreTold = (v : View) (owner : Owners) (u : Uid) (e : End) (d : Pair) (n : Na
 abbrev pub ShowsConfirmed : View → Uid → Grants → State → Option ConfirmedReply → Type 0
 ShowsConfirmed v t grants T (Some confirmed.Yes) = (g : ℕ) → Contains {X = ℕ × ℕ} grants (v.x, g) → T.confirmed (v.family.act t) ≡ true
 ShowsConfirmed v t grants T _ = ⊤
+
+-- It confirms nobody anew but the top, where one of its grants is on the object, and then the answer is Yes.
+abbrev pub OnlyConfirms : View → Uid → Grants → State → State → Option ConfirmedReply → Type 0
+OnlyConfirms v t grants S T r = (a : Act) → T.confirmed a ≡ true → (S.confirmed a ≡ true) ⊎ ((a ≡ v.family.act t) × (r ≡ Some confirmed.Yes) × (g : ℕ) × Contains {X = ℕ × ℕ} grants (v.x, g))
 
 -- A Confirm comes to naming: it was sent in the machine for each of its grants on the object; and where naming confirmed the top before, or
 -- has entries of it prepared, the machine's naming did confirm it once.
@@ -122,13 +127,13 @@ pub record IsConfirming (v : View) (p : Path) (grants : Grants) (d : Pair) (n : 
 abbrev pub ConfirmsAreTaken : Type 0
 ConfirmsAreTaken = (v : View) (owner : Owners) (p : Path) (grants : Grants) (excluded included : Marks) (d : Pair) (n : Naming) (S : State)
     → IsAsking v owner p n → IsConfirming v p grants d n S → SeesNaming v n S
-    → let r = confirm p grants excluded included d n in Goes S (λ T. SeesNaming v r.part T × OnlyNaming S T × ShowsConfirmed v (top_of p) grants T r.reply)
+    → let r = confirm p grants excluded included d n in Goes S (λ T. SeesNaming v r.part T × OnlyNaming S T × OnlyConfirms v (top_of p) grants S T r.reply × ShowsConfirmed v (top_of p) grants T r.reply)
 
 -- ---- it stops and starts
 
 -- It stops: so does the machine's naming. Counts of bindings have 32 bits.
 abbrev pub NamingStops : Type 0
-NamingStops = (v : View) (owner : Owners) (n : Naming) (S : State) → n.count < 4294967296 → IsGoodAt v owner n → SeesNaming v n S → Goes S (λ T. SeesNothing n.inc T × OnlyNaming S T)
+NamingStops = (v : View) (owner : Owners) (n : Naming) (S : State) → n.count < 4294967296 → IsReached S → IsGoodAt v owner n → SeesNaming v n S → Goes S (λ T. SeesNothing n.inc T × OnlyNaming S T × NobodyConfirmed S T)
 
 -- Before it first starts it is down too.
 abbrev pub NamingIsDown : Type 0
@@ -137,4 +142,4 @@ NamingIsDown = (first inc : ℕ) → SeesNothing inc (start first)
 -- It starts in a later incarnation, by what the disk says, where the object has an entry: the machine's naming restarts, and naming is seen.
 abbrev pub NamingStarts : Type 0
 NamingStarts = (v : View) (inc i : ℕ) (d : Pair) (o : Named) (S : State) → inc < i → at_number v.x (let n = recovered_naming i d in n.objects) ≡ Some o → SeesNothing inc S
-    → Goes S (λ T. SeesNaming v (recovered_naming i d) T × OnlyNaming S T)
+    → Goes S (λ T. SeesNaming v (recovered_naming i d) T × OnlyNaming S T × NobodyConfirmed S T)

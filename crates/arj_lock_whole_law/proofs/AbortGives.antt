@@ -226,7 +226,7 @@ module _ (f : Fixed) (x : ℕ) (begun : List Action) (S : State) (s : Spot) (see
       on_it = ⊎_elim (λ on. on) (λ late. never late new) (names.confirmed u now)
 
       has : HasConfirm f x S M.sent u
-      has = let r = seen.sees in r.confirms s.node (record { number = s.node; disk = s.disk; live = Some s.parts }) here u (inr (s.parts, n, refl, is, on_it))
+      has = let r = seen.sees in (r.confirms s.node (record { number = s.node; disk = s.disk; live = Some s.parts }) here).0 u (inr (s.parts, n, refl, is, on_it))
 
       first_node : s.node ≡ 1
       first_node = eqb-true s.node 1 (sym m.place ∙ ap (λ (o : Option Naming). is_some o) is)

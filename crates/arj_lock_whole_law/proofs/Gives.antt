@@ -85,6 +85,7 @@ use Rattle.arj_lock_whole_law.proofs.AbortGives.{unconfirmed, unvoted}
 use Rattle.arj_lock_whole_law.proofs.Drained.{none_left}
 use Rattle.arj_lock_whole_law.proofs.Avoids.{avoids_by, renewed_at}
 use Rattle.arj_lock_whole_law.proofs.AvoidWalks.{avoids_to}
+use Rattle.arj_lock_whole_law.proofs.Losing.{whose_loss}
 use Rattle.arj_lock_whole_law.proofs.Of.{walk_end}
 use Rattle.arj_lock_whole_law.proofs.Whole.{whole_of}
 use Rattle.arj_lock_run_law.proofs.KeptSteps.{gives_by}
@@ -386,6 +387,7 @@ module _ (hd : Header) (x : ℕ) (has : HasObject hd x) (E : List Action → See
           unconfirmed = λ u told new top open_unit now. unconfirmed f x begun S s seen whole.parted whole.records whole.aborts begins n u is told new top open_unit now;
           heirs = λ o a at there how told new now r i held. heir n is o at a there how now r i held;
           nothing = λ o a at there nested told new. nested_nothing begun k its_node t n (world_at s) good uppers here refl is x o a at there nested;
+          lost = λ w u apart loses. whose_loss begun good.begun n (let z = whole.names k its_node here in let h = z.live t n refl is in h.entries) w u apart loses;
         };
       }
 

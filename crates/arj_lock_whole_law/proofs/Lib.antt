@@ -21,6 +21,7 @@ pub mod AckRuns
 pub mod AckWalks
 pub mod Drained
 pub mod Whole
+pub mod Losing
 pub mod Gives
 pub mod WholeRuns
 pub mod VotedRuns
