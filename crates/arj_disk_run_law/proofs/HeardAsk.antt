@@ -40,6 +40,7 @@ use Rattle.arj_names_view_law.specs.Calls.{HasGiven}
 use Rattle.arj_names_view_law.specs.Handlers.{Answering, Change, Changes, Quietly, answer_change, ask_change, asked_change, bind_change, change_by}
 use Rattle.arj_names_view_law.specs.Heard.{LeavesRoots}
 use Rattle.arj_names_view_law.proofs.Heard.{loads_are_given}
+use Rattle.arj_names_view_law.proofs.Onward.{onward_same, onward_still}
 use Rattle.arj_disk_run_law.specs.Bindings.{NamesOwn}
 use Rattle.arj_disk_run_law.specs.Heard.{IsOfGoal, NamesNow, SeesHeard}
 use Rattle.arj_disk_run_law.specs.Part.{HoldsFrom}
@@ -93,6 +94,7 @@ answers_memory A D only roots = record {
   answers = only.answers;
   inc = ap (λ (N : Names). N.inc) only.names;
   confd = λ t is. ap (λ (N : Names). N.confd t) only.names ∙ is;
+  onward = onward_still A D A.world (onward_same A.world) (λ z on. on) only.world;
 }
 
 -- ---- a request is taken

@@ -47,6 +47,7 @@ use Rattle.arj_names_view_law.specs.Both.{IsEndedBare, IsRecorded, IsUndecided, 
 use Rattle.arj_names_view_law.specs.Handlers.{Change, Deciding, MayGoOn, Quietly, asked_change, change_by, doing_change, now_change, reply_change, root_retains}
 use Rattle.arj_names_view_law.proofs.CommitBoth.{says_work}
 use Rattle.arj_names_view_law.proofs.CoordBoth.{no_work}
+use Rattle.arj_names_view_law.proofs.Onward.{goes_onward}
 use Rattle.arj_disk_run_law.specs.Heard.{SeesHeard}
 use Rattle.arj_disk_run_law.specs.Part.{HasHeard, HoldsFrom, going_of}
 use Rattle.arj_disk_run_law.specs.Rest.{IsHeardAt, answers_commit}
@@ -154,6 +155,7 @@ module _ (x : ℕ) (tops : Kinds) (e k : ℕ) (d : Disk) (t : Parts) (M : Seen) 
             answers = λ a i. subst (λ (m : Names). InList a m.answers) (sym z.names) i;
             inc = ap (λ (m : Names). m.inc) z.names;
             confd = λ y on. ap (λ (m : Names). m.confd y) z.names ∙ on;
+            onward = goes_onward (only_decides (λ k. k == uid_number u)) (λ y. refl) C B c.along;
           }
 
     heard_denied : (why : Cause) → Goal O (moved_commit u (plainly (Aborts why p)) d.intents t.coord)

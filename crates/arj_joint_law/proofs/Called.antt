@@ -1,5 +1,5 @@
 -- Writers of one object take turns, and so their commits are called as they are decided.
-use Rattle.std.proofs.Common.{◌≡◌, ◌≢◌, ◌⊎◌, ◌<◌, ℕ, ◌+◌, ◌==◌, ◌||◌, ◌&&◌, List, [], ◌∷◌, ◌++◌, length, take, filter, cond, Bool, true, false, Contains, Option, Some, None, refl, sym, ◌∙◌, ap, subst, inl, inr, ⊎_elim, arith, eqb-true, eq-eqb}
+use Rattle.std.proofs.Common.{◌≡◌, ◌≢◌, ◌⊎◌, ◌<◌, ◌≤◌, ℕ, ◌+◌, ◌==◌, ◌||◌, ◌&&◌, List, [], ◌∷◌, ◌++◌, length, take, filter, cond, Bool, true, false, Contains, Option, Some, None, refl, sym, ◌∙◌, ap, subst, inl, inr, ⊎_elim, arith, eqb-true, eq-eqb}
 use Rattle.std.proofs.lemmas.Bool.{and_parts}
 use Rattle.std.specs.List.{list_any}
 use Rattle.arj_base.proofs.Uids.{uid_is, uid_same}
@@ -43,6 +43,7 @@ use Rattle.arj_serial_law.proofs.Order.{IsShown, IsTopOf, before_top, called_fir
 use Rattle.arj_serial_law.proofs.Ties.{Tie, tie_of}
 use Rattle.arj_serial_law.proofs.Turning.{one_call}
 use Rattle.arj_disk_run_law.specs.Decided.{AreOnce}
+use Rattle.arj_joint_law.specs.Includers.{IsCalledBefore}
 use Rattle.arj_joint_law.specs.Ordered.{AreTurnsOf}
 use Rattle.arj_joint_law.specs.Writers.{DecidedWritersStand, IsWriter, WritersAreCalledFirst, WritersAreNewestFirst}
 
@@ -134,6 +135,74 @@ module _ (values : Values) (lines : List Line) (right : AreRight new_book lines)
   apart_tops : AreApart (tops lines)
   apart_tops = let l = listed lines right in l.apart
 
+  -- ---- its front
+
+  module _ (before behind : List Line) (is : lines ≡ before ++ behind) where
+    front : AreRight new_book before
+    front = right_front new_book before behind (subst (AreRight new_book) is right)
+
+    acts_front : (z : Act) → In z (acts before) → In z (acts lines)
+    acts_front z k = subst (λ ls. In z (acts ls)) (sym is) (let e = by [] before in subst (In z) (sym e) (in_later behind (acts before) z k))
+      where
+        by : (us : List Act) (xs : List Line) → acts_from us (xs ++ behind) ≡ acts_from (acts_from us xs) behind
+        by us [] = refl
+        by us (l ∷ xs) = by (acts_after us l.body) xs
+
+    taken : take (length before) lines ≡ before
+    taken = ap (take (length before)) is ∙ take_front before behind
+
+    -- what stands before there is read of the front
+    to_front : {A : Type 0} (f : List Act → Body → Option A) (e : Placed A) → In e (read f [] 0 lines) → e.at < length before → In e (read f [] 0 before)
+    to_front f e k less = subst (λ ls. In e (read f [] 0 ls)) taken (read_taken f [] 0 lines (length before) e k (omega (arith, less)))
+
+    module _ (u : Top) (a : Act) (u_there : In u (tops lines)) (a_there : In a (acts lines)) (a_is : a.id ≡ u.id) where
+      its : IsTopOf lines u
+      its = top_item lines right u u_there
+
+      its_a : (let k = its in k.act) ≡ a
+      its_a = same_number lines right its.act a its.there a_there (its.number ∙ sym a_is)
+
+      -- a top whose commit was called by then has its call there
+      called_front : is_on (let B = book before in B.called) a.uid ≡ true → u.at < length before
+      called_front on =
+          let e = end_in (called before) a.id (its_call before front a a_front ∙ on) in
+          let whole = subst (λ ls. In e.0 (called ls)) (sym is) (read_front called_of [] 0 before behind e.0 e.1) in
+          let said = tie.actions its.act (in_to its.act (acts lines) its.there) (top_plain its.act.kind its.kind) in
+          let here = said.place (record { at = u.at; it = its.act.id }) (in_to _ (called lines) its.call) refl in
+          let there = said.place e.0 (in_to e.0 (called lines) whole) (e.2 ∙ ap (λ (z : Act). z.id) (sym its_a)) in
+          let less = read_below called_of [] 0 before e.0 e.1 in
+          omega (arith, here, there, less)
+        where
+          a_front : In a (acts before)
+          a_front =
+              let sane = sane_lines new_book before front sane_new in
+              let r = act_with (acts before) a.uid (subst (λ us. has_act us a.uid ≡ true) (its_acts before front) (sane.called a.uid on)) in
+              subst (λ z. In z (acts before)) (one_act (acts lines) sound.distinct r.0 a (acts_front r.0 r.1) a_there r.2) r.1
+
+      -- and the other way round
+      call_front : u.at < length before → In (record { at = u.at; it = (let k = its in k.act.id) }) (called before)
+      call_front less = to_front called_of (record { at = u.at; it = its.act.id }) its.call less
+
+      act_front : u.at < length before → In a (acts before)
+      act_front less =
+          let low = called_low before (record { at = u.at; it = its.act.id }) (call_front less) in
+          let r = with_number (acts before) (let q = its_sound before front in q.distinct) its.act.id low in
+          subst (λ z. In z (acts before)) (same_number lines right r.0 a (acts_front r.0 r.1) a_there (r.2 ∙ ap (λ (z : Act). z.id) its_a)) r.1
+
+      on_front : u.at < length before → is_on (let B = book before in B.called) a.uid ≡ true
+      on_front less = sym (its_call before front a (act_front less)) ∙ has_in (called before) a.id (record { at = u.at; it = its.act.id }) (call_front less) (ap (λ (z : Act). z.id) its_a)
+
+  -- of two tops one whose commit was called where that of the other wasn't was called first
+  pub called_in_turn : (u v : Top) (a b : Act) → In u (tops lines) → In v (tops lines) → In a (acts lines) → In b (acts lines) → a.id ≡ u.id → b.id ≡ v.id → IsCalledBefore lines a.uid b.uid → u.at < v.at
+  called_in_turn u v a b u_there v_there a_there b_there a_is b_is (before, behind, is, on, off) = by (cases v.at (length before)) (called_front before behind is u a u_there a_there a_is on)
+    where
+      cases : (m n : ℕ) → (m < n) ⊎ (n ≤ m)
+      cases m n = grind arith
+
+      by : (v.at < length before) ⊎ (length before ≤ v.at) → u.at < length before → u.at < v.at
+      by (inl less) early = absurd (never (on_front before behind is v b v_there b_there b_is less) off)
+      by (inr more) early = omega (arith, more, early)
+
   module _ (u v : Top) (a b : Act) (u_there : In u (tops lines)) (v_there : In v (tops lines)) (a_there : In a (acts lines)) (b_there : In b (acts lines)) (a_is : a.id ≡ u.id) (b_is : b.id ≡ v.id) (apart : u.id ≢ v.id)
       (c d : Call) (i : In c (committed_calls lines)) (j : In d (committed_calls lines)) (cw : writes_on x c ≡ true) (dw : writes_on x d ≡ true) (ct : c.top ≡ u.id) (dt : d.top ≡ v.id)
       (before behind : List Line) (is : lines ≡ before ++ behind) (on : is_on (let B = book before in B.called) a.uid ≡ true) (undone : is_decided (book before) b.uid ≡ false) where
@@ -162,47 +231,9 @@ module _ (values : Values) (lines : List Line) (right : AreRight new_book lines)
     before_v : d.at < v.at
     before_v = let l = before_top values lines right x S tie d s_d in omega (arith, l, place_v)
 
-    -- ---- the front
-
-    front : AreRight new_book before
-    front = right_front new_book before behind (subst (AreRight new_book) is right)
-
-    acts_front : (z : Act) → In z (acts before) → In z (acts lines)
-    acts_front z k = subst (λ ls. In z (acts ls)) (sym is) (let e = by [] before in subst (In z) (sym e) (in_later behind (acts before) z k))
-      where
-        by : (us : List Act) (xs : List Line) → acts_from us (xs ++ behind) ≡ acts_from (acts_from us xs) behind
-        by us [] = refl
-        by us (l ∷ xs) = by (acts_after us l.body) xs
-
-    taken : take (length before) lines ≡ before
-    taken = ap (take (length before)) is ∙ take_front before behind
-
-    -- what stands before there is read of the front
-    to_front : {A : Type 0} (f : List Act → Body → Option A) (e : Placed A) → In e (read f [] 0 lines) → e.at < length before → In e (read f [] 0 before)
-    to_front f e k less = subst (λ ls. In e (read f [] 0 ls)) taken (read_taken f [] 0 lines (length before) e k (omega (arith, less)))
-
     -- the first one's commit was called there
-    a_front : In a (acts before)
-    a_front =
-        let sane = sane_lines new_book before front sane_new in
-        let r = act_with (acts before) a.uid (subst (λ us. has_act us a.uid ≡ true) (its_acts before front) (sane.called a.uid on)) in
-        subst (λ z. In z (acts before)) (one_act (acts lines) sound.distinct r.0 a (acts_front r.0 r.1) a_there r.2) r.1
-
-    its : IsTopOf lines u
-    its = top_item lines right u u_there
-
-    its_a : (let k = its in k.act) ≡ a
-    its_a = same_number lines right its.act a its.there a_there (its.number ∙ sym a_is)
-
-    called_front : u.at < length before
-    called_front =
-        let e = end_in (called before) a.id (its_call before front a a_front ∙ on) in
-        let whole = subst (λ ls. In e.0 (called ls)) (sym is) (read_front called_of [] 0 before behind e.0 e.1) in
-        let said = tie.actions its.act (in_to its.act (acts lines) its.there) (top_plain its.act.kind its.kind) in
-        let here = said.place (record { at = u.at; it = its.act.id }) (in_to _ (called lines) its.call) refl in
-        let there = said.place e.0 (in_to e.0 (called lines) whole) (e.2 ∙ ap (λ (z : Act). z.id) (sym its_a)) in
-        let less = read_below called_of [] 0 before e.0 e.1 in
-        omega (arith, here, there, less)
+    first_front : u.at < length before
+    first_front = called_front before behind is u a u_there a_there a_is on
 
     -- ---- the second one's call didn't come first
 
@@ -242,23 +273,17 @@ module _ (values : Values) (lines : List Line) (right : AreRight new_book lines)
 
         -- its call is in the front, and so is it
         b_front : In b (acts before)
-        b_front =
-            let k = s_d.top_of_it in
-            let e : Placed ℕ = record { at = (let n = s_d.number in n.at); it = k.act.id } in
-            let less_front : e.at < length before = omega (arith, place_v, v_first, before_u, called_front) in
-            let low = called_low before e (to_front called_of e k.call less_front) in
-            let r = with_number (acts before) (let q = its_sound before front in q.distinct) k.act.id low in
-            subst (λ z. In z (acts before)) (same_number lines right r.0 b (acts_front r.0 r.1) b_there (r.2 ∙ ap (λ (z : Act). z.id) its_b)) r.1
+        b_front = act_front before behind is v b v_there b_there b_is (omega (arith, v_first, before_u, first_front))
 
         at_line : IsDecidedAt lines b (let m = S.action (tie.act b.uid) in m.done)
         at_line = let k = s_d.top_of_it in let said = tie.actions b (in_to b (acts lines) b_there) (top_plain b.kind (ap (λ (z : Act). is_top z.kind) (sym its_b) ∙ k.kind)) in said.decided stage
 
         committed_front : IsDecidedAt lines b (let m = S.action (tie.act b.uid) in m.done) → is_committed (committed before) (recovered before) b ≡ true
-        committed_front (inl (e, k, same, at)) = or_left (has_end (committed before) b.id) (list_any (λ (z : Placed Uid). uid_eq z.it b.uid) (recovered before)) (has_in (committed before) b.id e (to_front committed_of e (in_from e (committed lines) k) (omega (arith, at, done, before_u, called_front))) same)
-        committed_front (inr (e, k, same, at)) = or_right (has_end (committed before) b.id) (list_any (λ (z : Placed Uid). uid_eq z.it b.uid) (recovered before)) (found_in (recovered before) b.uid e (to_front recovered_of e (in_from e (recovered lines) k) (omega (arith, at, done, before_u, called_front))) same)
+        committed_front (inl (e, k, same, at)) = or_left (has_end (committed before) b.id) (list_any (λ (z : Placed Uid). uid_eq z.it b.uid) (recovered before)) (has_in (committed before) b.id e (to_front before behind is committed_of e (in_from e (committed lines) k) (omega (arith, at, done, before_u, first_front))) same)
+        committed_front (inr (e, k, same, at)) = or_right (has_end (committed before) b.id) (list_any (λ (z : Placed Uid). uid_eq z.it b.uid) (recovered before)) (found_in (recovered before) b.uid e (to_front before behind is recovered_of e (in_from e (recovered lines) k) (omega (arith, at, done, before_u, first_front))) same)
 
         decided : is_decided (book before) b.uid ≡ true
-        decided = sym (its_decision before front b b_front) ∙ committed_front at_line
+        decided = sym (its_decision before (front before behind is) b b_front) ∙ committed_front at_line
 
     cases : (m n : ℕ) → (m < n) ⊎ ((n < m) ⊎ (m ≡ n))
     cases m n = grind arith
@@ -278,7 +303,7 @@ writers_are_called_first values lines x S right t u v a b w z apart (before, beh
 
 -- ---- decided tops
 
-there_before : (p : Done → Bool) (d : Done) (ds : List Done) → disk.In d (filter p ds) → disk.In d ds
+pub there_before : (p : Done → Bool) (d : Done) (ds : List Done) → disk.In d (filter p ds) → disk.In d ds
 there_before p d [] i = absurd i
 there_before p d (e ∷ ds) i = by (p e) i (there_before p d ds)
   where
@@ -350,7 +375,7 @@ module _ (values : Values) (lines : List Line) (x : ℕ) (S : State) (right : Ar
     pub listed : In u (tops lines)
     pub number : d.top ≡ uid_number (let k = its in let a = k.act in a.uid)
 
-  its_top_of : (d : Done) (u : Top) → IsDecision values lines x d u → IsOf d u
+  pub its_top_of : (d : Done) (u : Top) → IsDecision values lines x d u → IsOf d u
   its_top_of d u is =
       let there = in_from u (tops lines) is.listed in
       let k = top_item lines right u there in

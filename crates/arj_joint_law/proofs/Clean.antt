@@ -40,8 +40,9 @@ use Rattle.arj_serial_law.proofs.Cleaning.{is_clean}
 use Rattle.arj_serial_law.proofs.Including.{are_decided}
 use Rattle.arj_serial_law.proofs.Shown.{files_clean}
 use Rattle.arj_serial_law.proofs.Ties.{Ties, ties_of}
-use Rattle.arj_joint_law.specs.Cleaned.{AreLockTied, AreNamed, DecideSo, DecideThose, DecideThoseOrLate, JoinersAreNewestFirst, RunsAreClean, WholeRunsAreClean, disk_of, is_one_of, number_of}
+use Rattle.arj_joint_law.specs.Cleaned.{AreLockTied, AreNamed, DecideSo, DecideThose, DecideThoseOrLate, RunsAreClean, WholeRunsAreClean, disk_of, is_one_of, number_of}
 use Rattle.arj_disk_run_law.specs.Decided.{AreOnce}
+use Rattle.arj_joint_law.specs.Includers.{IncludersTakeTurns, JoinersAreNewestFirst, TakesTurnsSo}
 use Rattle.arj_joint_law.specs.Ordered.{AreTurnsOf, IsOrderedSo}
 use Rattle.arj_joint_law.specs.Shown.{FilesAre, IncludesAreThere}
 use Rattle.arj_joint_law.specs.Writers.{WritersAreNewestFirst}
@@ -49,7 +50,8 @@ use Rattle.arj_joint_law.proofs.Called.{decided_writers_stand, decision_of, numb
 use Rattle.arj_joint_law.proofs.FormRuns.{runs_have_form}
 use Rattle.arj_joint_law.specs.Joined.{AreBareSo, AreRestBeside, AreWritten, IsJoinedSo, JoinedRunsAreSerial, KeepsHeardJoined}
 use Rattle.arj_joint_law.proofs.JoinedRuns.{runs_are_joined}
-use Rattle.arj_joint_law.proofs.OrderedRuns.{runs_are_ordered}
+use Rattle.arj_joint_law.proofs.JoinOrder.{decided_joiners_stand, includers_behind}
+use Rattle.arj_joint_law.proofs.OrderedRuns.{runs_take_turns}
 use Rattle.arj_joint_law.proofs.Showing.{files_show_disks}
 use Rattle.arj_lock_law.specs.State.{State}
 use Rattle.arj_serial_law.specs.Seen.{IsSerialRun}
@@ -172,11 +174,17 @@ are_decisions values lines x (d ∷ ds) (t ∷ ts) named wrote leave join =
 
 -- a state of the disk machine in which decisions are those of the journal
 abbrev pub Held : Header → List Asked → Type 0
-Held hd es = (x : ℕ) → is_some (object_line hd x) ≡ true → Holds hd (IsOrderedSo hd x) (run_all es (format hd))
+Held hd es = (x : ℕ) → is_some (object_line hd x) ≡ true → Holds hd (TakesTurnsSo hd x) (run_all es (format hd))
+
+abbrev pub OrderedOf : Header → List Asked → ℕ → Type 0
+OrderedOf hd es x = Holds hd (IsOrderedSo hd x) (run_all es (format hd))
+
+abbrev pub ordered_of : (hd : Header) (es : List Asked) (x : ℕ) → Holds hd (TakesTurnsSo hd x) (run_all es (format hd)) → OrderedOf hd es x
+ordered_of hd es x h = record { sent = h.sent; stands = h.stands; holds = (let o = h.holds in o.ordered) }
 
 -- in which they are named, and wrote what they gave
 abbrev pub Decides : (hd : Header) (es : List Asked) → Held hd es → Type 0
-Decides hd es held = (x : ℕ) (there : is_some (object_line hd x) ≡ true) → (d : DecideThoseOrLate hd (journal hd es) x (disk_of (let h = held x there in h.holds))) × AreWritten (first_values hd) (journal hd es) x d.others × AreBareSo (journal hd es) x (disk_of (let h = held x there in h.holds))
+Decides hd es held = (x : ℕ) (there : is_some (object_line hd x) ≡ true) → (d : DecideThoseOrLate hd (journal hd es) x (disk_of (let h = ordered_of hd es x (held x there) in h.holds))) × AreWritten (first_values hd) (journal hd es) x d.others × AreBareSo (journal hd es) x (disk_of (let h = ordered_of hd es x (held x there) in h.holds))
 
 module _ (hd : Header) (es : List Asked) (form : HeaderInForm hd) (tied : AreLockTied hd (journal hd es)) (held : Held hd es) (decide : Decides hd es held) where
   abbrev w : World
@@ -189,8 +197,8 @@ module _ (hd : Header) (es : List Asked) (form : HeaderInForm hd) (tied : AreLoc
   ties = ties_of (first_values hd) (journal hd es) tied.called
 
   module _ (x : ℕ) (there : is_some (object_line hd x) ≡ true) where
-    abbrev h : Holds hd (IsOrderedSo hd x) w
-    h = held x there
+    abbrev h : OrderedOf hd es x
+    h = ordered_of hd es x (held x there)
 
     abbrev d : DecideThoseOrLate hd (journal hd es) x (disk_of h.holds)
     d = (decide x there).0
@@ -200,6 +208,9 @@ module _ (hd : Header) (es : List Asked) (form : HeaderInForm hd) (tied : AreLoc
 
     turns : AreTurnsOf (journal hd es) d.others
     turns = turns_behind (journal hd es) d.late d.others (subst (AreTurnsOf (journal hd es)) d.are (let o = h.holds in o.turns))
+
+    includers : IncludersTakeTurns (journal hd es) d.others
+    includers = includers_behind (journal hd es) d.late d.others (subst (IncludersTakeTurns (journal hd es)) d.are (let k = held x there in let o = k.holds in o.includers))
 
     its : DecideThose hd (journal hd es) x (disk_of h.holds) d.others
     its = d.decide
@@ -292,7 +303,7 @@ module _ (hd : Header) (es : List Asked) (form : HeaderInForm hd) (tied : AreLoc
     changes = record {
       those = its.those;
       each = decisions;
-      called = newest_first (journal hd es) x its.those wrote_so (let t = tied.listed x there in decided_writers_stand (first_values hd) (journal hd es) x t.0 right t.1 d.others its.those turns decisions (once_behind d.late d.others (subst AreOnce d.are (let o = h.holds in o.once)))) its.joiners;
+      called = newest_first (journal hd es) x its.those wrote_so (let t = tied.listed x there in decided_writers_stand (first_values hd) (journal hd es) x t.0 right t.1 d.others its.those turns decisions (once_behind d.late d.others (subst AreOnce d.are (let o = h.holds in o.once)))) (let t = tied.listed x there in decided_joiners_stand (first_values hd) (journal hd es) x t.0 right t.1 d.others its.those includers decisions joined_one);
       counts = is_one_of its.those;
       counted = λ t i. (is_there t its.those (in_from t its.those i), ⊎_elim (λ wrote. inl wrote) (λ none. inr (joined_one t i none)) (wrote_so t i));
       all = all;
@@ -348,10 +359,10 @@ module _ (hd : Header) (es : List Asked) (disks : Disks) (form : HeaderInForm hd
 
 -- with the state that the disk half gives
 pub ordered_held : (hd : Header) (es : List Asked) (test : ℕ → Seen → Bool) → HeaderInForm hd → length es ≤ most_events → ((x : ℕ) → is_some (object_line hd x) ≡ true → KeepsHeard hd x (test x)) → Held hd es
-ordered_held hd es test form short heard x there = runs_are_ordered hd x (test x) form there (heard x there) es short
+ordered_held hd es test form short heard x there = runs_take_turns hd x (test x) form there (heard x there) es short
 
 pub runs_are_clean : RunsAreClean
-runs_are_clean hd es disks test form short heard tied decide files = let held = ordered_held hd es test form short heard in are_clean hd es disks form tied held (λ x there. decide x there (held x there)) files
+runs_are_clean hd es disks test form short heard tied decide files = let held = ordered_held hd es test form short heard in are_clean hd es disks form tied held (λ x there. decide x there (ordered_of hd es x (held x there))) files
 
 -- ---- with the lock half
 
@@ -372,11 +383,11 @@ module _ (hd : Header) (es : List Asked) (joined : (x : ℕ) → is_some (object
   serial = locked_runs_are_serial hd es (λ x called. let h = joined x (object_some hd x (runs_call_objects hd es x called)) in let j = h.holds in record { sent = h.sent; stands = h.stands; holds = (j.begun, j.alike, (λ f a. let z = j.seen f a in (z.0, z.1, z.2)), j.requests) })
 
 abbrev pub held_in : (hd : Header) (es : List Asked) → ((x : ℕ) → is_some (object_line hd x) ≡ true → Holds hd (IsJoinedSo hd x) (run_all es (format hd))) → Held hd es
-held_in hd es joined x there = let h = joined x there in record { sent = h.sent; stands = h.stands; holds = (let j = h.holds in j.ordered) }
+held_in hd es joined x there = let h = joined x there in record { sent = h.sent; stands = h.stands; holds = (let j = h.holds in record { ordered = j.ordered; includers = j.includers }) }
 
 pub decides_in : (hd : Header) (es : List Asked) (joined : (x : ℕ) → is_some (object_line hd x) ≡ true → Holds hd (IsJoinedSo hd x) (run_all es (format hd))) → ((x : ℕ) → is_some (object_line hd x) ≡ true → DecideSo hd x es) → Decides hd es (held_in hd es joined)
 decides_in hd es joined decide x there =
-    let d = decide x there (held_in hd es joined x there) in
+    let d = decide x there (ordered_of hd es x (held_in hd es joined x there)) in
     let j = (let h = joined x there in h.holds) in
     (d, (λ e t i. j.wrote e t (subst (disk.In e) (sym d.are) (in_behind e d.late d.others i))), j.bare)
 

@@ -1,6 +1,8 @@
 -- Both machines of each object at once, in every run.
 use Rattle.std.proofs.Common.{◌≡◌, ◌==◌, ℕ, true, List, is_some, subst, refl, Option, Some, None, eqb-true}
 use Rattle.arj_joint_law.specs.Joined.{HasStates, IsBeside, IsJoinedSo, RunsAreJoined, SeesRecorded, SeesTied, world_of}
+use Rattle.arj_joint_law.specs.Includers.{IncludersTakeTurns}
+use Rattle.arj_joint_law.proofs.JoinKeeps.{WithTurns, turns_part}
 use Rattle.arj_joint_law.proofs.Joining.{HasLocks, WithLocks, locks_part}
 use Rattle.arj_joint_law.proofs.Recorded.{recorded_part}
 use Rattle.arj_joint_law.proofs.RestGiven.{rest_beside}
@@ -15,6 +17,7 @@ use Rattle.arj_lock_whole_law.proofs.Gives.{gives_locks}
 use Rattle.arj_call_law.proofs.WorldRuns.{votes_in}
 use Rattle.arj_joint_law.proofs.Firsts.{line_there}
 use Rattle.arj_disk_view_law.specs.Sees.{Kinds}
+use Rattle.arj_disk_law.specs.Effects.{World}
 use Rattle.arj_disk_law.specs.Names.{Office}
 use Rattle.arj_view_law.specs.Seen.{Post, Seen, see}
 use Rattle.arj_protocol.specs.Words.{Header, ObjectLine}
@@ -61,7 +64,7 @@ runs_are_joined hd x heard test form there kept rest es short =
     R begun M = KnowsWhole x begun M × E begun M
 
     Joined : Kinds → Office → Seen → Type 0
-    Joined tops A M = WithLocks (first_values hd) x R (SeesRecorded x) tops A M
+    Joined tops A M = WithTurns x (WithLocks (first_values hd) x R (SeesRecorded x)) tops A M
 
     -- the disk half, beside states of the lock half
     heard_there : KeepsPart hd x (λ W M. IsCountedWith heard M × (KnowsScript M × HasLocks (first_values hd) x R W M)) (SeesCarried x)
@@ -75,12 +78,17 @@ runs_are_joined hd x heard test form there kept rest es short =
     recorded : KeepsPart hd x (λ W M. (IsCountedWith heard M × IsKept M) × (KnowsScript M × HasLocks (first_values hd) x R W M)) (SeesRecorded x)
     recorded = recorded_part hd x (λ W M. (IsCountedWith heard M × IsKept M) × (KnowsScript M × HasLocks (first_values hd) x R W M)) (SeesTied x) (λ W M q. let r = q.1.1 in let k = r.2.0 in let a = k.acks in let w = a.world in w.asked) tied
 
+    locked : KeepsPart hd x (λ W M. IsKnownWith heard M) (WithLocks (first_values hd) x R (SeesRecorded x))
+    locked = locks_part hd (first_values hd) x (IsKnownWith heard) KnowsFew R (SeesRecorded x) (λ M r. let s = r.1 in s.0) (kept_beside hd x has E rest.kept) (λ f begins. gives_locks hd x has E f (λ begun S M. IsBeside x heard f begun S M) (first_values hd, begins) (rest_beside (first_values hd) x heard E f begins (rest.gives f begins))) (λ M few. votes_in M few.1.1) (λ M few. few.1.1) (part_more hd x (λ W M. (IsCountedWith heard M × IsKept M) × (KnowsScript M × HasLocks (first_values hd) x R W M)) (λ W M. IsKnownWith heard M × HasLocks (first_values hd) x R W M) (SeesRecorded x) (λ W M q. let r = q.0 in ((r.0, r.0.0.1), (r.1, q.1))) recorded) (λ tops A M p. p.0.0.0)
+
+    -- and each two of which one includes a store took turns
     part : KeepsPart hd x (λ W M. IsKnownWith heard M) Joined
-    part = locks_part hd (first_values hd) x (IsKnownWith heard) KnowsFew R (SeesRecorded x) (λ M r. let s = r.1 in s.0) (kept_beside hd x has E rest.kept) (λ f begins. gives_locks hd x has E f (λ begun S M. IsBeside x heard f begun S M) (first_values hd, begins) (rest_beside (first_values hd) x heard E f begins (rest.gives f begins))) (λ M few. votes_in M few.1.1) (λ M few. few.1.1) (part_more hd x (λ W M. (IsCountedWith heard M × IsKept M) × (KnowsScript M × HasLocks (first_values hd) x R W M)) (λ W M. IsKnownWith heard M × HasLocks (first_values hd) x R W M) (SeesRecorded x) (λ W M q. let r = q.0 in ((r.0, r.0.0.1), (r.1, q.1))) recorded) (λ tops A M p. p.0.0.0)
+    part = turns_part hd x (λ W M. IsKnownWith heard M) (WithLocks (first_values hd) x R (SeesRecorded x)) (λ W M q. q.0.0.1) (λ tops A M p. p.0.0.0.0) (λ tops A M p. p.0.0.0.1) locked
 
     joined : (sent : List Post) → IsOrderedBeside Joined hd x (see sent (run_all es (format hd))) → IsJoinedSo hd x (see sent (run_all es (format hd)))
     joined sent (o, tops, A, same, p, few) = record {
       ordered = o;
+      includers = subst (λ (W : World). IncludersTakeTurns M.lines W.disk.tops) same (let k = p.1 in k.turns);
       begun = locks.0;
       alike = locks.1;
       seen = locks.3;
@@ -93,7 +101,7 @@ runs_are_joined hd x heard test form there kept rest es short =
         M = see sent (run_all es (format hd))
 
         locks : HasLocks (first_values hd) x R (world_of o) M
-        locks = subst (λ W. HasLocks (first_values hd) x R W M) same p.1
+        locks = subst (λ W. HasLocks (first_values hd) x R W M) same p.0.1
 
         right : AreRight new_book (let w = run_all es (format hd) in w.lines)
         right = let r = run_written hd es in let z = r.1 in z.right

@@ -88,7 +88,7 @@ planned_later f x S T W V run later u p = record {
   counted = p.counted;
 }
 
-among_of : (s : ObjectState) (ss : List ObjectState) → list.In s ss → Among s ss
+pub among_of : (s : ObjectState) (ss : List ObjectState) → list.In s ss → Among s ss
 among_of s [] i = i
 among_of s (t ∷ ts) (inl is) = inl is
 among_of s (t ∷ ts) (inr i) = inr (among_of s ts i)

@@ -44,3 +44,10 @@ pub mod JoinStarts
 pub mod JoinMoves
 pub mod JoinRuns
 pub mod JoinCounts
+pub mod Comes
+pub mod JoinUses
+pub mod JoinTurns
+pub mod JoinFresh
+pub mod JoinStep
+pub mod JoinKeeps
+pub mod JoinOrder

@@ -90,7 +90,7 @@ pub record IsNamed (M : Seen) (j : ℕ) (u : Uid) (d : Doing) : Type 0 where
   pub uid : act.uid ≡ u
   pub node : u.node ≡ j
 
-own_doing : (u : Uid) (c : Coord) (d : Doing) → doing_of u c ≡ Some d → is_own u c.tree ≡ true
+pub own_doing : (u : Uid) (c : Coord) (d : Doing) → doing_of u c ≡ Some d → is_own u c.tree ≡ true
 own_doing u c d found = by (is_own u c.tree) found
   where
     by : (b : Bool) → cond b (at_place u.num c.doings) None ≡ Some d → b ≡ true

@@ -23,7 +23,7 @@ use Rattle.arj_run_law.specs.Worlds.{IsGood}
 use Rattle.arj_run_law.proofs.AllRuns.{all_keep as parts_good}
 use Rattle.arj_disk_view_law.specs.Sees.{Kinds}
 use Rattle.arj_disk_run_law.specs.Bindings.{KnowsScript}
-use Rattle.arj_disk_run_law.specs.Rest.{IsCountedWith, SeesCarried}
+use Rattle.arj_disk_run_law.specs.Rest.{IsCountedWith, IsKnownWith, SeesCarried}
 use Rattle.arj_disk_run_law.specs.Part.{KeepsPart}
 use Rattle.arj_disk_run_law.proofs.BothEach.{counted_with, heard_part}
 use Rattle.arj_line_law.specs.Book.{book, is_top, new_book}
@@ -39,6 +39,7 @@ use Rattle.arj_disk_line_law.proofs.IdleKnown.{KnowsIdle, knows_idle}
 use Rattle.arj_disk_line_law.proofs.Tying.{both_too, journalled_beside, one_act, tied_part}
 use Rattle.arj_serial_law.specs.Cleaned.{BeginsSo}
 use Rattle.arj_disk_run_law.specs.Decided.{AreCalled, AreOnce}
+use Rattle.arj_joint_law.specs.Includers.{IncludersTakeTurns, RunsTakeTurns, TakesTurnsSo}
 use Rattle.arj_joint_law.specs.Ordered.{AreCountedOf, AreJoinedOf, AreLeftOf, AreRootedSo, AreTurns, AreTurnsOf, IsCalledFirst, IsOrderedSo, RunsAreOrdered, RunsAreOrderedBeside}
 use Rattle.arj_joint_law.proofs.Beginning.{WithFirst, first_begins, first_part}
 use Rattle.arj_joint_law.proofs.Firsts.{line_there}
@@ -54,6 +55,7 @@ use Rattle.arj_protocol.specs.Order.{uid_number}
 use Rattle.arj_line_law.proofs.Owners.{have_nodes}
 use Rattle.arj_joint_law.proofs.JoinLists.{filtered_same, has_is}
 use Rattle.arj_joint_law.proofs.JoinModel.{joined}
+use Rattle.arj_joint_law.proofs.JoinKeeps.{WithTurns, turns_part}
 use Rattle.arj_joint_law.proofs.Leaving.{left}
 use Rattle.arj_joint_law.proofs.Listing.{in_among}
 use Rattle.arj_joint_law.proofs.JoinRuns.{IsBased, based_keep, joins_given}
@@ -194,3 +196,14 @@ runs_are_ordered hd x test form there rest es short = ordered hd x (SeesCarried 
 
 pub runs_are_ordered_beside : RunsAreOrderedBeside
 runs_are_ordered_beside hd x part form there parts es short = ordered hd x (λ tops A M. part tops A M ≡ true) es (ordered_beside hd x IsGood (λ tops A M. part tops A M ≡ true) form there (parts_good hd) (part_few hd x IsGood (λ tops A M. part tops A M ≡ true) parts) es short)
+
+-- ---- where one includes a store
+
+pub runs_take_turns : RunsTakeTurns
+runs_take_turns hd x test form there rest es short =
+    let h = ordered_beside hd x (IsCountedWith test) (WithTurns x (SeesCarried x)) form there (counted_with hd x test rest)
+        (turns_part hd x (λ W M. IsKnownWith test M) (SeesCarried x) (λ W M q. q.0.0.1) (λ tops A M p. p.0) (λ tops A M p. p.1) (heard_part hd x test (line_there hd x form there).0 rest)) es short in
+    record { sent = h.sent; stands = h.stands; holds = turned (see h.sent (run_all es (format hd))) h.holds }
+  where
+    turned : (M : Seen) → IsOrderedBeside (WithTurns x (SeesCarried x)) hd x M → TakesTurnsSo hd x M
+    turned M (o, tops, A, same, p, few) = record { ordered = o; includers = subst (λ (W : machine.World). IncludersTakeTurns M.lines W.disk.tops) same (let k = p.1 in k.turns) }

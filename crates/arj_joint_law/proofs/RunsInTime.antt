@@ -8,7 +8,7 @@ use Rattle.arj_view_law.specs.Seen.{see}
 use Rattle.arj_joint_law.specs.Cleaned.{AreLockTied}
 use Rattle.arj_joint_law.specs.Excluded.{AreExcludedInTime, IsSeenSo}
 use Rattle.arj_joint_law.specs.InTime.{AreInTime, RunsExcludeInTime, WholeRunsExcludeInTime}
-use Rattle.arj_joint_law.proofs.Clean.{Decides, Held, decided, decides_in, formed, held_in, joined_at, lock_tied, ordered_held, right, ties}
+use Rattle.arj_joint_law.proofs.Clean.{Decides, Held, decided, decides_in, formed, held_in, joined_at, lock_tied, ordered_held, ordered_of, right, ties}
 use Rattle.arj_joint_law.proofs.CommitCalls.{commits_begin}
 use Rattle.arj_joint_law.proofs.Excluding.{is_in_time, newest_by_calls, nodes_have_form}
 use Rattle.arj_joint_law.proofs.Takers.{takers}
@@ -19,7 +19,7 @@ module _ (hd : Header) (es : List Asked) (form : HeaderInForm hd) (tied : AreLoc
 
   abbrev seen_so : (x : ℕ) (there : is_some (object_line hd x) ≡ true) → IsSeenSo hd w.event x (see (let h = held x there in h.sent) w)
   seen_so x there =
-      let h = held x there in
+      let h = ordered_of hd es x (held x there) in
       let b = h.holds.begun in
       let j = b.journalled in
       record {
@@ -31,14 +31,14 @@ module _ (hd : Header) (es : List Asked) (form : HeaderInForm hd) (tied : AreLoc
   in_time : AreExcludedInTime hd w.event (see [] w)
   in_time t x s n m st there new wrote at_naming at_store held_there has_it =
       let r = right hd es form tied held decide in
-      let h = held x there in
+      let h = ordered_of hd es x (held x there) in
       let a = all x there in
       let i = seen_so x there in
       let newest = newest_by_calls hd w.event (see h.sent w) r tied.called (commits_begin hd es) x i t new wrote (a.behind h (decided hd es form tied held decide x there) t new wrote) in
       is_in_time hd w.event (see h.sent w) r (ties hd es form tied held decide) x i t new wrote newest s n m st at_naming at_store held_there has_it
 
 pub runs_exclude : RunsExcludeInTime
-runs_exclude hd es test form short heard tied decide all = let held = ordered_held hd es test form short heard in in_time hd es form tied held (λ x there. decide x there (held x there)) all
+runs_exclude hd es test form short heard tied decide all = let held = ordered_held hd es test form short heard in in_time hd es form tied held (λ x there. decide x there (ordered_of hd es x (held x there))) all
 
 pub whole_runs_exclude : WholeRunsExcludeInTime
 whole_runs_exclude hd es heard_so test form short heard rest decide all =

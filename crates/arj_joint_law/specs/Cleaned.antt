@@ -1,5 +1,5 @@
 -- Runs whose files are clean, by both machines of each object, with what these are still asked for.
-use Rattle.std.specs.Prelude.{⊤, ◌≡◌, ◌<◌, ◌≤◌, ◌++◌, ◌==◌, ℕ, Bool, true, List, [], ◌∷◌, None, Some, filter, is_some, length, Contains}
+use Rattle.std.specs.Prelude.{⊤, ◌≡◌, ◌≤◌, ◌++◌, ◌==◌, ℕ, Bool, true, List, [], ◌∷◌, None, Some, filter, is_some, length, Contains}
 use Rattle.std.specs.List.{list_any}
 use Rattle.arj_journal.specs.ScriptForm.{HeaderInForm}
 use Rattle.arj_model.specs.Actions.{acts}
@@ -25,11 +25,6 @@ use Rattle.arj_joint_law.specs.Joined.{AreBareSo, AreRestBeside, AreWritten, Kee
 use Rattle.arj_joint_law.specs.Ordered.{IsOrderedSo}
 use Rattle.arj_joint_law.specs.Shown.{FilesAre}
 
--- of these tops, the newest first, each two of which one didn't write the object had their commits called in turn
-abbrev pub JoinersAreNewestFirst : List Line → ℕ → List Top → Type 0
-JoinersAreNewestFirst lines x [] = ⊤
-JoinersAreNewestFirst lines x (t ∷ ts) = ((u : Top) → Contains ts u → (Wrote lines x u → Wrote lines x t → ⊥) → u.at < t.at) × JoinersAreNewestFirst lines x ts
-
 -- the top is one of these
 abbrev pub is_one_of : List Top → Top → Bool
 is_one_of ts t = list_any (λ (u : Top). u.id == t.id) ts
@@ -50,11 +45,10 @@ AreNamed lines (d ∷ ds) (t ∷ ts) = IsNamed lines d t × AreNamed lines ds ts
 AreNamed lines ds ts = ⊥
 
 -- The decided tops of the disk machine that count are these tops of the journal. As `DecideChanges` of `arj_serial_law`, but what they wrote,
--- included and excluded isn't asked, nor anything of two that wrote the object; and not that each top which wrote it is one of these.
+-- included and excluded isn't asked, nor in which order their commits were called; and not that each top which wrote it is one of these.
 pub record DecideThose (header : Header) (lines : List Line) (x : ℕ) (S : State) (ds : List Done) : Type 0 where
   pub those : List Top
   pub each : AreNamed lines (filter counts_of ds) those
-  pub joiners : JoinersAreNewestFirst lines x those
   pub idle : IdleInPlace lines x (is_one_of those) (first_stores header x) (serial_tops lines)
 
 -- So it is of all but the newest ones: those that the journal doesn't have since their nodes are late to say so, and whoever was decided

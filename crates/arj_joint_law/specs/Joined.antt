@@ -37,6 +37,7 @@ use Rattle.arj_lock_run_law.specs.Fixed.{AgreesAs, Fixed}
 use Rattle.arj_lock_run_law.specs.Sees.{SeesLocks}
 use Rattle.arj_lock_run_law.specs.Tied.{AreTied}
 use Rattle.arj_lock_run_law.specs.Votes.{AreVotedAt}
+use Rattle.arj_joint_law.specs.Includers.{IncludersTakeTurns}
 use Rattle.arj_joint_law.specs.Ordered.{IsOrderedSo}
 use Rattle.arj_joint_law.specs.Recorded.{WereRecorded}
 use Rattle.arj_serial_law.specs.Decided.{Wrote, WroteSo}
@@ -125,11 +126,13 @@ AreWritten values lines x ds = (d : Done) (u : Top) → disk.In d ds → Contain
 abbrev pub AreBareSo : List Line → ℕ → State → Type 0
 AreBareSo lines x S = (u : Top) → Contains (tops lines) u → S.bare (uid_number (uid_of_id (acts lines) u.id)) ≡ true → Wrote lines x u → ⊥
 
--- Both machines of the object at once: the disk machine, whose decisions are those of the journal in their order; and for all that may be fixed and
--- agrees with what was begun the lock machine, to which the journal is tied, in which commits under way have the votes that came, and by which
--- decided tops had planned. So these wrote what their plans have, and those without a record nothing.
+-- Both machines of the object at once: the disk machine, whose decisions are those of the journal in their order, also of those that only include
+-- a store; and for all that may be fixed and agrees with what was begun the lock machine, to which the journal is tied, in which commits under
+-- way have the votes that came, and by which decided tops had planned. So these wrote what their plans have, and those without a record
+-- nothing.
 pub record IsJoinedSo (hd : Header) (x : ℕ) (M : Seen) : Type 0 where
   pub ordered : IsOrderedSo hd x M
+  pub includers : IncludersTakeTurns M.lines (let W = world_of ordered in W.disk.tops)
   pub begun : List Action
   pub alike : IsAlikeOf begun M
   pub seen : (f : Fixed) → AgreesAs (first_values hd) f x begun M.sent → (S : lock.State) × SeesLocks f x begun S M × AreTied f x M.lines S × AreVotedAt f x S M × ArePlannedSo f x S (world_of ordered) M

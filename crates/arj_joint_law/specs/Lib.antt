@@ -14,3 +14,4 @@ pub mod Joined
 pub mod Recorded
 pub mod Alone
 pub mod Joins
+pub mod Includers

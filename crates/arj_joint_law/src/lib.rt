@@ -4,12 +4,13 @@
 //! says, and `arj_serial_law` what makes its last state and entry those of the journal. Here what that asks is given in runs: the machine
 //! began as the header says (`specs/Begun.antt`), it decides tops in the order of their commit calls against decisions
 //! (`specs/Ordered.antt`), so that by the lock machine its decided writers stand as their commits were called (`specs/Writers.antt`), and
-//! what stands of the object on disks is of its class (`specs/Forms.antt`); both machines are there at once, so that decided tops gave to
-//! the stores what they wrote (`specs/Joined.antt`); and files are clean with what is left
-//! (`specs/Cleaned.antt`), and stores excluded in time (`specs/Excluded.antt`, `specs/InTime.antt`). What one outcome is by a journal is
-//! in `specs/Outcome.antt`; what lines say of exclusions in `specs/Marked.antt`, and of includes in `specs/Joins.antt`. What it gives upward: `runs_begin_as_the_header_says`, `decisions_come_behind_calls`,
-//! `writers_are_called_as_they_are_decided`, `runs_have_form`, `runs_have_both_machines`, `runs_are_clean`, `runs_exclude_in_time` (of what is seen of a run:
-//! `seen_runs_exclude_in_time`), `commits_are_done_behind_decisions`,
+//! by naming's half of it those that only include a store too (`specs/Includers.antt`), and what stands of the object on disks is of its
+//! class (`specs/Forms.antt`); both machines are there at once, so that decided tops gave to the stores what they wrote
+//! (`specs/Joined.antt`); and files are clean with what is left (`specs/Cleaned.antt`), and stores excluded in time
+//! (`specs/Excluded.antt`, `specs/InTime.antt`). What one outcome is by a journal is in `specs/Outcome.antt`; what lines say of exclusions
+//! in `specs/Marked.antt`, and of includes in `specs/Joins.antt`. What it gives upward: `runs_begin_as_the_header_says`,
+//! `decisions_come_behind_calls`, `writers_are_called_as_they_are_decided`, `runs_have_form`, `runs_have_both_machines`, `runs_are_clean`,
+//! `runs_exclude_in_time` (of what is seen of a run: `seen_runs_exclude_in_time`), `commits_are_done_behind_decisions`,
 //! `commits_say_what_they_exclude`, `commits_include_what_survives`, `commits_of_a_root_go_on_alone`.
 #![tactic(auto)]
 

@@ -2,6 +2,7 @@
 ghost use Rattle.arj_joint_law.specs.Alone.{RunsCallAlone};
 ghost use Rattle.arj_joint_law.specs.Begun.{ObjectsAreThere, RunsBeginSo, RunsBeginSoBeside};
 ghost use Rattle.arj_joint_law.specs.Cleaned.{RunsAreClean, WholeRunsAreClean};
+ghost use Rattle.arj_joint_law.specs.Includers.{RunsTakeTurns};
 ghost use Rattle.arj_joint_law.specs.Joined.{JoinedRunsAreSerial, RunsAreJoined};
 ghost use Rattle.arj_joint_law.specs.Joins.{RunsSayIncludes};
 ghost use Rattle.arj_joint_law.specs.Marked.{RunsSayMarks};
@@ -23,11 +24,14 @@ pub fn runs_begin_as_the_header_says()
 /// was decided earlier had been called at a place of the journal where the later one wasn't decided yet, by its line or by a record that
 /// was found; or nothing of the later one survives. And the stores that a decided top takes out of the list are those that its commit excluded, by the
 /// journal, and those that it adds the ones of its surviving includes that its commit didn't exclude; one that counts and gave nothing to the
-/// stores included one; and its root is the one at the head of its path there. It takes the same as `runs_begin_as_the_header_says`. It does nothing
-/// when it runs.
+/// stores included one; and its root is the one at the head of its path there. And of each two of them that count the one that was decided
+/// first had its commit called first too, where the later one includes a store, or changes the object and the earlier one didn't
+/// (`includers`): so long as a commit uses what naming has of the object, that has given no other the right to change it. It takes the same as
+/// `runs_begin_as_the_header_says`. It does nothing when it runs.
 pub fn decisions_come_behind_calls()
     ensures heard { RunsAreOrdered }
     ensures beside { RunsAreOrderedBeside }
+    ensures includers { RunsTakeTurns }
 {}
 
 /// After the run of each script whose header is in form, of at most 1,000,000 events, files that are those of its nodes' pairs are clean:

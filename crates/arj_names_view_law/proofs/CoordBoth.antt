@@ -46,6 +46,7 @@ use Rattle.arj_names_view_law.proofs.GrantSteps.{grants_stay, heard}
 use Rattle.arj_names_view_law.proofs.ListSteps.{lists_are_heard, kept_still}
 use Rattle.arj_names_view_law.specs.Both.{HasNoPart, HowDecided, IsEndedBare, IsOnly, IsRecorded, decided_names, ended_names, has_part, CallsKeepBoth, IsAnswered, LoadsKeepBoth, HasGoneOn, OnlyAnswers, OnlyAtNode, BeginningsKeepBoth, BothWalk, DecisionsKeepBoth, DisksWalk, IsOther, IsSeenFrom, IsSeenIn, OnlyRoots, OpensNone, SeesBoth, is_no_work, leaves_the_inc}
 use Rattle.arj_names_view_law.specs.Memory.{SeesNaming}
+use Rattle.arj_names_view_law.proofs.Onward.{goes_onward}
 use Rattle.arj_names_view_law.proofs.Pairing.{Ends, walked_both, Stepped, left_disk, naming_on, seen_as, steps, steps_to, stopped_both, unfollowed, walks_at}
 
 -- ---- what may be noted
@@ -468,7 +469,7 @@ module _ (x : ℕ) (tops : Kinds) (unwalked : tops.walk ≡ None) (e k : ℕ) (d
       let B : Office = record { world = W; names = st.names } in
       let on : (o : Naming) → SeesNaming x tops o A.world.disk A.names → SeesNaming x tops o W.disk st.names = λ o z. subst (λ N. SeesNaming x tops o W.disk N) (sym i.names_same) (naming_on x tops o A.world.disk W.disk A.names i.later.root z) in (
         B,
-        record { later = i.later; tops = i.tops_same; bare = λ z. none_ended (only_begins top) z refl A.world W s.along; had = ap (λ (N : Names). N.had) i.names_same; kept = ap (λ (N : Names). N.kept) i.names_same; answers = λ a j. subst (λ (N : Names). In a N.answers) (sym i.names_same) j; inc = ap (λ (N : Names). N.inc) i.names_same; confd = λ z on. ap (λ (N : Names). N.confd z) i.names_same ∙ on },
+        record { later = i.later; tops = i.tops_same; bare = λ z. none_ended (only_begins top) z refl A.world W s.along; had = ap (λ (N : Names). N.had) i.names_same; kept = ap (λ (N : Names). N.kept) i.names_same; answers = λ a j. subst (λ (N : Names). In a N.answers) (sym i.names_same) j; inc = ap (λ (N : Names). N.inc) i.names_same; confd = λ z on. ap (λ (N : Names). N.confd z) i.names_same ∙ on; onward = goes_onward (only_begins top) (λ z. refl) A B s.along },
         seen_as x tops k d (Some t) A M both v B L d st.named (ap (λ (N : Names). N.inc) i.names_same) disks refl same
             (λ o one is. on o (both.names.memory (record { number = k; disk = d; live = Some t }) t o (ap (λ m. (up k d t M).nodes m) (sym one) ∙ node_here M k (record { number = k; disk = d; live = Some t })) refl (sym naming ∙ is))) (λ other. on),
       )

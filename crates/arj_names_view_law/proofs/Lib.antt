@@ -19,6 +19,7 @@ pub mod MessageBoth
 pub mod NamingWalks
 pub mod NewConfirms
 pub mod Noting
+pub mod Onward
 pub mod Openings
 pub mod Orphans
 pub mod Pairing

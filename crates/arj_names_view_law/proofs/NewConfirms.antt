@@ -18,13 +18,13 @@ use Rattle.arj_protocol.specs.Values.{state_entry}
 use Rattle.arj_protocol.proofs.Numbers.{number_tells}
 use Rattle.arj_protocol.proofs.Payloads.{entry_back}
 use Rattle.arj_disk_law.specs.Effects.{Effect, Agree, Pass, Enter, Allowed, CanAgree, CanPass, CanEnter, IsUnlisted, after, changed, new_list}
-use Rattle.arj_disk_law.specs.Guards.{HasPart, HasPresent, IsNext, IsUntold, May, MayAgree, MayConfirm, MayEnter, MayExclude, MayPass, end_of}
+use Rattle.arj_disk_law.specs.Guards.{HasPart, HasPresent, IsNext, IsPresent, IsUntold, May, MayAgree, MayConfirm, MayEnter, MayExclude, MayPass, end_of}
 use Rattle.arj_disk_law.specs.Named as names
 use Rattle.arj_disk_law.specs.Names.{Names, Office, Do, acted}
 use Rattle.arj_disk_law.specs.State.{State, Packed, Hold, target, undecided}
 use Rattle.arj_disk_law.specs.Words.{has, put}
 use Rattle.arj_disk_law.proofs.Acts.{runs_keep}
-use Rattle.arj_disk_law.proofs.Base.{put_rises, bool_cases, falls_to, never, or_cases, or_left, or_right, put_other, put_same, some_is, test_is, test_not}
+use Rattle.arj_disk_law.proofs.Base.{put_cases, put_rises, bool_cases, falls_to, never, or_cases, or_left, or_right, put_other, put_same, some_is, test_is, test_not}
 use Rattle.arj_disk_law.proofs.Booking.{changes_part, clear, unconfirmed, undone}
 use Rattle.arj_disk_law.proofs.Listing.{has_filtered}
 use Rattle.arj_disk_law.proofs.NamingResults.{booked}
@@ -279,6 +279,18 @@ module _ (x : ℕ) (tops : Kinds) (p : Path) (grants : Grants) (excluded include
     where
       enters : CanEnter A.world t → MayEnter (record { world = A.world; names = M }) t
       enters a = record { confirm = may; present = present (changes_part (record { world = A.world; names = M }) named_then t may present a.other); other = a.other; stores = a.stores; next = next }
+
+  -- whom it confirms has grants of the present incarnation alone
+  marked_present : HasPart (S.plan t) → (z : ℕ) → put t (S.conf t || undecided S t) S.conf z ≡ true → (S.conf z ≡ true) ⊎ IsPresent S N z
+  marked_present part z = put_cases (λ b. b ≡ true → (S.conf z ≡ true) ⊎ IsPresent S N z) t (S.conf t || undecided S t) S.conf z
+      (λ same b. ⊎_elim (λ old. inl (ap S.conf same ∙ old)) (λ u. inr (subst (IsPresent S N) (sym same) (let p = present_now part in p.all u))) (or_cases (S.conf t) (undecided S t) b)) (λ other b. inl b)
+
+  pub confirm_present : (e : Effect) → IsConfirmation t e → Allowed A.world e → (z : ℕ) → (after A.world e).disk.conf z ≡ true → (S.conf z ≡ true) ⊎ IsPresent S N z
+  confirm_present e (inl is) allowed z on = let a : CanAgree A.world t = subst (Allowed A.world) is allowed in marked_present (inl a.writes) z (ap (λ y. (after A.world y).disk.conf z) (sym is) ∙ on)
+  confirm_present e (inr (inl is)) allowed z on = inl (ap (λ y. (after A.world y).disk.conf z) (sym is) ∙ on)
+  confirm_present e (inr (inr is)) allowed z on =
+      let a : CanEnter A.world t = subst (Allowed A.world) is allowed in
+      marked_present (changes_part (record { world = A.world; names = M }) named_then t may present a.other) z (ap (λ y. (after A.world y).disk.conf z) (sym is) ∙ on)
 
   abbrev Part : Naming
   Part = let l = lock_all (wanted (top_of p) grants excluded d) p n in l.part

@@ -34,11 +34,12 @@ use Rattle.arj_disk_view_law.proofs.StoreWalks.{took_is}
 use Rattle.arj_disk_view_law.proofs.Later.{effects_are_later}
 use Rattle.arj_disk_view_law.proofs.NamingTold.{names_not}
 use Rattle.arj_disk_view_law.proofs.Notes.{fixed_later}
-use Rattle.arj_names_view_law.specs.Both.{BothWalk, DisksWalk, IsOver, IsSeenFrom, OnlyMemory, OtherEndsKeepBoth, SeesBoth, TopEndsKeepBoth, leaves_the_inc}
+use Rattle.arj_names_view_law.specs.Both.{BothWalk, DisksWalk, GoesOnward, IsOver, IsSeenFrom, OnlyMemory, OtherEndsKeepBoth, SeesBoth, TopEndsKeepBoth, leaves_the_inc}
 use Rattle.arj_names_view_law.specs.Calls.{ClaimsTop, OnlyEnds}
 use Rattle.arj_names_view_law.specs.Memory.{NamesGo, SeesNaming}
 use Rattle.arj_names_view_law.proofs.ConfirmBoth.{naming_leaves}
 use Rattle.arj_names_view_law.proofs.EndActs.{nested_ends_are_nothing, serials_end_by_acts, tops_end_by_acts}
+use Rattle.arj_names_view_law.proofs.Onward.{along_onward, goes_onward, none_confirmed, onward_still}
 use Rattle.arj_names_view_law.proofs.Pairing.{Ends, Stepped, Still, left_disk, naming_on, seen_as, steps, still_only, stopped_both, unfollowed, walked_both, walks_at}
 use Rattle.arj_names_view_law.proofs.EntriesLeft.{left_names, names_left, outs_gone}
 use Rattle.arj_names_view_law.proofs.Orphans.{given_left}
@@ -229,9 +230,10 @@ module _ (x : ℕ) (tops : Kinds) (unwalked : tops.walk ≡ None) (e : ℕ) (d :
     bare_to : (W : World) → Along (record { from = A.world; noted = only_acks (uid_number u) }) W → (z : ℕ) → W.disk.bare z ≡ true → A.world.disk.bare z ≡ true
     bare_to W a z = none_ended (only_acks (uid_number u)) z refl A.world W a
 
-    only_of : (B : Office) → IsLater A.world B.world → B.world.disk.tops ≡ A.world.disk.tops → ((t : ℕ) → B.world.disk.bare t ≡ true → A.world.disk.bare t ≡ true) → (B.names ≡ A.names) ⊎ LateOne B → OnlyMemory A B
-    only_of B later tops_same bare_same either = record {
+    only_of : (B : Office) → IsLater A.world B.world → B.world.disk.tops ≡ A.world.disk.tops → ((t : ℕ) → B.world.disk.bare t ≡ true → A.world.disk.bare t ≡ true) → GoesOnward A B → (B.names ≡ A.names) ⊎ LateOne B → OnlyMemory A B
+    only_of B later tops_same bare_same onward either = record {
       later = later;
+      onward = onward;
       tops = tops_same;
       bare = bare_same;
       had = ⊎_elim (λ e. ap (λ (N : Names). N.had) e) (λ l. l.had) either;
@@ -249,7 +251,7 @@ module _ (x : ℕ) (tops : Kinds) (unwalked : tops.walk ≡ None) (e : ℕ) (d :
         let st = stepped W s.along in
         let i = st.holds in
         let B : Office = record { world = W; names = st.names } in
-        (B, only_of B (later_to W s.along) i.tops_then (bare_to W s.along) i.either, stopped_both x tops 1 d (Some t) A M both e B N c st.named (inc_of B i.either) (unfollowed x tops unwalked (only_acks (uid_number u)) A.world W (halted e 1 c N) s) inc same (λ other. absurd (never refl other)))
+        (B, only_of B (later_to W s.along) i.tops_then (bare_to W s.along) (goes_onward (only_acks (uid_number u)) (λ z. refl) A B s.along) i.either, stopped_both x tops 1 d (Some t) A M both e B N c st.named (inc_of B i.either) (unfollowed x tops unwalked (only_acks (uid_number u)) A.world W (halted e 1 c N) s) inc same (λ other. absurd (never refl other)))
 
     ended : (L : Seen) → (left_disk Outs d).inc ≡ d.inc → L.nodes ≡ M.nodes → IsSeenByDisks x (followed tops A.world (only_acks (uid_number u))) (up 1 (left_disk Outs d) Left L) → IsSeenFrom x tops A (up 1 (left_disk Outs d) Left L)
     ended L inc same (W, s) = ⊎_elim
@@ -262,7 +264,7 @@ module _ (x : ℕ) (tops : Kinds) (unwalked : tops.walk ≡ None) (e : ℕ) (d :
         seen : (B : Office) → B.world ≡ W → Named B → LateOne B → IsSeenFrom x tops A (up 1 (left_disk Outs d) Left L)
         seen B world b late = (
           B,
-          only_of B (subst (IsLater A.world) (sym world) (later_to W s.along)) (ap (λ (V : World). V.disk.tops) world ∙ (stepped W s.along).holds.tops_then) (λ z on. bare_to W s.along z (ap (λ (V : World). V.disk.bare z) (sym world) ∙ on)) (inr late),
+          only_of B (subst (IsLater A.world) (sym world) (later_to W s.along)) (ap (λ (V : World). V.disk.tops) world ∙ (stepped W s.along).holds.tops_then) (λ z on. bare_to W s.along z (ap (λ (V : World). V.disk.bare z) (sym world) ∙ on)) (onward_still A B W (along_onward (only_acks (uid_number u)) A.world W s.along) (λ z on. none_confirmed (only_acks (uid_number u)) z refl A.world W s.along on) world) (inr late),
           seen_as x tops 1 d (Some t) A M both Left B L (left_disk Outs d) b late.inc (subst (λ V. SeesDisks x tops V (up 1 (left_disk Outs d) Left L)) (sym world) disks) inc same
               (λ o one is. subst (λ z. SeesNaming x tops z B.world.disk B.names) (some_is refl is) late.seen) (λ other. absurd (never refl other)),
         )
@@ -309,7 +311,7 @@ module _ (x : ℕ) (tops : Kinds) (unwalked : tops.walk ≡ None) (e : ℕ) (d :
         only.world,
         runs_keep B go.acts go.may st.named,
         only.inc,
-        record { later = subst (IsLater A.world) (sym only.world) st.later; tops = ap (λ (V : World). V.disk.tops) only.world ∙ st.tops; bare = λ z on. st.bare z (ap (λ (V : World). V.disk.bare z) (sym only.world) ∙ on); had = only.had; kept = only.kept; answers = λ a i. subst (λ as_left. In a as_left) (sym only.answers) i; inc = only.inc; confd = λ z on. ap (λ f. f z) only.confd ∙ on },
+        record { later = subst (IsLater A.world) (sym only.world) st.later; tops = ap (λ (V : World). V.disk.tops) only.world ∙ st.tops; bare = λ z on. st.bare z (ap (λ (V : World). V.disk.bare z) (sym only.world) ∙ on); had = only.had; kept = only.kept; answers = λ a i. subst (λ as_left. In a as_left) (sym only.answers) i; inc = only.inc; confd = λ z on. ap (λ f. f z) only.confd ∙ on; onward = onward_still A (end_of B go.acts) W st.onward st.unconfirmed only.world },
         subst (λ z. SeesNaming x tops (let s = naming.told u z d.names n in s.part) (end_of B go.acts).world.disk (end_of B go.acts).names) (sym aborted) go.there.1,
       )
     where

@@ -16,12 +16,12 @@ use Rattle.arj_protocol.specs.Coord.{Coord, Root}
 use Rattle.arj_protocol.specs.Step.{Node, first_disk, parts_in, restart_outs}
 use Rattle.arj_protocol.specs.World.{Labelled, format}
 use Rattle.arj_disk_law.specs.Effects.{World, Allowed, Begin}
-use Rattle.arj_disk_law.specs.Guards.{IsNext, Note, MayBegin, only_acks, only_begins, only_decides}
+use Rattle.arj_disk_law.specs.Guards.{IsNext, IsPresent, Note, MayBegin, only_acks, only_begins, only_decides}
 use Rattle.arj_disk_law.specs.Messages.{ToldSerial}
 use Rattle.arj_disk_law.specs.Named.{Named}
 use Rattle.arj_disk_law.specs.Names.{Answer, Bound, Loaded, Names, Office, lists_after, retained, written_in}
 use Rattle.arj_disk_law.specs.Offices.{chosen}
-use Rattle.arj_disk_law.specs.State.{State, Done, Plan, Idle, undecided}
+use Rattle.arj_disk_law.specs.State.{State, Done, Plan, Idle, is_gone, undecided}
 use Rattle.arj_disk_law.specs.Words.{In, has}
 use Rattle.arj_view_law.specs.Seen.{Seen, at, down, given, said, see, up}
 use Rattle.arj_view_law.specs.Walks.{Walks, Up, halted}
@@ -49,6 +49,14 @@ pub record SeesBoth (x : ℕ) (tops : Kinds) (A : Office) (M : Seen) : Type 0 wh
   pub disks : SeesDisks x tops A.world M
   pub names : SeesNames x tops A M
 
+-- The disk half has gone on: of whom naming has confirmed since, each grant that counts is of the present incarnation; who was confirmed as
+-- one that changes nothing is so still; who is at its end stays there; and a commit begins only while its root isn't at its end.
+pub record GoesOnward (A B : Office) : Type 0 where
+  pub conf : (t : ℕ) → B.world.disk.conf t ≡ true → (A.world.disk.conf t ≡ true) ⊎ IsPresent B.world.disk B.names t
+  pub light : (t : ℕ) → A.world.disk.light t ≡ true → B.world.disk.light t ≡ true
+  pub gone : (t : ℕ) → is_gone (A.world.disk.stage t) ≡ true → is_gone (B.world.disk.stage t) ≡ true
+  pub begins : (t : ℕ) → B.world.disk.begun t ≡ true → (A.world.disk.begun t ≡ true) ⊎ (is_gone (A.world.disk.stage (A.world.disk.root t)) ≡ false)
+
 -- The disk half has gone on; of naming's half nothing but naming's memory has changed, in which whoever was confirmed is so still, and
 -- answers were given; and no top was decided, with a record or without one.
 pub record OnlyMemory (A B : Office) : Type 0 where
@@ -60,6 +68,7 @@ pub record OnlyMemory (A B : Office) : Type 0 where
   pub answers : (a : Answer) → In a A.names.answers → In a B.names.answers
   pub inc : B.names.inc ≡ A.names.inc
   pub confd : (t : ℕ) → A.names.confd t ≡ true → B.names.confd t ≡ true
+  pub onward : GoesOnward A B
 
 -- so both halves are seen
 abbrev pub IsSeenFrom : ℕ → Kinds → Office → Seen → Type 0

@@ -33,7 +33,7 @@ use Rattle.arj_line_law.specs.Book.{book, is_decided, uid_in}
 use Rattle.arj_line_law.specs.Knows.{IsKnown}
 use Rattle.arj_joint_law.specs.Outcome.{was_excluded}
 use Rattle.arj_settle_law.proofs.Causes.{excluded_more}
-use Rattle.arj_settle_law.proofs.Comes.{IsAt, came_decide}
+use Rattle.arj_joint_law.proofs.Comes.{IsAt, came_decide}
 use Rattle.arj_settle_law.proofs.Cores.{HasMarks, IsAcked, IsAsked, IsCore, IsDone, IsHeld, IsSafe, IsWatched, TellsAbort, WasTold, marks_on}
 use Rattle.arj_settle_law.proofs.Knowns.{Known, coord, knows, node_is, open_undone, told_closed}
 use Rattle.arj_settle_law.proofs.Lights.{stop_core}

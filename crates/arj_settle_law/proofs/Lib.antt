@@ -12,7 +12,6 @@ pub mod Trails
 pub mod Knowns
 pub mod Lights
 pub mod Milds
-pub mod Comes
 pub mod Stills
 pub mod Cases
 pub mod Steps

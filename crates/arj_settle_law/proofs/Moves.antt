@@ -42,7 +42,7 @@ use Rattle.arj_line_law.specs.Right.{AreRight}
 use Rattle.arj_joint_law.specs.Outcome.{was_excluded}
 use Rattle.arj_lock_fact_law.proofs.CommitCoords.{AreAt, IsNext, at_again, at_heard}
 use Rattle.arj_settle_law.proofs.Calms.{AllCalm, Decided, Goes, Still, acts_goes, again_calm, calm_both, calm_tells, heard_goes}
-use Rattle.arj_settle_law.proofs.Comes.{came_acts}
+use Rattle.arj_joint_law.proofs.Comes.{came_acts, waits_not}
 use Rattle.arj_settle_law.proofs.Cores.{HasMarks, IsWatched, marks_on}
 use Rattle.arj_settle_law.proofs.Knowns.{Known, asked_settled, coord, knows, node_is, never, numbers, works}
 use Rattle.arj_settle_law.proofs.Marks.{answer_marks, excluded_line, excludes, giveup_marks, start_marks}
@@ -53,18 +53,6 @@ use Rattle.arj_settle_law.proofs.Yeses.{AskedFrom, Votes, answer_votes, giveup_v
 
 some_is : {A : Type 0} {a b : A} → Some a ≡ Some b → a ≡ b
 some_is {A} {a} {b} is = let k : ◌≡◌ {A = Option A} (Some a) (Some b) = is in cc k
-
--- who doesn't wait isn't at its commit
-waits_not : (c : Coord) (b : Branch) → waits_above b c ≡ false → IsCommitting (actor b.path) c → ⊥
-waits_not c b none (d, m, found, now) = never (ap is_waiting found ∙ ap is_waiting_now now) (quiet (uids_of b.path) none (on_own b.path))
-  where
-    parts : (x y : Bool) → (x || y) ≡ false → (x ≡ false) × (y ≡ false)
-    parts true y e = absurd (cc e)
-    parts false y e = (refl, e)
-
-    quiet : (us : List Uid) → list_any (waits c) us ≡ false → is_on us (actor b.path) ≡ true → waits c (actor b.path) ≡ false
-    quiet [] e on = absurd (cc on)
-    quiet (x ∷ us) e on = let q = parts (waits c x) (list_any (waits c) us) e in ⊎_elim (λ same. ap (waits c) (sym (uid_is x (actor b.path) same)) ∙ q.0) (λ rest. quiet us q.1 rest) (or_cases (uid_eq x (actor b.path)) (is_on us (actor b.path)) on)
 
 plain_sends : (c : Coord) (outs : List Effect) → AreTrue c outs → AllByRecursion IsPlainSend outs
 plain_sends c [] all = tt

@@ -48,7 +48,7 @@ use Rattle.arj_settle_law.proofs.Acks.{acked_walk}
 use Rattle.arj_settle_law.proofs.Askers.{askers_kept}
 use Rattle.arj_settle_law.proofs.Cases.{Acks, Again, Asks, Beside, Ends, HandleCase, Hears, Prepares, handle_case}
 use Rattle.arj_settle_law.proofs.Causes.{cause_more}
-use Rattle.arj_settle_law.proofs.Comes.{IsAt}
+use Rattle.arj_joint_law.proofs.Comes.{IsAt}
 use Rattle.arj_settle_law.proofs.Cores.{IsCore, IsDone, IsWatched, core_on, marks_on}
 use Rattle.arj_settle_law.proofs.Decides.{decided_walk}
 use Rattle.arj_settle_law.proofs.Knowns.{Known}

@@ -1,6 +1,8 @@
 -- Whose commit is under way behind an input: it was so before, or the input began it, or gave its step up.
-use Rattle.std.proofs.Common.{◌≡◌, ◌≢◌, ◌⊎◌, ◌∙◌, ◌+◌, ℕ, List, [], ◌∷◌, ◌++◌, Bool, true, false, cond, Option, Some, None, refl, sym, ap, subst, inl, inr, ⊎_elim}
-use Rattle.arj_protocol.specs.Words.{Ask, End, Kind, Label, Path, Uid}
+use Rattle.std.proofs.Common.{◌≡◌, ◌≢◌, ◌⊎◌, ◌∙◌, ◌+◌, ℕ, List, [], ◌∷◌, ◌++◌, ◌||◌, Bool, true, false, cond, Option, Some, None, refl, sym, ap, subst, inl, inr, ⊎_elim}
+use Rattle.std.specs.List.{list_any}
+use Rattle.arj_base.proofs.Uids.{uid_is}
+use Rattle.arj_protocol.specs.Words.{Ask, End, Kind, Label, Path, Uid, is_on, uid_eq, uids_of}
 use Rattle.arj_protocol.specs.Words.cause
 use Rattle.arj_protocol.specs.Words.ending
 use Rattle.arj_protocol.specs.Words.kind
@@ -15,10 +17,13 @@ use Rattle.arj_protocol.specs.Effect.{Did, Intent}
 use Rattle.arj_protocol.specs.Ending.{abort_action, aborts_with, all_aborted, decide, ended, root_after}
 use Rattle.arj_protocol.specs.Order.{put_uid, unbound}
 use Rattle.arj_protocol.specs.Step as input
-use Rattle.arj_protocol.specs.Step.{Input, acts, branch_named, on_branch}
+use Rattle.arj_protocol.specs.Step.{Input, acts, branch_named, is_waiting, is_waiting_now, on_branch, waits, waits_above}
 use Rattle.arj_protocol.specs.Tree.{Branch, at_place, doomed_at, ended_at, is_own, open_below, root_of, uses_object}
 use Rattle.arj_coord_law.proofs.CoordUses.{on_cases}
+use Rattle.arj_disk_law.proofs.Base.{never, or_cases}
 use Rattle.arj_lock_fact_law.proofs.CommitCoords.{IsNext}
+use Rattle.arj_part_law.specs.Coords.{IsCommitting}
+use Rattle.arj_part_law.proofs.Begun.{on_own}
 use Rattle.arj_part_law.proofs.GoodCoords.{doomed_same, uses_same}
 use Rattle.arj_part_law.proofs.Settled.{end_tree_on}
 
@@ -26,7 +31,7 @@ use Rattle.arj_part_law.proofs.Settled.{end_tree_on}
 abbrev pub IsAt : Coord → Uid → Machine → Type 0
 IsAt c w m = (x : Doing) × (doing_of w c ≡ Some x) × (x.now ≡ Committing m)
 
-abbrev CameOf : (Uid → Machine → Type 0) → Coord → Coord → Type 0
+abbrev pub CameOf : (Uid → Machine → Type 0) → Coord → Coord → Type 0
 CameOf New c e = (w : Uid) (m : Machine) → IsAt e w m → IsAt c w m ⊎ New w m
 
 module _ (New : Uid → Machine → Type 0) (c : Coord) where
@@ -172,3 +177,15 @@ module _ (New : Uid → Machine → Type 0) (c : Coord) where
   came_acts input.Restart intents other lost starts = came_same
   came_acts input.Crash intents other lost starts = came_same
   came_acts (input.Show x) intents other lost starts = came_same
+
+-- who doesn't wait isn't at its commit
+pub waits_not : (c : Coord) (b : Branch) → waits_above b c ≡ false → IsCommitting (actor b.path) c → ⊥
+waits_not c b none (d, m, found, now) = never (ap is_waiting found ∙ ap is_waiting_now now) (quiet (uids_of b.path) none (on_own b.path))
+  where
+    parts : (x y : Bool) → (x || y) ≡ false → (x ≡ false) × (y ≡ false)
+    parts true y e = absurd (cc e)
+    parts false y e = (refl, e)
+
+    quiet : (us : List Uid) → list_any (waits c) us ≡ false → is_on us (actor b.path) ≡ true → waits c (actor b.path) ≡ false
+    quiet [] e on = absurd (cc on)
+    quiet (x ∷ us) e on = let q = parts (waits c x) (list_any (waits c) us) e in ⊎_elim (λ same. ap (waits c) (sym (uid_is x (actor b.path) same)) ∙ q.0) (λ rest. quiet us q.1 rest) (or_cases (uid_eq x (actor b.path)) (is_on us (actor b.path)) on)

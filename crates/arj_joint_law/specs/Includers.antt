@@ -1,0 +1,66 @@
+-- In which order the commits of two decided tops were called, where one of them includes a store of the object.
+use Rattle.std.specs.Prelude.{⊤, ◌≡◌, ◌⊎◌, ◌<◌, ◌≤◌, ◌++◌, ℕ, Bool, true, false, List, [], ◌∷◌, None, Contains, filter, is_some, length}
+use Rattle.arj_base.specs.Rows.{is_on}
+use Rattle.arj_journal.specs.ScriptForm.{HeaderInForm}
+use Rattle.arj_model.specs.Calls.{Top}
+use Rattle.arj_model.specs.Last.{object_line}
+use Rattle.arj_model.specs.Serial.{Values}
+use Rattle.arj_protocol.specs.Words.{Header, Line, Uid}
+use Rattle.arj_protocol.specs.Order.{uid_number}
+use Rattle.arj_protocol.specs.World.{Asked, format, run_all}
+use Rattle.arj_disk_law.specs.Order.{counts_of}
+use Rattle.arj_disk_law.specs.State.{Done, Plan}
+use Rattle.arj_disk_law.specs.Words.{In, has}
+use Rattle.arj_disk_run_law.specs.Rest.{KeepsHeard}
+use Rattle.arj_view_law.specs.Keeps.{Holds}
+use Rattle.arj_view_law.specs.Seen.{Seen}
+use Rattle.arj_binding_law.specs.Scripts.{most_events}
+use Rattle.arj_line_law.specs.Book.{book, new_book}
+use Rattle.arj_line_law.specs.Right.{AreRight}
+use Rattle.arj_lock_law.specs.State as lock
+use Rattle.arj_serial_law.specs.Decided.{AreDecisions, Joined, Wrote}
+use Rattle.arj_serial_law.specs.Tied.{IsTied}
+use Rattle.arj_joint_law.specs.Ordered.{IsOrderedSo}
+
+-- The commit of the first action was called before that of the second one: at some place of the journal the one had been, and the other hadn't.
+abbrev pub IsCalledBefore : List Line → Uid → Uid → Type 0
+IsCalledBefore lines t u = (before : List Line) × (behind : List Line) × (lines ≡ before ++ behind) × (is_on (let B = book before in B.called) t ≡ true) × (is_on (let B = book before in B.called) u ≡ false)
+
+-- a plan includes no store, and it changes nothing, or the other one changes something
+abbrev pub IncludesNone : Plan → Plan → Type 0
+IncludesNone p q = ((s : ℕ) → has s p.joins ≡ true → ⊥) × ((p.writes ≡ None) ⊎ (is_some q.writes ≡ true))
+
+-- Of two decided tops that count, the one that was decided first had its commit called first, where the other one includes a store, or changes the
+-- object and the first one didn't.
+abbrev pub IncludersAreCalledFirst : List Line → Done → Done → Type 0
+IncludersAreCalledFirst lines e d = (t u : Uid) → d.counts ≡ true → e.counts ≡ true → uid_number t ≡ e.top → uid_number u ≡ d.top → IsCalledBefore lines t u ⊎ IncludesNone d.plan e.plan
+
+-- so it is of each two of these, the newest first
+abbrev pub IncludersTakeTurns : List Line → List Done → Type 0
+IncludersTakeTurns lines [] = ⊤
+IncludersTakeTurns lines (d ∷ ds) = ((e : Done) → In e ds → IncludersAreCalledFirst lines e d) × IncludersTakeTurns lines ds
+
+-- ---- runs
+
+-- The machine decided as `IsOrderedSo` has it, and so it is of each two of its decided tops.
+pub record TakesTurnsSo (hd : Header) (x : ℕ) (M : Seen) : Type 0 where
+  pub ordered : IsOrderedSo hd x M
+  pub includers : IncludersTakeTurns M.lines (let j = (let b = (let o = ordered in o.begun) in b.journalled) in let W = j.machine in let S = W.disk in S.tops)
+
+-- So it is in the run of every script, of each object of the header, with what is still taken of what coordinators have of naming's answers.
+abbrev pub RunsTakeTurns : Type 0
+RunsTakeTurns = (hd : Header) (x : ℕ) (test : Seen → Bool) → HeaderInForm hd → is_some (object_line hd x) ≡ true → KeepsHeard hd x test → (es : List Asked) → length es ≤ most_events → Holds hd (TakesTurnsSo hd x) (run_all es (format hd))
+
+-- ---- in the words of the model
+
+-- of these tops, the newest first, each two of which one didn't write the object had their commits called in turn
+abbrev pub JoinersAreNewestFirst : List Line → ℕ → List Top → Type 0
+JoinersAreNewestFirst lines x [] = ⊤
+JoinersAreNewestFirst lines x (t ∷ ts) = ((u : Top) → Contains ts u → (Wrote lines x u → Wrote lines x t → ⊥) → u.at < t.at) × JoinersAreNewestFirst lines x ts
+
+-- So it is of the tops which the disk machine's decisions that count are, where each of them that didn't write the object included a store of
+-- it, and the lock machine of the object reaches a state that is tied to the journal.
+abbrev pub DecidedJoinersStand : Type 0
+DecidedJoinersStand = (values : Values) (lines : List Line) (x : ℕ) (S : lock.State) → AreRight new_book lines → IsTied values lines x S
+    → (ds : List Done) (those : List Top) → IncludersTakeTurns lines ds → AreDecisions values lines x (filter counts_of ds) those
+    → ((t : Top) → Contains those t → (Wrote lines x t → ⊥) → Joined lines x t) → JoinersAreNewestFirst lines x those
