@@ -1,5 +1,5 @@
 -- Locks that are held, in the run of every script: by what nodes have in memory after each event.
-use Rattle.std.specs.Prelude.{◌<◌, ◌≤◌, ℕ, List, [], ◌∷◌, length, Option, Some, None}
+use Rattle.std.specs.Prelude.{◌<◌, ◌≤◌, ℕ, Bool, List, [], ◌∷◌, length, Option, Some, None}
 use Rattle.std.specs.List.{AllByRecursion}
 use Rattle.arj_protocol.specs.Words.{Header, Line, Row}
 use Rattle.arj_protocol.specs.Laws.{naming_rows, server_rows}
@@ -8,13 +8,16 @@ use Rattle.arj_protocol.specs.Node.{Parts}
 use Rattle.arj_protocol.specs.Step.{Node}
 use Rattle.arj_protocol.specs.Tree.{at_place}
 use Rattle.arj_protocol.specs.World.{Asked, World, format, journal, run_event}
-use Rattle.arj_model.specs.Calls.{Call, committed_calls}
-use Rattle.arj_law.specs.Held.{unit_end}
+use Rattle.arj_model.specs.Actions.{Placed}
+use Rattle.arj_model.specs.Calls.{Call, Top, committed_calls, tops}
+use Rattle.arj_model.specs.Last.{Inclusion}
+use Rattle.arj_model.specs.Serial.{unit_place}
+use Rattle.arj_law.specs.Book.{OfEachTwo}
+use Rattle.arj_law.specs.Held.{AreAtOneNode, unit_end}
 use Rattle.arj_binding_law.specs.Scripts.{most_events}
-use Rattle.arj_serial_law.specs.Locked.{IsLockedIn}
+use Rattle.arj_serial_law.specs.Locked.{IsLockedIn, IsWrittenIn, joins_with}
 use Rattle.arj_view_law.specs.Seen.{Seen}
 use Rattle.arj_part_law.specs.Actions.{Action}
-use Rattle.std.specs.Prelude.{Bool}
 use Rattle.arj_lock_whole_law.specs.Runs.{AreRest}
 
 -- ---- locks of nodes
@@ -29,19 +32,21 @@ abbrev pub locks_in : ℕ → Option Parts → List Row
 locks_in x None = []
 locks_in x (Some t) = server_rows x t.server
 
--- the locks on its entry, where the memory has naming
+-- the locks on its entry, where there is naming
 abbrev pub named_locks : ℕ → Option Naming → List Row
 named_locks x None = []
 named_locks x (Some n) = naming_rows x n
 
+-- the same, of a node's memory
 abbrev pub entry_locks_in : ℕ → Option Parts → List Row
 entry_locks_in x None = []
 entry_locks_in x (Some t) = named_locks x t.naming
 
--- the locks on the object at a node, and those on its entry at naming
+-- the locks on the object at a node
 abbrev pub locks_at : ℕ → World → ℕ → List Row
 locks_at x w n = locks_in x (memory_of (at_place n w.nodes))
 
+-- the locks on its entry at naming
 abbrev pub entry_locks : ℕ → World → List Row
 entry_locks x w = entry_locks_in x (memory_of (at_place 1 w.nodes))
 
@@ -57,9 +62,17 @@ AfterEach P w (e ∷ es) = P w × AfterEach P (run_event e w) es
 abbrev pub IsHeldNow : List Line → Call → ℕ → World → Type 0
 IsHeldNow lines c n w = c.at < length w.lines → length w.lines ≤ unit_end lines c → IsLockedIn lines (locks_at c.x w n) (entry_locks c.x w) c
 
--- Held: each surviving call of a committed top has a node at which it is, at the end of each event.
-abbrev pub HoldsLocks : Header → List Asked → Type 0
-HoldsLocks hd es = AllByRecursion (λ (c : Call). (n : ℕ) × AfterEach (IsHeldNow (journal hd es) c n) (format hd) es) (committed_calls (journal hd es))
+-- So long the entry of an include's object is locked for writing at naming, for the unit of the top in which it survives.
+abbrev pub IsWrittenNow : List Line → Top → Placed Inclusion → World → Type 0
+IsWrittenNow lines u i w = i.at < length w.lines → length w.lines ≤ unit_place (tops lines) u.root → IsWrittenIn lines (entry_locks i.it.x w) u i.it.x
+
+-- Held, and entry held: each surviving call of a committed top has a node at which it is, at the end of each event, and the entry of its
+-- object; so is that of each surviving include, for writing; and calls of one object and of different units that overlap are at one node.
+pub record HoldsLocks (hd : Header) (es : List Asked) : Type 0 where
+  pub node : Call → ℕ
+  pub calls : AllByRecursion (λ (c : Call). AfterEach (IsHeldNow (journal hd es) c (node c)) (format hd) es) (committed_calls (journal hd es))
+  pub includes : AllByRecursion (λ (u : Top). AllByRecursion (λ (i : Placed Inclusion). AfterEach (IsWrittenNow (journal hd es) u i) (format hd) es) (joins_with (journal hd es) u)) (tops (journal hd es))
+  pub at_one : OfEachTwo (AreAtOneNode (journal hd es) node) (committed_calls (journal hd es))
 
 -- so it is in the run of every script
 abbrev pub RunsHoldLocks : Type 0

@@ -68,19 +68,19 @@ module _ (values : Values) (lines : List Line) (right : AreRight new_book lines)
   sound : AreSound (acts lines)
   sound = its_sound lines right
 
-  find_include : (act : Acts) (is : List (Placed Inclusion)) (ks : List state.Include) → AreIncludesOf act is ks → (i : Placed Inclusion) → In i is → (k : state.Include) × machine.In k ks × IsIncludeOf act i k
+  pub find_include : (act : Acts) (is : List (Placed Inclusion)) (ks : List state.Include) → AreIncludesOf act is ks → (i : Placed Inclusion) → In i is → (k : state.Include) × machine.In k ks × IsIncludeOf act i k
   find_include act [] ks are i j = absurd j
   find_include act (y ∷ is) [] are i j = absurd are
   find_include act (y ∷ is) (k ∷ ks) are i (inl same) = (k, inl refl, subst (λ (z : Placed Inclusion). IsIncludeOf act z k) same are.0)
   find_include act (y ∷ is) (k ∷ ks) are i (inr j) = let r = find_include act is ks are.1 i j in (r.0, inr r.1, r.2)
 
   -- A change of the object by a top: where its line stands, and which action of the machine made it.
-  record IsChange (u : Top) (item : IsTopOf lines u) (a : machine.Act) (at : ℕ) : Type 0 where
-    survives : Survives S a
-    its_top_is : top a ≡ t.act (let b = item.act in b.uid)
-    before : at < u.at
+  pub record IsChange (u : Top) (item : IsTopOf lines u) (a : machine.Act) (at : ℕ) : Type 0 where
+    pub survives : Survives S a
+    pub its_top_is : top a ≡ t.act (let b = item.act in b.uid)
+    pub before : at < u.at
 
-  root_of_change : (u : Top) (item : IsTopOf lines u) (a : machine.Act) (at : ℕ) → IsChange u item a at → root a ≡ root (t.act (let b = item.act in b.uid))
+  pub root_of_change : (u : Top) (item : IsTopOf lines u) (a : machine.Act) (at : ℕ) → IsChange u item a at → root a ≡ root (t.act (let b = item.act in b.uid))
   root_of_change u item a at c = sym (top_root a) ∙ ap root c.its_top_is
 
   -- a surviving include in the machine
@@ -90,6 +90,38 @@ module _ (values : Values) (lines : List Line) (right : AreRight new_book lines)
     at : ℕ
     line : include.line ≡ at + 1
     change : IsChange u item include.act at
+
+  -- an include that survives in a committed top is one of the machine's
+  pub join_of : (u : Top) (item : IsTopOf lines u) (i : Placed Inclusion) → In i (included lines) → i.it.x ≡ x → (a : Act) → top_in i.it.path ≡ Some a → a.id ≡ u.id → list_all (λ (y : Act). has_end (committed lines) y.id) (chain_in i.it.path) ≡ true
+      → (k : state.Include) × machine.In k S.includes × IsIncludeOf t.act i k × IsChange u item k.act i.at
+  join_of u item i j object a is number ended =
+      let m : HasMaker (acts lines) i.it.path = subst (λ xs. HasMaker xs i.it.path) (its_acts lines right) (included_from new_book 0 lines right i j) in
+      let l = t.tied in
+      let k = find_include t.act (included_on x lines) S.includes l.includes i (in_reversed i (filter (λ (z : Placed Inclusion). z.it.x == x) (included lines)) [] (inl (to_filter (λ (z : Placed Inclusion). z.it.x == x) i (included lines) j (eq-eqb i.it.x x object)))) in
+      let made = k.2 in
+      let top_is : top_in (path_of lines m.act) ≡ Some a = ap top_in (sym m.path_is) ∙ is in
+      let a_there = member values lines right x S its m.act a (top_on (path_of lines m.act) a top_is) in
+      let one : a ≡ item.act = same_number lines right a item.act a_there item.there (number ∙ sym item.number) in
+      let caller : k.0.act ≡ t.act m.act.uid = made.by ∙ ap (λ w. t.act (last w)) m.path_is ∙ ap t.act (own_last (acts lines) sound.distinct sound.formed m.act m.there) in
+      let survives : Survives S k.0.act = subst (Survives S) (sym caller) (done_survives values lines right x S its m.act m.there (λ b h plain. ⊎_elim
+      (λ (same_top : a ≡ b). subst (IsDone lines) (sym one ∙ same_top) item.done)
+      (λ below. or_yes (has_end (committed lines) b.id) _ (in_all (λ (y : Act). has_end (committed lines) y.id) (chain_in i.it.path) ended b (subst (λ w. In b (chain_in w)) (sym m.path_is) below)))
+      (parts (path_of lines m.act) a b top_is h plain))) in
+      let its_top_is : top k.0.act ≡ t.act item.act.uid =
+      top_of k.0.act (t.act item.act.uid) (is_top_in values lines right x S its item.act item.there item.kind)
+      (ap (λ z. on z (t.act item.act.uid)) caller ∙ on_it values lines right x S its m.act item.act m.there (subst (λ z. In z (path_of lines m.act)) one (top_on (path_of lines m.act) a top_is))) in
+      let timely = run_too its.run (start_too (t.code (values x) (t.act nobody))) in
+      let stage = stage_of_top values lines right x S its u item in
+      let early = timely.places (record { act = k.0.act; write = false; line = k.0.line; sees = 0; gives = 0 }) (t.act item.act.uid) (called_so S.includes k.0 k.1) (subst (λ z. on k.0.act z ≡ true) its_top_is (on_top k.0.act)) (is_top_in values lines right x S its item.act item.there item.kind) (omega (arith, stage)) (omega (arith, stage)) in
+      let place = place_in values lines right x S its u item in
+      let line = made.line in
+      (k.0, k.1, made, record { survives = survives; its_top_is = its_top_is; before = (let z : k.0.line < (S.action (t.act item.act.uid)).place = early in omega (arith, z, place, line)) })
+    where
+      last : List Act → Uid
+      last w = last_uid (uids w)
+
+      or_yes : (b c : Bool) → b ≡ true → (b || c) ≡ true
+      or_yes b c e = ap (λ d. d || c) e
 
   joined : (u : Top) → In u (tops lines) → (item : IsTopOf lines u) → Joined lines x u → IsJoin u item
   joined u listed item (n, here) =
@@ -105,33 +137,9 @@ module _ (values : Values) (lines : List Line) (right : AreRight new_book lines)
           test true same g =
               let p = and_parts (a.id == u.id) ((i.it.x == x) && list_all (λ (y : Act). has_end (committed lines) y.id) (chain_in i.it.path)) same in
               let q = and_parts (i.it.x == x) (list_all (λ (y : Act). has_end (committed lines) y.id) (chain_in i.it.path)) p.1 in
-              let m : HasMaker (acts lines) i.it.path = subst (λ xs. HasMaker xs i.it.path) (its_acts lines right) (included_from new_book 0 lines right i j) in
-              let l = t.tied in
-              let k = find_include t.act (included_on x lines) S.includes l.includes i (in_reversed i (filter (λ (z : Placed Inclusion). z.it.x == x) (included lines)) [] (inl (to_filter (λ (z : Placed Inclusion). z.it.x == x) i (included lines) j q.0))) in
+              let k = join_of u item i j (eqb-true i.it.x x q.0) a is (eqb-true a.id u.id p.0) q.1 in
               let made = k.2 in
-              let top_is : top_in (path_of lines m.act) ≡ Some a = ap top_in (sym m.path_is) ∙ is in
-              let a_there = member values lines right x S its m.act a (top_on (path_of lines m.act) a top_is) in
-              let one : a ≡ item.act = same_number lines right a item.act a_there item.there (eqb-true a.id u.id p.0 ∙ sym item.number) in
-              let caller : k.0.act ≡ t.act m.act.uid = made.by ∙ ap (λ w. t.act (last w)) m.path_is ∙ ap t.act (own_last (acts lines) sound.distinct sound.formed m.act m.there) in
-              let survives : Survives S k.0.act = subst (Survives S) (sym caller) (done_survives values lines right x S its m.act m.there (λ b h plain. ⊎_elim
-              (λ (same_top : a ≡ b). subst (IsDone lines) (sym one ∙ same_top) item.done)
-              (λ below. or_yes (has_end (committed lines) b.id) _ (in_all (λ (y : Act). has_end (committed lines) y.id) (chain_in i.it.path) q.1 b (subst (λ w. In b (chain_in w)) (sym m.path_is) below)))
-              (parts (path_of lines m.act) a b top_is h plain))) in
-              let its_top_is : top k.0.act ≡ t.act item.act.uid =
-              top_of k.0.act (t.act item.act.uid) (is_top_in values lines right x S its item.act item.there item.kind)
-              (ap (λ z. on z (t.act item.act.uid)) caller ∙ on_it values lines right x S its m.act item.act m.there (subst (λ z. In z (path_of lines m.act)) one (top_on (path_of lines m.act) a top_is))) in
-              let timely = run_too its.run (start_too (t.code (values x) (t.act nobody))) in
-              let stage = stage_of_top values lines right x S its u item in
-              let early = timely.places (record { act = k.0.act; write = false; line = k.0.line; sees = 0; gives = 0 }) (t.act item.act.uid) (called_so S.includes k.0 k.1) (subst (λ z. on k.0.act z ≡ true) its_top_is (on_top k.0.act)) (is_top_in values lines right x S its item.act item.there item.kind) (omega (arith, stage)) (omega (arith, stage)) in
-              let place = place_in values lines right x S its u item in
-              let line = made.line in
-              record { include = k.0; there = k.1; at = i.at; line = line; change = record { survives = survives; its_top_is = its_top_is; before = (let z : k.0.line < (S.action (t.act item.act.uid)).place = early in omega (arith, z, place, line)) } }
-            where
-              last : List Act → Uid
-              last w = last_uid (uids w)
-
-              or_yes : (b c : Bool) → b ≡ true → (b || c) ≡ true
-              or_yes b c e = ap (λ d. d || c) e
+              record { include = k.0; there = k.1; at = i.at; line = made.line; change = k.3 }
 
   -- a surviving write in the machine
   record IsWrite (u : Top) (item : IsTopOf lines u) : Type 0 where
@@ -156,12 +164,12 @@ module _ (values : Values) (lines : List Line) (right : AreRight new_book lines)
 
   -- ---- the last member of a unit
 
-  record IsLastOf (u : Top) (item : IsTopOf lines u) (a : machine.Act) : Type 0 where
-    last : machine.Act
-    closes : Closes S last a
-    place : (S.action last).place ≡ unit_place (tops lines) u.root + 1
+  pub record IsLastOf (u : Top) (item : IsTopOf lines u) (a : machine.Act) : Type 0 where
+    pub last : machine.Act
+    pub closes : Closes S last a
+    pub place : (S.action last).place ≡ unit_place (tops lines) u.root + 1
 
-  last_of : (u : Top) → In u (tops lines) → (item : IsTopOf lines u) → (a : machine.Act) (at : ℕ) → IsChange u item a at → IsLastOf u item a
+  pub last_of : (u : Top) → In u (tops lines) → (item : IsTopOf lines u) → (a : machine.Act) (at : ℕ) → IsChange u item a at → IsLastOf u item a
   last_of u listed item a at c = ⊎_elim
       (λ none. made u item refl (let l = unit_behind (tops lines) u listed in let z : u.at ≡ 0 = omega (arith, l, none) in z ∙ sym none))
       (λ found. made found.0 (top_item lines right found.0 found.1) found.2 found.3) (unit_last (tops lines) u.root)

@@ -19,3 +19,4 @@ pub mod Turning
 pub mod Includes
 pub mod Including
 pub mod Seeing
+pub mod Joins

@@ -96,7 +96,7 @@ caller_found us n (l ∷ ls) s i = by (said_of us l.body) i (λ j. caller_found 
     by (Some a) (inl is) ih from = (λ i. cond (eq-eqb n s.at (ap (λ (z : Placed Said). z.at) is) i) (uids a.path) (caller_at s.at (read said_of (acts_after us l.body) (n + 1) ls))) ∙ ap (λ (z : Placed Said). uids z.it.path) is
     by (Some a) (inr j) ih from = (λ i. cond (off n s.at (from j) i) (uids a.path) (caller_at s.at (read said_of (acts_after us l.body) (n + 1) ls))) ∙ ih j
 
-taken_length : (p : ℕ) (ls : List Line) → length (take p ls) ≤ p
+pub taken_length : (p : ℕ) (ls : List Line) → length (take p ls) ≤ p
 taken_length zero [] = omega arith
 taken_length (suc p) [] = omega arith
 taken_length zero (l ∷ ls) = omega arith
@@ -104,7 +104,7 @@ taken_length (suc p) (l ∷ ls) = let e = taken_length p ls in omega (arith, e)
 
 -- ---- rows
 
-any_in : {A : Type 0} (f : A → Bool) (x : A) (xs : List A) → In x xs → f x ≡ true → list_any f xs ≡ true
+pub any_in : {A : Type 0} (f : A → Bool) (x : A) (xs : List A) → In x xs → f x ≡ true → list_any f xs ≡ true
 any_in f x [] i e = absurd i
 any_in f x (y ∷ ys) (inl is) e = ap (λ b. b || list_any f ys) (ap f is ∙ e)
 any_in f x (y ∷ ys) (inr i) e = by (f y) (any_in f x ys i e)
@@ -113,7 +113,7 @@ any_in f x (y ∷ ys) (inr i) e = by (f y) (any_in f x ys i e)
     by true g = refl
     by false g = g
 
-both_true : (a b : Bool) → a ≡ true → b ≡ true → (a && b) ≡ true
+pub both_true : (a b : Bool) → a ≡ true → b ≡ true → (a && b) ≡ true
 both_true a b f g = (λ i. f i && g i)
 
 -- whatever passes the stronger test passes the weaker one
@@ -126,14 +126,14 @@ any_less f g (x ∷ xs) e = by (f x) (g x) e (any_less f g xs)
     by false b e ih = ih e
 
 -- a row that is seen stands in the table
-record IsRow (act : Acts) (o : Uid) (h : machine.Act) (k : ℕ) (rows : List Row) : Type 0 where
-  row : Row
-  there : In row rows
-  of_object : uid_eq row.object o ≡ true
-  holder : act (last_uid row.holder) ≡ h
-  strong : k ≤ strength row.mode
+pub record IsRow (act : Acts) (o : Uid) (h : machine.Act) (k : ℕ) (rows : List Row) : Type 0 where
+  pub row : Row
+  pub there : In row rows
+  pub of_object : uid_eq row.object o ≡ true
+  pub holder : act (last_uid row.holder) ≡ h
+  pub strong : k ≤ strength row.mode
 
-find_row : (act : Acts) (o : Uid) (h : machine.Act) (k : ℕ) (rows : List Row) → 1 ≤ k → k ≤ held_in act o h rows → IsRow act o h k rows
+pub find_row : (act : Acts) (o : Uid) (h : machine.Act) (k : ℕ) (rows : List Row) → 1 ≤ k → k ≤ held_in act o h rows → IsRow act o h k rows
 find_row act o h k [] one less = absurd (omega (arith, one, less))
 find_row act o h k (r ∷ rs) one less = by (uid_eq r.object o && same (act (last_uid r.holder)) h) refl less (find_row act o h k rs one)
   where
@@ -149,7 +149,7 @@ find_row act o h k (r ∷ rs) one less = by (uid_eq r.object o && same (act (las
         (λ there. more (ih there)) (either (strength r.mode) (held_in act o h rs) e)
     by false is e ih = more (ih (⊎_elim (λ here. absurd (omega (arith, one, here))) (λ there. there) (either 0 (held_in act o h rs) e)))
 
-write_mode : (m : Mode) → 2 ≤ strength m → is_write m ≡ true
+pub write_mode : (m : Mode) → 2 ≤ strength m → is_write m ≡ true
 write_mode mode.Read e = absurd (omega (arith, e))
 write_mode mode.Exclude e = absurd (omega (arith, e))
 write_mode mode.Write e = refl
@@ -197,7 +197,7 @@ unit_last (t ∷ ts) r = by (t.root == r) refl (unit_last ts r)
 
 -- ---- runs
 
-run_place : {S T : State} → Run S T → Holds S → (a : machine.Act) → 1 ≤ (S.action a).stage → (T.action a).place ≡ (S.action a).place
+pub run_place : {S T : State} → Run S T → Holds S → (a : machine.Act) → 1 ≤ (S.action a).stage → (T.action a).place ≡ (S.action a).place
 run_place stay h a one = refl
 run_place (step e guard rest) h a one =
     let k = step_keeps e _ guard h in
@@ -217,6 +217,10 @@ module _ (values : Values) (lines : List Line) (right : AreRight new_book lines)
 
   one_node : IsAtOneNode T
   one_node = is_at_one_node holds (roots_low tie.run (start_low (t.code (values x) (t.act nobody))))
+
+  -- an action is of the root with this number
+  pub its_number : (b : Act) → In b (acts lines) → (n : ℕ) → root_in (path_of lines b) ≡ Some n → is_of_root lines n b.uid ≡ true
+  its_number b i n e = ap (λ q. is_number (root_in q) n) (path_of_uid (acts lines) sound.distinct b i) ∙ ap (λ o. is_number o n) e ∙ eq-eqb n n refl
 
   -- the unit of a call
   unit_is : (c : Call) (s : IsShown values lines right x T tie c) → root_of_call lines c ≡ (let n = s.number in n.root)
@@ -418,7 +422,7 @@ module _ (values : Values) (lines : List Line) (right : AreRight new_book lines)
           any_in (locks_entry lines c) r.row names r.there
           (both_true (uid_eq (let w = r.row in w.object) (entry c.x)) (is_of_root lines (root_of_call lines c) (last_uid (let w = r.row in w.holder)))
           (ap (λ y. uid_eq (let w = r.row in w.object) (entry y)) s.call_object ∙ r.of_object)
-          (ap (is_of_root lines (root_of_call lines c)) h.2 ∙ ap (λ q. is_number (root_in q) (root_of_call lines c)) (path_of_uid (acts lines) sound.distinct h.0 b) ∙ ap (λ o. is_number o (root_of_call lines c)) root_of_it.number ∙ eq-eqb (root_of_call lines c) (root_of_call lines c) refl))
+          (ap (is_of_root lines (root_of_call lines c)) h.2 ∙ its_number h.0 b (root_of_call lines c) root_of_it.number))
 
       pub locked_in : IsLockedIn lines (rows (ran_at values lines x T t c)) names c
       locked_in = record { object = objects; entry = entries }

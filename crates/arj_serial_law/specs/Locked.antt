@@ -1,12 +1,14 @@
 -- Lock rows against the machine of an object, by nodes and by the tables of a journal, and calls that are locked for.
-use Rattle.std.specs.Prelude.{◌≡◌, ◌<◌, ◌≤◌, ℕ, ◌==◌, ◌&&◌, if◌then◌else◌, length, take, List, [], ◌∷◌, Bool, true, false, Option, Some, None, Contains}
-use Rattle.std.specs.List.{AllByRecursion, list_any}
+use Rattle.std.specs.Prelude.{◌≡◌, ◌<◌, ◌≤◌, ℕ, ◌==◌, ◌&&◌, if◌then◌else◌, filter, length, take, List, [], ◌∷◌, Bool, true, false, Option, Some, None, Contains}
+use Rattle.std.specs.List.{AllByRecursion, list_all, list_any}
 use Rattle.arj_base.specs.Rows.{Row, is_on, last_uid}
 use Rattle.arj_base.specs.Uid.{entry, object, uid_eq}
 use Rattle.arj_base.specs.declared.uid.Uid.{Uid}
+use Rattle.arj_class.specs.Table.{is_write}
 use Rattle.arj_journal.specs.declared.body.Line.{Line}
-use Rattle.arj_model.specs.Actions.{Act, Placed, acts, root_in, uids}
-use Rattle.arj_model.specs.Calls.{Call, Said, committed_calls, said}
+use Rattle.arj_model.specs.Actions.{Act, Placed, acts, chain_in, committed, has_end, root_in, top_in, uids}
+use Rattle.arj_model.specs.Calls.{Call, Said, Top, committed_calls, said}
+use Rattle.arj_model.specs.Last.{Inclusion, included}
 use Rattle.arj_model.specs.Serial.{Values}
 use Rattle.arj_model.specs.Table.{path_by, table}
 use Rattle.arj_law.specs.Held.{locks_for, root_of_call, tables_of, unit_end}
@@ -50,7 +52,7 @@ caller_at p (s ∷ ss) = if s.at == p then uids s.it.path else caller_at p ss
 abbrev pub locks_call : List Line → Call → Row → Bool
 locks_call lines c row = locks_for lines c row && is_on (caller_at c.at (said lines)) (last_uid row.holder)
 
--- the action with this Uid is of the root
+-- a number is there, and it is this one
 abbrev pub is_number : Option ℕ → ℕ → Bool
 is_number None n = false
 is_number (Some m) n = m == n
@@ -77,6 +79,23 @@ AreLockedAlong lines node = AllByRecursion (λ (c : Call). (p : ℕ) → c.at < 
 -- member of its unit.
 abbrev pub EntriesAreHeld : List Line → Type 0
 EntriesAreHeld lines = AllByRecursion (λ (c : Call). (p : ℕ) → c.at < p → p ≤ unit_end lines c → list_any (locks_entry lines c) (tables_of lines 1 p) ≡ true) (committed_calls lines)
+
+-- the include is of this committed top, and survives in it
+abbrev pub joins_top : List Line → Top → Placed Inclusion → Option Act → Bool
+joins_top lines u i None = false
+joins_top lines u i (Some a) = (a.id == u.id) && list_all (λ (b : Act). has_end (committed lines) b.id) (chain_in i.it.path)
+
+-- the surviving includes of a committed top
+abbrev pub joins_with : List Line → Top → List (Placed Inclusion)
+joins_with lines u = filter (λ i. joins_top lines u i (top_in i.it.path)) (included lines)
+
+-- the row is a write lock on the object's entry, held by the root or an action of it
+abbrev pub writes_entry : List Line → ℕ → ℕ → Row → Bool
+writes_entry lines x root row = uid_eq row.object (entry x) && (is_of_root lines root (last_uid row.holder) && is_write row.mode)
+
+-- Entry held, of an include: in these rows of naming its object's entry is locked for writing, for the unit of the top.
+abbrev pub IsWrittenIn : List Line → List Row → Top → ℕ → Type 0
+IsWrittenIn lines names u x = list_any (writes_entry lines x u.root) names ≡ true
 
 -- Each object of which a call was answered has a machine that is tied to the journal, and was seen after each line, with the rows of its
 -- tables.

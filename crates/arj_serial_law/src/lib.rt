@@ -23,7 +23,9 @@ pub use decided::{
     decisions_make_the_last_entry, decisions_make_the_last_state, files_of_clean_disks_are_clean,
     locks_give_the_order_of_decisions, seen_disks_are_clean, votes_give_what_was_written,
 };
-pub use locked::{tied_calls_are_locked_for, tied_journals_hold_locks};
+pub use locked::{
+    tied_calls_are_locked_for, tied_includes_are_locked_for, tied_journals_hold_locks,
+};
 pub use places::{begun_actions_have_their_paths, values_have_codes};
 pub use runs::{locked_runs_are_serial, seen_runs_are_clean, seen_runs_are_serial};
 pub use serial::{tied_journals_are_serial, tied_journals_keep_the_lock_book};

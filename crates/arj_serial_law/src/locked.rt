@@ -7,9 +7,11 @@ ghost use Rattle.arj_law.specs.Held.{AreAtOneNode, AreHeld, HaveOwnRoots, tables
 ghost use Rattle.arj_line_law.specs.Book.{new_book};
 ghost use Rattle.arj_line_law.specs.Right.{AreRight};
 ghost use Rattle.arj_lock_law.specs.State.{State};
-ghost use Rattle.arj_model.specs.Calls.{Call, committed_calls};
-ghost use Rattle.arj_model.specs.Serial.{Values};
-ghost use Rattle.arj_serial_law.specs.Locked.{AreLockedAlong, AreRowsSeen, AreTiedAlong, EntriesAreHeld, IsLockedIn, IsSeenAt, ran_at};
+ghost use Rattle.arj_model.specs.Actions.{Placed};
+ghost use Rattle.arj_model.specs.Calls.{Call, Top, committed_calls, tops};
+ghost use Rattle.arj_model.specs.Last.{Inclusion};
+ghost use Rattle.arj_model.specs.Serial.{Values, unit_place};
+ghost use Rattle.arj_serial_law.specs.Locked.{AreLockedAlong, AreRowsSeen, AreTiedAlong, EntriesAreHeld, IsLockedIn, IsSeenAt, IsWrittenIn, joins_with, ran_at};
 ghost use Rattle.arj_serial_law.specs.Tied.{IsTied};
 
 /// Held, at one place: where a machine that is tied to a journal was seen after so many lines, with no rows but these of each node and of
@@ -21,6 +23,15 @@ pub fn tied_calls_are_locked_for()
         → (s : IsSeenAt values lines x T t p) (rows : ℕ → List Row) (names : List Row) → AreRowsSeen t.act lines x rows names s.state
         → (c : Call) → Contains (committed_calls lines) c → c.x ≡ x → c.at < p → p ≤ unit_end lines c
         → IsLockedIn lines (rows (ran_at values lines x T t c)) names c }
+{}
+
+/// Entry held, for includes: there also each surviving include of a committed top has the write lock on its object's entry, for the top's
+/// unit, from behind its line to the `committing` line of the unit's last member. It does nothing when it runs.
+pub fn tied_includes_are_locked_for()
+    ensures { (values : Values) (lines : List Line) (x : ℕ) (T : State) (t : IsTied values lines x T) (p : ℕ) → AreRight new_book lines
+        → (s : IsSeenAt values lines x T t p) (rows : ℕ → List Row) (names : List Row) → AreRowsSeen t.act lines x rows names s.state
+        → (u : Top) (i : Placed Inclusion) → Contains (tops lines) u → Contains (joins_with lines u) i → i.it.x ≡ x → i.at < p → p ≤ unit_place (tops lines) u.root
+        → IsWrittenIn lines names u x }
 {}
 
 /// Held, entry held and at one node: where each machine was seen so after each line, with the rows of the journal's tables, each surviving
