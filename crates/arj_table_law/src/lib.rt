@@ -1,0 +1,10 @@
+//! The lock tables that a journal shows, object by object.
+//!
+//! `arj_model` folds the table of a node over the lines of a journal; the laws of `arj_protocol` say what a line does to the locks on one
+//! object. Here both are shown to be the same (`tables_go_by_objects`), so that what those laws say of a node's locks is said of the
+//! journal's table.
+#![tactic(auto)]
+
+mod tables;
+
+pub use tables::tables_go_by_objects;
