@@ -53,7 +53,7 @@ pub right_front : (B : Book) (xs ys : List Line) → AreRight B (xs ++ ys) → A
 right_front B [] ys right = tt
 right_front B (l ∷ xs) ys right = (right.0, right_front (turned B l.body) xs ys right.1)
 
-take_front : (xs ys : List Line) → take (length xs) (xs ++ ys) ≡ xs
+pub take_front : (xs ys : List Line) → take (length xs) (xs ++ ys) ≡ xs
 take_front [] ys = by ys
   where
     by : (zs : List Line) → take 0 zs ≡ []
@@ -75,11 +75,11 @@ act_with : (xs : List Act) (u : Uid) → has_act xs u ≡ true → (z : Act) × 
 act_with [] u on = absurd (cc on)
 act_with (x ∷ xs) u on = ⊎_elim (λ here. (x, inl refl, uid_is x.uid u here)) (λ there. let r = act_with xs u there in (r.0, inr r.1, r.2)) (or_which (uid_eq x.uid u) (has_act xs u) on)
 
-end_in : (es : List (Placed ℕ)) (id : ℕ) → has_end es id ≡ true → (e : Placed ℕ) × In e es × (e.it ≡ id)
+pub end_in : (es : List (Placed ℕ)) (id : ℕ) → has_end es id ≡ true → (e : Placed ℕ) × In e es × (e.it ≡ id)
 end_in [] id on = absurd (cc on)
 end_in (e ∷ es) id on = ⊎_elim (λ here. (e, inl refl, eqb-true e.it id here)) (λ there. let r = end_in es id there in (r.0, inr r.1, r.2)) (or_which (e.it == id) (has_end es id) on)
 
-has_in : (es : List (Placed ℕ)) (id : ℕ) (e : Placed ℕ) → In e es → e.it ≡ id → has_end es id ≡ true
+pub has_in : (es : List (Placed ℕ)) (id : ℕ) (e : Placed ℕ) → In e es → e.it ≡ id → has_end es id ≡ true
 has_in [] id e i same = absurd i
 has_in (f ∷ es) id e (inl is) same = ap (λ b. b || has_end es id) (eq-eqb f.it id (ap (λ (z : Placed ℕ). z.it) is ∙ same))
 has_in (f ∷ es) id e (inr i) same = by (f.it == id) (has_in es id e i same)
@@ -88,7 +88,7 @@ has_in (f ∷ es) id e (inr i) same = by (f.it == id) (has_in es id e i same)
     by true on = refl
     by false on = on
 
-found_in : (es : List (Placed Uid)) (u : Uid) (e : Placed Uid) → In e es → e.it ≡ u → list_any (λ (z : Placed Uid). uid_eq z.it u) es ≡ true
+pub found_in : (es : List (Placed Uid)) (u : Uid) (e : Placed Uid) → In e es → e.it ≡ u → list_any (λ (z : Placed Uid). uid_eq z.it u) es ≡ true
 found_in [] u e i same = absurd i
 found_in (f ∷ es) u e (inl is) same = ap (λ b. b || list_any (λ (z : Placed Uid). uid_eq z.it u) es) (ap (λ w. uid_eq w u) (ap (λ (z : Placed Uid). z.it) is ∙ same) ∙ uid_same u)
 found_in (f ∷ es) u e (inr i) same = by (uid_eq f.it u) (found_in es u e i same)
@@ -97,15 +97,15 @@ found_in (f ∷ es) u e (inr i) same = by (uid_eq f.it u) (found_in es u e i sam
     by true on = refl
     by false on = on
 
-or_left : (p q : Bool) → p ≡ true → (p || q) ≡ true
+pub or_left : (p q : Bool) → p ≡ true → (p || q) ≡ true
 or_left p q on = ap (λ b. b || q) on
 
-or_right : (p q : Bool) → q ≡ true → (p || q) ≡ true
+pub or_right : (p q : Bool) → q ≡ true → (p || q) ≡ true
 or_right true q on = refl
 or_right false q on = on
 
 -- a number of these actions is that of one
-with_number : (xs : List Act) → AreDistinct xs → (n : ℕ) → n < length xs → (z : Act) × In z xs × (z.id ≡ n)
+pub with_number : (xs : List Act) → AreDistinct xs → (n : ℕ) → n < length xs → (z : Act) × In z xs × (z.id ≡ n)
 with_number [] d n less = absurd (omega (arith, less))
 with_number (x ∷ xs) d n less = ⊎_elim
     (λ here. let e = d.0 in (x, inl refl, omega (arith, e, here)))

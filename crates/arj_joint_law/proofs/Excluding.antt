@@ -96,12 +96,12 @@ newest_first (u ∷ ts) t order (inl is) most = (ts, ap (λ z. z ∷ ts) is)
 newest_first (u ∷ ts) t order (inr i) most = let less = all_at (λ (z : Top). z.at < u.at) ts order.0 t i in let le = most u (inl refl) in absurd (omega (arith, less, le))
 
 -- each of them has its decision
-each_decision : (values : Values) (lines : List Line) (x : ℕ) (ds : List Done) (ts : List Top) → AreDecisions values lines x ds ts → (t : Top) → members.In t ts → (d : Done) × IsDecision values lines x d t
+pub each_decision : (values : Values) (lines : List Line) (x : ℕ) (ds : List Done) (ts : List Top) → AreDecisions values lines x ds ts → (t : Top) → members.In t ts → (d : Done) × In d ds × IsDecision values lines x d t
 each_decision values lines x [] [] are t i = absurd i
 each_decision values lines x [] (u ∷ ts) are t i = absurd are
 each_decision values lines x (d ∷ ds) [] are t i = absurd are
-each_decision values lines x (d ∷ ds) (u ∷ ts) are t (inl is) = (d, subst (IsDecision values lines x d) is are.0)
-each_decision values lines x (d ∷ ds) (u ∷ ts) are t (inr i) = each_decision values lines x ds ts are.1 t i
+each_decision values lines x (d ∷ ds) (u ∷ ts) are t (inl is) = (d, inl refl, subst (IsDecision values lines x d) is are.0)
+each_decision values lines x (d ∷ ds) (u ∷ ts) are t (inr i) = let r = each_decision values lines x ds ts are.1 t i in (r.0, inr r.1, r.2)
 
 -- its decision
 first_decision : (values : Values) (lines : List Line) (x : ℕ) (ds : List Done) (t : Top) (ts : List Top) → AreDecisions values lines x ds (t ∷ ts) → (d : Done) × (es : List Done) × (ds ≡ d ∷ es) × IsDecision values lines x d t
@@ -131,7 +131,7 @@ module _ (header : Header) (e : ℕ) (M : Seen) (right : AreRight new_book M.lin
       let w = decided.decided.all c.0 c.1 c.2 in
       let apart : AreApart (tops M.lines) = let l = listed M.lines right in l.apart in
       let i = in_from w.0 decided.decided.those w.1 in
-      let a = in_from w.0 (tops M.lines) (let q = (each_decision (first_values header) M.lines x (filter counts_of decided.others) decided.decided.those decided.decided.each w.0 i).1 in q.listed) in
+      let a = in_from w.0 (tops M.lines) (let q = (each_decision (first_values header) M.lines x (filter counts_of decided.others) decided.decided.those decided.decided.each w.0 i).2 in q.listed) in
       let b = in_from t (tops M.lines) new.0 in
       let id : w.0.id ≡ t.id = sym w.2 ∙ c.3 in
       let place : w.0.at ≡ t.at = sym (place_of_top (tops M.lines) w.0 apart a) ∙ ap (top_place (tops M.lines)) id ∙ place_of_top (tops M.lines) t apart b in
@@ -271,8 +271,8 @@ newest_by_calls header e M right tied begins x is t new wrote b = record {
       let w = wrote in
       let s = tied x (was_called (first_values header) M.lines x w.0 (in_from w.0 (committed_calls M.lines) w.1) w.2) in
       ⊎_elim
-      (λ (yes : Wrote M.lines x u). new_writers_last (first_values header) M.lines x s.0 e right s.1 begins t u new wrote (let r = q.1 in r.listed) yes)
-      (λ none. b.last u c none) (wrote_or_not (first_values header) M.lines x q.0 u q.1);
+      (λ (yes : Wrote M.lines x u). new_writers_last (first_values header) M.lines x s.0 e right s.1 begins t u new wrote (let r = q.2 in r.listed) yes)
+      (λ none. b.last u c none) (wrote_or_not (first_values header) M.lines x q.0 u q.2);
 }
 
 seen_by_calls : (header : Header) (e : ℕ) (M : Seen) → CommitsBeginIt e M.lines → AreSeenByCalls header e M → AreSeenInTime header e M

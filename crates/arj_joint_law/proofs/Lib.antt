@@ -29,6 +29,7 @@ pub mod Surviving
 pub mod RestGiven
 pub mod Alone
 pub mod Takers
+pub mod LateWriters
 pub mod Counting
 pub mod JoinedRuns
 pub mod Writing

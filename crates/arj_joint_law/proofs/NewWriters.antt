@@ -34,15 +34,15 @@ use Rattle.arj_joint_law.proofs.Behind.{said_so}
 use Rattle.arj_joint_law.proofs.Called.{right_front, writers_are_called_first}
 
 -- where an item that was read stands
-record IsReadAt {A : Type 0} (f : List Act → Body → Option A) (us : List Act) (n : ℕ) (ls : List Line) (s : Placed A) : Type 0 where
-  before : List Line
-  line : Line
-  behind : List Line
-  are : ls ≡ before ++ line ∷ behind
-  place : s.at ≡ n + length before
-  reads : f (acts_from us before) line.body ≡ Some s.it
+pub record IsReadAt {A : Type 0} (f : List Act → Body → Option A) (us : List Act) (n : ℕ) (ls : List Line) (s : Placed A) : Type 0 where
+  pub before : List Line
+  pub line : Line
+  pub behind : List Line
+  pub are : ls ≡ before ++ line ∷ behind
+  pub place : s.at ≡ n + length before
+  pub reads : f (acts_from us before) line.body ≡ Some s.it
 
-read_at : {A : Type 0} (f : List Act → Body → Option A) (us : List Act) (n : ℕ) (ls : List Line) (s : Placed A) → In s (read f us n ls) → IsReadAt f us n ls s
+pub read_at : {A : Type 0} (f : List Act → Body → Option A) (us : List Act) (n : ℕ) (ls : List Line) (s : Placed A) → In s (read f us n ls) → IsReadAt f us n ls s
 read_at f us n [] s i = absurd i
 read_at {A} f us n (l ∷ ls) s i = by (f us l.body) refl i (read_at f (acts_after us l.body) (n + 1) ls s)
   where
@@ -52,7 +52,7 @@ read_at {A} f us n (l ∷ ls) s i = by (f us l.body) refl i (read_at f (acts_aft
     by None e j ih = let r = ih j in record { before = l ∷ r.before; line = r.line; behind = r.behind; are = ap (λ zs. l ∷ zs) r.are; place = (let p = r.place in omega (arith, p)); reads = r.reads }
 
 -- a line that calls a commit
-call_is : (us : List Act) (b : Body) (id : ℕ) → called_of us b ≡ Some id → (l : Label) × (b ≡ body.Committing l) × (id_in us (name l) ≡ Some id)
+pub call_is : (us : List Act) (b : Body) (id : ℕ) → called_of us b ≡ Some id → (l : Label) × (b ≡ body.Committing l) × (id_in us (name l) ≡ Some id)
 call_is us (body.Committing l) id e = (l, refl, e)
 call_is us b id e = absurd (cc e)
 
