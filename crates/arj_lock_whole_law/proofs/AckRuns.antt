@@ -1,11 +1,10 @@
 -- Who acknowledges is known in every run: where actions begin and nodes start, and in all.
-use Rattle.std.proofs.Common.{◌≡◌, ◌≤◌, ◌+◌, ◌==◌, ◌∙◌, ◌&&◌, arith, ℕ, List, [], ◌∷◌, ◌++◌, length, map, true, false, Option, Some, None, Contains, refl, sym, ap, subst, inl, inr, eqb-true}
+use Rattle.std.proofs.Common.{◌≡◌, ◌≤◌, ◌+◌, ◌==◌, ◌∙◌, ◌&&◌, arith, ℕ, List, [], ◌∷◌, ◌++◌, length, map, Bool, true, false, Option, Some, None, Contains, refl, sym, ap, subst, inl, inr, eqb-true}
 use Rattle.std.specs.List.{AllByRecursion}
 use Rattle.std.proofs.lemmas.Bool.{and_parts}
 use Rattle.arj_lock.proofs.Members as list
 use Rattle.arj_lock.proofs.Members.{in_from, in_to}
 use Rattle.arj_protocol.specs.Words.{Ask, Body, Head, Header, Kind, Label, Uid, asks, before_last, first_uid, is_on, uids_of}
-use Rattle.arj_protocol.specs.Words.ask
 use Rattle.arj_protocol.specs.Words.body
 use Rattle.arj_protocol.specs.Words.kind
 use Rattle.arj_protocol.specs.Ask.{actor}
@@ -42,15 +41,16 @@ use Rattle.arj_lock_fact_law.specs.Acts.{KeepsOf, begins_in}
 use Rattle.arj_lock_fact_law.specs.Parted.{KnowsParted, asks_part}
 use Rattle.arj_lock_fact_law.specs.Uppers.{IsTopOf}
 use Rattle.arj_lock_fact_law.proofs.PartWalks.{parted_keep}
-use Rattle.arj_lock_whole_law.specs.Acks.{AcksAreKnown, AreHomed, AreListed, IsPartOf, IsVoter, KnowsAcked, KnowsAcks}
+use Rattle.arj_lock_whole_law.specs.Aborts.{IsPartAsked}
+use Rattle.arj_lock_whole_law.specs.Acks.{AcksAreKnown, AreHomed, AreListed, IsPartOf, KnowsAcked, KnowsAcks}
 use Rattle.arj_lock_whole_law.proofs.AckSteps.{Others, acks_walk, down_known, known_at, of_node, records_at}
 use Rattle.arj_lock_whole_law.proofs.AckTells.{AllTell, TellSo, again_so, queries_so, silent}
 use Rattle.arj_lock_whole_law.proofs.AckWalks.{AcksNeed, act_acks, all_at, ended_of, message_acks, never, sent_after, some_is, tick_acks, voter_low, votes_quiet, tell_may}
 
 -- ---- one action begins
 
-begun_listed : (a : Action) (begun : List Action) (records : Uid → Option Intent) (sent : List Post) → IsNew (act_of a) begun → ((u : Uid) (k inc : ℕ) → IsVoter sent u k inc → IsTopOf begun u) → AreListed begun records sent → AreListed (a ∷ begun) records sent
-begun_listed a begun records sent new tops l = record { listed = l.listed; ended = l.ended; aborts = λ p w u inc there told part v r. l.aborts p w u inc there told (older u w part (tops u p.to inc v)) v r; asked = l.asked }
+begun_listed : (a : Action) (begun : List Action) (records : Uid → Option Intent) (sent : List Post) → IsNew (act_of a) begun → ((u : Uid) (k : ℕ) → IsPartAsked sent u k → IsTopOf begun u) → AreListed begun records sent → AreListed (a ∷ begun) records sent
+begun_listed a begun records sent new tops l = record { listed = l.listed; ended = l.ended; aborts = λ p w u there told part v r. l.aborts p w u there told (older u w part (tops u p.to v)) v r; asked = l.asked }
   where
     older : (u w : Uid) → IsPartOf (a ∷ begun) u w → IsTopOf begun u → IsPartOf begun u w
     older u w (inl same) top = inl same
@@ -80,7 +80,7 @@ home_begins a begun k homes stands home parent = by a.kind stands
     by kind.Serial s = ap (λ (us : List Uid). (first_uid us).node) s.0
     by kind.Independent s = ap (λ (us : List Uid). (first_uid us).node) s.0
 
-module _ (hd : Header) (begun : List Action) (e k : ℕ) (d : Disk) (t : Parts) (l : Label) (how : Kind) (parent : Option Label) (M : Seen) (new : label_at l M.labels ≡ None) (may : MayGive M.labels k how parent) (free : begin_refusal how t.coord parent ≡ None) (more : AcksNeed begun (up k d t M)) (good : IsGoodOf begun (up k d t M)) (all : AcksAreKnown begun (up k d t M)) where
+module _ (hd : Header) (few : Bool) (begun : List Action) (e k : ℕ) (d : Disk) (t : Parts) (l : Label) (how : Kind) (parent : Option Label) (M : Seen) (new : label_at l M.labels ≡ None) (may : MayGive M.labels k how parent) (free : begin_refusal how t.coord parent ≡ None) (more : AcksNeed few begun (up k d t M)) (good : IsGoodOf begun (up k d t M)) (all : AcksAreKnown few begun (up k d t M)) where
   abbrev a : Action
   a = begins_in how parent t
 
@@ -90,9 +90,9 @@ module _ (hd : Header) (begun : List Action) (e k : ℕ) (d : Disk) (t : Parts) 
   abbrev M2 : Seen
   M2 = given l (record { node = k; serial = is_serial_kind how }) M
 
-  begin_acks : Walks (AcksAreKnown (a ∷ begun)) e k did.outs (Up (AcksAreKnown (a ∷ begun)) k (with_coord t did.part)) d M2
-  begin_acks = of_node (a ∷ begun) k (with_coord t did.part) d (Some (with_coord t did.part)) (said e (began_line l how (next_uid t.coord.tree) parent ∷ []) M2) (home, all.homes)
-      (begun_listed a begun (records_at k d.intents M.nodes) M.sent later.0.new voters z.0) z.1 (λ v is. subst (KnowsAcked M.sent k d.intents) (some_is is) (record { voted = mine.voted; acked = mine.acked; awaited = mine.awaited }))
+  begin_acks : Walks (AcksAreKnown few (a ∷ begun)) e k did.outs (Up (AcksAreKnown few (a ∷ begun)) k (with_coord t did.part)) d M2
+  begin_acks = of_node few (a ∷ begun) k (with_coord t did.part) d (Some (with_coord t did.part)) (said e (began_line l how (next_uid t.coord.tree) parent ∷ []) M2) (home, all.homes)
+      (begun_listed a begun (records_at k d.intents M.nodes) M.sent later.0.new voters z.0) z.1 (λ v is. subst (KnowsAcked few M.sent k d.intents) (some_is is) (record { voted = mine.voted; acked = mine.acked; awaited = mine.awaited }))
     where
       after : IsGoodOf (a ∷ begun) (up k d (with_coord t did.part) (said e (began_line l how (next_uid t.coord.tree) parent ∷ []) M2))
       after = begin_good e k d t l how parent M new may free (begun, good)
@@ -100,14 +100,14 @@ module _ (hd : Header) (begun : List Action) (e k : ℕ) (d : Disk) (t : Parts) 
       later : AreBegun (a ∷ begun)
       later = after.begun
 
-      z : AreListed begun (records_at k d.intents M.nodes) M.sent × Others begun k t M × KnowsAcks M.sent k (record { number = k; disk = d; live = Some t })
-      z = known_at begun k t d (Some t) M all
+      z : AreListed begun (records_at k d.intents M.nodes) M.sent × Others few begun k t M × KnowsAcks few M.sent k (record { number = k; disk = d; live = Some t })
+      z = known_at few begun k t d (Some t) M all
 
-      mine : KnowsAcked M.sent k d.intents t
+      mine : KnowsAcked few M.sent k d.intents t
       mine = z.2 t refl
 
-      voters : (u : Uid) (j inc : ℕ) → IsVoter M.sent u j inc → IsTopOf begun u
-      voters u j inc v = subst (IsTopOf begun) v.top (more.1.1.1.0.tops v.post v.head (ask.Vote inc v.ties v.ends) v.posted v.asking refl)
+      voters : (u : Uid) (j : ℕ) → IsPartAsked M.sent u j → IsTopOf begun u
+      voters u j v = subst (IsTopOf begun) v.by (more.1.1.1.0.tops v.post v.head v.ask v.there v.is v.part)
 
       uid : act_of a ≡ next_uid t.coord.tree
       uid = its_uid e k d t l how parent M new may free (begun, good)
@@ -137,23 +137,23 @@ module _ (hd : Header) (begun : List Action) (e k : ℕ) (d : Disk) (t : Parts) 
 
 -- ---- restarts
 
-module _ (hd : Header) (begun : List Action) (e k : ℕ) (d : Disk) (M : Seen) (more : AcksNeed begun (down k d M)) (good : IsGoodOf begun (down k d M)) (all : AcksAreKnown begun (down k d M)) where
+module _ (hd : Header) (few : Bool) (begun : List Action) (e k : ℕ) (d : Disk) (M : Seen) (more : AcksNeed few begun (down k d M)) (good : IsGoodOf begun (down k d M)) (all : AcksAreKnown few begun (down k d M)) where
   abbrev v : Parts
   v = parts_in k (d.inc + 1) d
 
   abbrev outs : List Effect
   outs = restart_outs hd k (d.inc + 1) d
 
-  restart_acks : Walks (AcksAreKnown begun) e k outs (Up (AcksAreKnown begun) k v) d M
-  restart_acks = acks_walk begun k v e outs d M all.homes (z.0, knows) z.1 (tell_may begun good.begun all.homes k v M.nodes d.intents (sent_after k outs M.sent) tops outs M.sent refl tells (votes_quiet begun good.begun all.homes k d.intents (sent_after k outs M.sent) outs quiet))
+  restart_acks : Walks (AcksAreKnown few begun) e k outs (Up (AcksAreKnown few begun) k v) d M
+  restart_acks = acks_walk few begun k v e outs d M all.homes (z.0, knows) z.1 (tell_may few begun good.begun all.homes k v M.nodes d.intents (sent_after k outs M.sent) tops outs M.sent refl tells (votes_quiet few begun good.begun all.homes k d.intents (sent_after k outs M.sent) outs quiet))
     where
-      z : AreListed begun (records_at k d.intents M.nodes) M.sent × Others begun k v M × KnowsAcks M.sent k (record { number = k; disk = d; live = None })
-      z = known_at begun k v d None M all
+      z : AreListed begun (records_at k d.intents M.nodes) M.sent × Others few begun k v M × KnowsAcks few M.sent k (record { number = k; disk = d; live = None })
+      z = known_at few begun k v d None M all
 
-      knows : KnowsAcked M.sent k d.intents v
+      knows : KnowsAcked few M.sent k d.intents v
       knows = record {
         voted = λ u on. let no_way : false ≡ true = on in absurd (cc no_way);
-        acked = λ u a. inr (λ i x. let low = voter_low (down k d M) more.0 u k i (record { number = k; disk = d; live = None }) (node_here M k (record { number = k; disk = d; live = None })) x in omega (arith, low));
+        acked = λ counted u a. inr (λ i x. let low = voter_low (down k d M) (more.0 counted) u k i (record { number = k; disk = d; live = None }) (node_here M k (record { number = k; disk = d; live = None })) x in omega (arith, low));
         awaited = λ u j i m telling at on isnt. absurd (never (ap (λ (y : Intent). has y.nodes m) (some_is (sym telling ∙ at)) ∙ on) isnt);
       }
 
@@ -199,25 +199,25 @@ module _ (hd : Header) (begun : List Action) (e k : ℕ) (d : Disk) (M : Seen) (
 
 -- ---- all runs
 
-first_acks : (hd : Header) → AcksAreKnown [] (see [] (format hd))
-first_acks hd = record {
+first_acks : (hd : Header) (few : Bool) → AcksAreKnown few [] (see [] (format hd))
+first_acks hd few = record {
   homes = tt;
-  world = record { listed = λ u i k inc is v. absurd v.posted; ended = λ u k inc dem is v. absurd v.posted; aborts = λ p w u inc there told part v r. absurd there; asked = λ u k a. absurd a.posted };
-  nodes = λ k n is. subst (KnowsAcks [] k) (first_at hd k n is) (λ t live. subst (KnowsAcked [] k (first_disk hd k).intents) (some_is live) (record {
+  world = record { listed = λ u i k is v. absurd v.there; ended = λ u k dem is v. absurd v.there; aborts = λ p w u there told part v r. absurd there; asked = λ u k a. absurd a.posted };
+  nodes = λ k n is. subst (KnowsAcks few [] k) (first_at hd k n is) (λ t live. subst (KnowsAcked few [] k (first_disk hd k).intents) (some_is live) (record {
     voted = λ u on. let no_way : false ≡ true = on in absurd (cc no_way);
-    acked = λ u a. absurd a.posted;
+    acked = λ counted u a. absurd a.posted;
     awaited = λ u j i m telling at on isnt. absurd (never (ap (λ (y : Intent). has y.nodes m) (some_is (sym telling ∙ at)) ∙ on) isnt);
   }));
 }
 
-pub acks_of : (hd : Header) → KeepsOf hd AcksNeed AcksAreKnown
-acks_of hd = record {
+pub acks_of : (hd : Header) (few : Bool) → KeepsOf hd (AcksNeed few) (AcksAreKnown few)
+acks_of hd few = record {
   quiet = λ begun e bs M quiet more good all. record { homes = all.homes; world = all.world; nodes = all.nodes };
-  stop = λ begun e k d live M more good all. let z = known_at begun k (parts_in k d.inc d) d live M all in down_known begun k (parts_in k d.inc d) e d M all.homes z.0 z.1;
-  message = λ begun e k d t v from m outs M more good all there meant is. message_acks hd begun e k d t M more good all v from m outs there meant is;
-  act = λ begun e k d t i M is free more good all. act_acks hd begun e k d t M more good all i is free;
-  begin = λ begun e k d t l how parent M new may free more good all. begin_acks hd begun e k d t l how parent M new may free more good all;
-  tick = λ begun e k d t M more good all. tick_acks hd begun e k d t M more good all;
-  restart = λ begun e k d M more good all. restart_acks hd begun e k d M more good all;
-  first = first_acks hd;
+  stop = λ begun e k d live M more good all. let z = known_at few begun k (parts_in k d.inc d) d live M all in down_known few begun k (parts_in k d.inc d) e d M all.homes z.0 z.1;
+  message = λ begun e k d t v from m outs M more good all there meant is. message_acks hd few begun e k d t M more good all v from m outs there meant is;
+  act = λ begun e k d t i M is free more good all. act_acks hd few begun e k d t M more good all i is free;
+  begin = λ begun e k d t l how parent M new may free more good all. begin_acks hd few begun e k d t l how parent M new may free more good all;
+  tick = λ begun e k d t M more good all. tick_acks hd few begun e k d t M more good all;
+  restart = λ begun e k d M more good all. restart_acks hd few begun e k d M more good all;
+  first = first_acks hd few;
 }

@@ -5,8 +5,7 @@ use Rattle.std.specs.List.{AllByRecursion}
 use Rattle.std.proofs.lemmas.Bool.{and_parts}
 use Rattle.arj_lock.proofs.Members as list
 use Rattle.arj_lock.proofs.Members.{in_from, in_to}
-use Rattle.arj_protocol.specs.Words.{Ask, Binding, End, Head, Header, Kind, Label, Message, Uid, asks, before_last, first_uid, is_on, uids_of}
-use Rattle.arj_protocol.specs.Words.ask
+use Rattle.arj_protocol.specs.Words.{Ask, End, Head, Header, Kind, Label, Message, Uid, asks, before_last, first_uid, is_on, uids_of}
 use Rattle.arj_protocol.specs.Words.ending
 use Rattle.arj_protocol.specs.Words.kind
 use Rattle.arj_protocol.specs.Words.message
@@ -69,6 +68,7 @@ use Rattle.arj_lock_fact_law.proofs.PartWalks.{parted_keep}
 use Rattle.arj_lock_fact_law.proofs.Works.{works_keep}
 use Rattle.arj_past_law.specs.Told.{ArePastIn, IsClosedAt, live_in}
 use Rattle.arj_past_law.proofs.Past.{past_of}
+use Rattle.arj_lock_whole_law.specs.Aborts.{IsPartAsked}
 use Rattle.arj_lock_whole_law.specs.Acks.{AcksAreKnown, AreHomed, AreListed, HasAcked, IsDemanded, IsPartOf, IsVoter, KnowsAcked, KnowsAcks, acked_in, demanded, demanded_if}
 use Rattle.arj_lock_whole_law.proofs.AckOuts.{AreLines, Plainly, Puts, Stepped, acts_stepped, asked_again, heard_stepped}
 use Rattle.arj_lock_whole_law.proofs.AckServes.{PartSo, Serves, ServesSo, serves_so}
@@ -196,7 +196,7 @@ all_at P [] x all none = absurd none
 all_at P (y ∷ ys) x all (inl same) = subst P same all.0
 all_at P (y ∷ ys) x all (inr i) = all_at P ys x all.1 i
 
-module _ (begun : List Action) (all : AreBegun begun) (homes : AreHomed begun) (k : ℕ) where
+module _ (few : Bool) (begun : List Action) (all : AreBegun begun) (homes : AreHomed begun) (k : ℕ) where
   -- a part is of its action's node
   pub part_home : (u w : Uid) → IsPartOf begun u w → w.node ≡ k → u.node ≡ k
   part_home u w (inl same) home = ap (λ (z : Uid). z.node) same ∙ home
@@ -226,7 +226,7 @@ module _ (begun : List Action) (all : AreBegun begun) (homes : AreHomed begun) (
 
   -- ---- votes
 
-  -- Who asks for votes: a top of this node without a record, of which, and of whose serializing action, no end was told.
+  -- Who asks for parts in its commit: a top of this node without a record, of which, and of whose serializing action, no end was told.
   pub record MayVote (intents : List (Uid × Intent)) (sent : List Post) (u : Uid) : Type 0 where
     home : u.node ≡ k
     unrecorded : (j : Intent) → at_uid u intents ≡ Some j → ⊥
@@ -234,7 +234,7 @@ module _ (begun : List Action) (all : AreBegun begun) (homes : AreHomed begun) (
     unaborted : (p : Post) (w : Uid) → In p sent → Contains {X = Uid × End} (told_by p.message) (w, ending.Abort) → IsPartOf begun u w → ⊥
 
   abbrev pub VoteSo : List (Uid × Intent) → List Post → Effect → Type 0
-  VoteSo intents sent (Send to m) = (h : Head) (i : ℕ) (ties : List (ℕ × Binding)) (ends : List (Uid × End)) → asks m ≡ Some (h, ask.Vote i ties ends) → MayVote intents sent (actor h.path)
+  VoteSo intents sent (Send to m) = (h : Head) (a : Ask) → asks m ≡ Some (h, a) → asks_part a ≡ true → MayVote intents sent (actor h.path)
   VoteSo intents sent (Say b) = ⊤
   VoteSo intents sent (Do w) = ⊤
 
@@ -247,9 +247,9 @@ module _ (begun : List Action) (all : AreBegun begun) (homes : AreHomed begun) (
   votes_of intents sent c h none (Do w ∷ es) seek = (tt, votes_of intents sent c h none es seek.1)
   votes_of intents sent c h none (Send to m ∷ es) seek = (one, votes_of intents sent c h none es seek.1)
     where
-      one : (j : Head) (i : ℕ) (ties : List (ℕ × Binding)) (ends : List (Uid × End)) → asks m ≡ Some (j, ask.Vote i ties ends) → MayVote intents sent (actor j.path)
-      one j i ties ends asking =
-          let q = seek.0 j (ask.Vote i ties ends) asking refl in
+      one : (j : Head) (a : Ask) → asks m ≡ Some (j, a) → asks_part a ≡ true → MayVote intents sent (actor j.path)
+      one j a asking part =
+          let q = seek.0 j a asking part in
           let v : IsVoting c.tree (actor j.path) (plan_of q.machine) = subst (IsBusy c.tree (actor j.path)) q.now (h.good.busy (actor j.path) q.doing q.works) in
           let b = v.asking.branch in
           record {
@@ -263,11 +263,11 @@ module _ (begun : List Action) (all : AreBegun begun) (homes : AreHomed begun) (
   votes_quiet intents sent [] q = tt
   votes_quiet intents sent (Say b ∷ es) q = (tt, votes_quiet intents sent es q.1)
   votes_quiet intents sent (Do w ∷ es) q = (tt, votes_quiet intents sent es q.1)
-  votes_quiet intents sent (Send to m ∷ es) q = ((λ h i ties ends asking. none_some q.0 asking), votes_quiet intents sent es q.1)
+  votes_quiet intents sent (Send to m ∷ es) q = ((λ h a asking part. none_some q.0 asking), votes_quiet intents sent es q.1)
 
   -- ---- effects that leave the records
 
-  idle_may : (v : Parts) (w : Work) (sent : List Post) (intents : List (Uid × Intent)) → IsIdle w → MayWork begun k v w sent intents × (recorded (Do w) intents ≡ intents)
+  idle_may : (v : Parts) (w : Work) (sent : List Post) (intents : List (Uid × Intent)) → IsIdle w → MayWork few begun k v w sent intents × (recorded (Do w) intents ≡ intents)
   idle_may v Look sent intents idle = (tt, refl)
   idle_may v (PutInc i) sent intents idle = (tt, refl)
   idle_may v (Prepare r u states) sent intents idle = (tt, refl)
@@ -278,10 +278,10 @@ module _ (begun : List Action) (all : AreBegun begun) (homes : AreHomed begun) (
 
   module _ (v : Parts) (found : ℕ → Option Node) (intents : List (Uid × Intent)) where
     pub tell_may : (S : List Post) → ((p : Post) (h : Head) (a : Ask) → In p S → asks p.message ≡ Some (h, a) → asks_part a ≡ true → IsTopOf begun (actor h.path))
-        → (outs : List Effect) (sent : List Post) → sent_after k outs sent ≡ S → AllTell begun all k intents outs → AllVote intents S outs → AllMay begun k v found outs sent intents
+        → (outs : List Effect) (sent : List Post) → sent_after k outs sent ≡ S → AllTell begun all k intents outs → AllVote intents S outs → AllMay few begun k v found outs sent intents
     tell_may S tops [] sent is tells votes = tt
     tell_may S tops (Say b ∷ es) sent is tells votes = tell_may S tops es sent is tells.1 votes.1
-    tell_may S tops (Do w ∷ es) sent is tells votes = let m = idle_may v w sent intents tells.0 in (m.0, subst (AllMay begun k v found es sent) (sym m.1) (tell_may S tops es sent is tells.1 votes.1))
+    tell_may S tops (Do w ∷ es) sent is tells votes = let m = idle_may v w sent intents tells.0 in (m.0, subst (AllMay few begun k v found es sent) (sym m.1) (tell_may S tops es sent is tells.1 votes.1))
     tell_may S tops (Send to m ∷ es) sent is tells votes = (post, (λ u acks. none_some (let t = tells.0 in t.acks) acks), tell_may S tops es (record { from = k; to = to; message = m } ∷ sent) is tells.1 votes.1)
       where
         older : (p : Post) → In p sent → In p S
@@ -289,13 +289,13 @@ module _ (begun : List Action) (all : AreBegun begun) (homes : AreHomed begun) (
 
         post : MayPost begun (records_at k intents found) sent (record { from = k; to = to; message = m })
         post = record {
-          vote = λ h i ties ends asking. let z = votes.0 h i ties ends asking in (
+          part = λ h a asking part. let z = votes.0 h a asking part in (
             here_at k intents found (actor h.path) z.home ∙ nothing (at_uid (actor h.path) intents) refl z.unrecorded,
             (λ d. let r = demanded_told d.post.message (actor h.path) d.demands in z.untold d.post r.0 (older d.post d.posted) r.1),
             λ q w there told part. z.unaborted q w (older q there) told part,
           );
           demand = λ u wants. let r = tells.0.demands u wants in (r.0, here_at k intents found u r.2 ∙ r.1);
-          abort = λ w u inc i told part voter at on. tells.0.aborts w told u i part (subst (IsTopOf begun) voter.top (tops voter.post voter.head (ask.Vote inc voter.ties voter.ends) (older voter.post voter.posted) voter.asking refl)) (sym (here_at k intents found u (part_home u w part (tells.0.home w ending.Abort told))) ∙ at) on;
+          abort = λ w u i told part had at on. tells.0.aborts w told u i part (subst (IsTopOf begun) had.by (tops had.post had.head had.ask (older had.post had.there) had.is had.part)) (sym (here_at k intents found u (part_home u w part (tells.0.home w ending.Abort told))) ∙ at) on;
           ack = λ u acks. none_some tells.0.acks acks;
         }
           where
@@ -304,15 +304,15 @@ module _ (begun : List Action) (all : AreBegun begun) (homes : AreHomed begun) (
             nothing (Some j) same none = absurd (none j refl)
 
     -- what naming, a server and a store do
-    parts_may : (m : Message) (outs : List Effect) (sent : List Post) → ((u : Uid) → demanded m ≡ Some u → IsDemanded sent u) → AllByRecursion (PartSo m v.server) outs → AllMay begun k v found outs sent intents
+    parts_may : (m : Message) (outs : List Effect) (sent : List Post) → ((u : Uid) → demanded m ≡ Some u → IsDemanded sent u) → AllByRecursion (PartSo m v.server) outs → AllMay few begun k v found outs sent intents
     parts_may m [] sent told so = tt
     parts_may m (Say b ∷ es) sent told so = parts_may m es sent told so.1
-    parts_may m (Do w ∷ es) sent told so = let z = idle_may v w sent intents so.0 in (z.0, subst (AllMay begun k v found es sent) (sym z.1) (parts_may m es sent told so.1))
+    parts_may m (Do w ∷ es) sent told so = let z = idle_may v w sent intents so.0 in (z.0, subst (AllMay few begun k v found es sent) (sym z.1) (parts_may m es sent told so.1))
     parts_may m (Send to n ∷ es) sent told so = (
       record {
-        vote = λ h i ties ends asking. none_some so.0.0.asks_none asking;
+        part = λ h a asking part. none_some so.0.0.asks_none asking;
         demand = λ u wants. none_some so.0.0.wants wants;
-        abort = λ w u inc i here part voter at on. none_in w ending.Abort (subst (λ es. Contains {X = Uid × End} es (w, ending.Abort)) so.0.0.told here);
+        abort = λ w u i here part had at on. none_in w ending.Abort (subst (λ es. Contains {X = Uid × End} es (w, ending.Abort)) so.0.0.told here);
         ack = λ u acks. told u (so.0.1 u acks).0;
       },
       (λ u acks. (so.0.1 u acks).1),
@@ -331,7 +331,7 @@ module _ (begun : List Action) (all : AreBegun begun) (homes : AreHomed begun) (
   lines_sent (Do w ∷ es) rest sent say = absurd say.0
   lines_sent (Send to m ∷ es) rest sent say = absurd say.0
 
-  lines_may : (v : Parts) (found : ℕ → Option Node) (lines rest : List Effect) (sent : List Post) (intents : List (Uid × Intent)) → AreLines lines → AllMay begun k v found rest sent intents → AllMay begun k v found (lines ++ rest) sent intents
+  lines_may : (v : Parts) (found : ℕ → Option Node) (lines rest : List Effect) (sent : List Post) (intents : List (Uid × Intent)) → AreLines lines → AllMay few begun k v found rest sent intents → AllMay few begun k v found (lines ++ rest) sent intents
   lines_may v found [] rest sent intents say may = may
   lines_may v found (Say b ∷ es) rest sent intents say may = lines_may v found es rest sent intents say.1 may
   lines_may v found (Do w ∷ es) rest sent intents say may = absurd say.0
@@ -349,12 +349,12 @@ module _ (begun : List Action) (all : AreBegun begun) (homes : AreHomed begun) (
     teller_now : Teller begun all k d.intents v.coord
     teller_now = record { good = now.good; sure = now.sure; node = now.node; inner = now.inner; records = later }
 
-    step_may : Stepped begun all tree k d.intents rooted t.coord v.coord outs → AllSeek v.coord outs → Awaits M.sent d.intents v.coord.telling × AllMay begun k v M.nodes outs M.sent d.intents
+    step_may : Stepped begun all tree k d.intents rooted t.coord v.coord outs → AllSeek v.coord outs → Awaits M.sent d.intents v.coord.telling × AllMay few begun k v M.nodes outs M.sent d.intents
     step_may (Plainly same fine) seek = (
       subst (Awaits M.sent d.intents) (sym same) old,
       tell_may v M.nodes d.intents (sent_after k outs M.sent) now.tops outs M.sent refl fine (votes_of d.intents (sent_after k outs M.sent) v.coord now (λ u b found opened j at. open_none begun all k d.intents v.coord teller_now u b j found opened at) outs seek),
     )
-    step_may (Puts lines u i rest is say fine same put) seek = (awaits, subst (λ es. AllMay begun k v M.nodes es M.sent d.intents) (sym is) (lines_may v M.nodes lines (Do (PutIntent u i) ∷ rest) M.sent d.intents say (may_put, after)))
+    step_may (Puts lines u i rest is say fine same put) seek = (awaits, subst (λ es. AllMay few begun k v M.nodes es M.sent d.intents) (sym is) (lines_may v M.nodes lines (Do (PutIntent u i) ∷ rest) M.sent d.intents say (may_put, after)))
       where
         S : List Post
         S = sent_after k outs M.sent
@@ -374,19 +374,19 @@ module _ (begun : List Action) (all : AreBegun begun) (homes : AreHomed begun) (
         awaits : Awaits M.sent d.intents v.coord.telling
         awaits w j z m telling at on isnt = ⊎_elim (λ here. absurd (unrecorded z (ap (λ y. at_uid y d.intents) (sym here.0) ∙ at))) (λ other. old w j z m other.1 at on isnt) (sorted_keys.put_cases w u i j t.coord.telling (ap (at_uid w) (sym same) ∙ telling))
 
-        lists : (j inc : ℕ) → IsVoter M.sent u j inc → has i.nodes j ≡ true
-        lists j inc x = by (now.parts x.post x.head (ask.Vote inc x.ties x.ends) (older x.post x.posted) x.asking refl (subst (λ w. is_own w v.coord.tree ≡ true) (sym x.top) (doing_by u v.coord put.doing put.works).0))
+        lists : (j : ℕ) → IsPartAsked M.sent u j → has i.nodes j ≡ true
+        lists j x = by (now.parts x.post x.head x.ask (older x.post x.there) x.is x.part (subst (λ w. is_own w v.coord.tree ≡ true) (sym x.by) (doing_by u v.coord put.doing put.works).0))
           where
-            by : IsPart v.coord (actor x.head.path) x.post.to (ask.Vote inc x.ties x.ends) → has i.nodes j ≡ true
+            by : IsPart v.coord (actor x.head.path) x.post.to x.ask → has i.nodes j ≡ true
             by (inl s) =
-                let idle : Committing s.machine ≡ Idle = sym s.now ∙ ap (λ (q : Doing). q.now) (some_is (sym s.works ∙ ap (λ w. doing_of w v.coord) x.top ∙ put.works)) ∙ put.idle in
+                let idle : Committing s.machine ≡ Idle = sym s.now ∙ ap (λ (q : Doing). q.now) (some_is (sym s.works ∙ ap (λ w. doing_of w v.coord) x.by ∙ put.works)) ∙ put.idle in
                 absurd (cc idle)
             by (inr h) =
-                let same_doing : h.doing ≡ put.doing = some_is (sym h.works ∙ ap (λ w. doing_of w v.coord) x.top ∙ put.works) in
-                let same_branch = some_is (sym h.found ∙ ap (λ w. branch_of w v.coord.tree) x.top ∙ put.ended.1) in
-                ap (has i.nodes) (sym x.to) ∙ ap (λ ns. has ns x.post.to) (sym (ap (λ (q : Doing). q.took) same_doing ∙ put.took)) ∙ h.took (ap (λ (q : Branch). q.ended) same_branch ∙ put.ended.2)
+                let same_doing : h.doing ≡ put.doing = some_is (sym h.works ∙ ap (λ w. doing_of w v.coord) x.by ∙ put.works) in
+                let same_branch = some_is (sym h.found ∙ ap (λ w. branch_of w v.coord.tree) x.by ∙ put.ended.1) in
+                ap (has i.nodes) (sym x.to_it) ∙ ap (λ ns. has ns x.post.to) (sym (ap (λ (q : Doing). q.took) same_doing ∙ put.took)) ∙ h.took (ap (λ (q : Branch). q.ended) same_branch ∙ put.ended.2)
 
-        may_put : MayWork begun k v (PutIntent u i) M.sent d.intents
+        may_put : MayWork few begun k v (PutIntent u i) M.sent d.intents
         may_put = record {
           home = home;
           lists = lists;
@@ -394,7 +394,7 @@ module _ (begun : List Action) (all : AreBegun begun) (homes : AreHomed begun) (
           awaits = λ j telling. ap (λ (z : Intent). z.nodes) (some_is (sym telling ∙ ap (at_uid u) same ∙ sorted_keys.put_same u i t.coord.telling));
         }
 
-        after : AllMay begun k v M.nodes rest M.sent (put_uid u i d.intents)
+        after : AllMay few begun k v M.nodes rest M.sent (put_uid u i d.intents)
         after = tell_may v M.nodes (put_uid u i d.intents) (sent_after k outs M.sent) now.tops rest M.sent after_is fine
             (votes_of (put_uid u i d.intents) (sent_after k outs M.sent) v.coord now none rest (all_split (SeeksSo v.coord) (Do (PutIntent u i) ∷ []) rest (all_split (SeeksSo v.coord) lines (Do (PutIntent u i) ∷ rest) (subst (AllSeek v.coord) is seek))))
           where
@@ -415,17 +415,17 @@ module _ (begun : List Action) (all : AreBegun begun) (homes : AreHomed begun) (
   module _ (d : Disk) (t : Parts) (M : Seen) (was : Stays begun k M.sent t.coord) (commits : AreOfCommits d.intents t.coord.tree) (rec : IsRecorded begun (record { number = k; disk = d; live = Some t })) (l : AreListed begun (records_at k d.intents M.nodes) M.sent) (old : Awaits M.sent d.intents t.coord.telling)
       (tops : (u : Uid) (j : Intent) → at_uid u d.intents ≡ Some j → IsTopAction begun u) (claims : (u : Uid) (j : Intent) → at_uid u t.coord.telling ≡ Some j → u.node ≡ k) (from : ℕ) (u : Uid) (acks : HasAcked M.sent u from) where
     acked_may : (v : Parts) (outs : List Effect) → (let q = acked from u d.intents t.coord in q.part) ≡ v.coord → (let q = acked from u d.intents t.coord in q.outs) ≡ outs → ((p : Post) (h : Head) (a : Ask) → In p (sent_after k outs M.sent) → asks p.message ≡ Some (h, a) → asks_part a ≡ true → IsTopOf begun (actor h.path))
-        → AllQuiet outs → Awaits M.sent d.intents v.coord.telling × AllMay begun k v M.nodes outs M.sent d.intents
+        → AllQuiet outs → Awaits M.sent d.intents v.coord.telling × AllMay few begun k v M.nodes outs M.sent d.intents
     acked_may v outs part_is outs_is voters quiet = by (at_uid u t.coord.telling) refl part_is outs_is
       where
         held : HaveRecords d.intents t.coord.telling × AreSorted t.coord.telling
         held = rec.live t refl
 
-        same : t.coord ≡ v.coord → [] ≡ outs → Awaits M.sent d.intents v.coord.telling × AllMay begun k v M.nodes outs M.sent d.intents
-        same part none = (subst (λ (c : Coord). Awaits M.sent d.intents c.telling) part old, subst (λ es. AllMay begun k v M.nodes es M.sent d.intents) none tt)
+        same : t.coord ≡ v.coord → [] ≡ outs → Awaits M.sent d.intents v.coord.telling × AllMay few begun k v M.nodes outs M.sent d.intents
+        same part none = (subst (λ (c : Coord). Awaits M.sent d.intents c.telling) part old, subst (λ es. AllMay few begun k v M.nodes es M.sent d.intents) none tt)
 
-        left : (j : Intent) → at_uid u t.coord.telling ≡ Some j → has j.nodes from ≡ true → (ns : List ℕ) → without_number from j.nodes ≡ ns → (let q = acked_left u j d.intents t.coord ns in q.part) ≡ v.coord → (let q = acked_left u j d.intents t.coord ns in q.outs) ≡ outs → Awaits M.sent d.intents v.coord.telling × AllMay begun k v M.nodes outs M.sent d.intents
-        left j at on (n ∷ ns) left_is part none = (subst (λ (c : Coord). Awaits M.sent d.intents c.telling) part awaits, subst (λ es. AllMay begun k v M.nodes es M.sent d.intents) none tt)
+        left : (j : Intent) → at_uid u t.coord.telling ≡ Some j → has j.nodes from ≡ true → (ns : List ℕ) → without_number from j.nodes ≡ ns → (let q = acked_left u j d.intents t.coord ns in q.part) ≡ v.coord → (let q = acked_left u j d.intents t.coord ns in q.outs) ≡ outs → Awaits M.sent d.intents v.coord.telling × AllMay few begun k v M.nodes outs M.sent d.intents
+        left j at on (n ∷ ns) left_is part none = (subst (λ (c : Coord). Awaits M.sent d.intents c.telling) part awaits, subst (λ es. AllMay few begun k v M.nodes es M.sent d.intents) none tt)
           where
             awaits : Awaits M.sent d.intents (put_uid u (record j { nodes = n ∷ ns }) t.coord.telling)
             awaits w y z m telling has_it lists isnt = ⊎_elim here (λ other. old w y z m other.1 has_it lists isnt) (sorted_keys.put_cases w u (record j { nodes = n ∷ ns }) y t.coord.telling telling)
@@ -441,7 +441,7 @@ module _ (begun : List Action) (all : AreBegun begun) (homes : AreHomed begun) (
                     by_had false had = old w j z m (ap (λ x. at_uid x t.coord.telling) is ∙ at) has_it lists had
         left j at on [] left_is part none = (
           subst (λ (c : Coord). Awaits M.sent d.intents c.telling) part (λ w y z m telling has_it lists isnt. old w y z m (sorted_keys.without_cases w u y t.coord.telling held.1 telling).1 has_it lists isnt),
-          subst (λ es. AllMay begun k v M.nodes es M.sent d.intents) none (may_remove, tell_may v M.nodes (without_uid u d.intents) (sent_after k outs M.sent) voters (tolds_let_go u (without_uid u d.intents) t.coord (at_uid u d.intents)) M.sent (ap (λ es. sent_after k es M.sent) none) (go (at_uid u d.intents) refl) (votes_quiet (without_uid u d.intents) (sent_after k outs M.sent) (tolds_let_go u (without_uid u d.intents) t.coord (at_uid u d.intents)) (subst AllQuiet (sym none) quiet).1)),
+          subst (λ es. AllMay few begun k v M.nodes es M.sent d.intents) none (may_remove, tell_may v M.nodes (without_uid u d.intents) (sent_after k outs M.sent) voters (tolds_let_go u (without_uid u d.intents) t.coord (at_uid u d.intents)) M.sent (ap (λ es. sent_after k es M.sent) none) (go (at_uid u d.intents) refl) (votes_quiet (without_uid u d.intents) (sent_after k outs M.sent) (tolds_let_go u (without_uid u d.intents) t.coord (at_uid u d.intents)) (subst AllQuiet (sym none) quiet).1)),
         )
           where
             record_is : (i : Intent) × (at_uid u d.intents ≡ Some i)
@@ -450,14 +450,14 @@ module _ (begun : List Action) (all : AreBegun begun) (homes : AreHomed begun) (
             home : u.node ≡ k
             home = claims u j at
 
-            may_remove : MayWork begun k v (RemoveIntent u) M.sent d.intents
+            may_remove : MayWork few begun k v (RemoveIntent u) M.sent d.intents
             may_remove = record { home = home; sorted = rec.disk.sorted; each = each }
               where
-                each : (m inc : ℕ) → IsVoter M.sent u m inc → HasAcked M.sent u m
-                each m inc x = by_had (has j.nodes m) refl
+                each : (m : ℕ) → IsPartAsked M.sent u m → HasAcked M.sent u m
+                each m x = by_had (has j.nodes m) refl
                   where
                     lists : has record_is.0.nodes m ≡ true
-                    lists = l.listed u record_is.0 m inc (here_at k d.intents M.nodes u home ∙ record_is.1) x
+                    lists = l.listed u record_is.0 m (here_at k d.intents M.nodes u home ∙ record_is.1) x
 
                     by_had : (b : Bool) → has j.nodes m ≡ b → HasAcked M.sent u m
                     by_had true had = subst (HasAcked M.sent u) (sym (without_none from m j.nodes had (ap (λ ms. has ms m) left_is))) acks
@@ -470,12 +470,12 @@ module _ (begun : List Action) (all : AreBegun begun) (homes : AreHomed begun) (
             go None is = tt
             go (Some i) is = let_go_so begun all k (without_uid u d.intents) rooted t.coord was.node u i (rec.disk.each u i is) (tops u i is)
 
-        by : (o : Option Intent) → at_uid u t.coord.telling ≡ o → (let q = acked_by from u d.intents t.coord o in q.part) ≡ v.coord → (let q = acked_by from u d.intents t.coord o in q.outs) ≡ outs → Awaits M.sent d.intents v.coord.telling × AllMay begun k v M.nodes outs M.sent d.intents
+        by : (o : Option Intent) → at_uid u t.coord.telling ≡ o → (let q = acked_by from u d.intents t.coord o in q.part) ≡ v.coord → (let q = acked_by from u d.intents t.coord o in q.outs) ≡ outs → Awaits M.sent d.intents v.coord.telling × AllMay few begun k v M.nodes outs M.sent d.intents
         by None is part none = same part none
         by (Some j) is part none = one (has j.nodes from) refl part none
           where
             one : (b : Bool) → has j.nodes from ≡ b → (let q = cond {A = Served Coord (Unit {0})} b (acked_left u j d.intents t.coord (without_number from j.nodes)) (record { part = t.coord; outs = []; reply = None }) in q.part) ≡ v.coord → (let q = cond {A = Served Coord (Unit {0})} b (acked_left u j d.intents t.coord (without_number from j.nodes)) (record { part = t.coord; outs = []; reply = None }) in q.outs) ≡ outs
-                → Awaits M.sent d.intents v.coord.telling × AllMay begun k v M.nodes outs M.sent d.intents
+                → Awaits M.sent d.intents v.coord.telling × AllMay few begun k v M.nodes outs M.sent d.intents
             one true on part none = left j is on (without_number from j.nodes) refl part none
             one false isnt part none = same part none
 
@@ -520,10 +520,10 @@ voter_low M few u k i n is v = low (sym (ap (λ o. not_before o i) (ap M.nodes v
 
 -- ---- each handler
 
-abbrev pub AcksNeed : List Action → Seen → Type 0
-AcksNeed begun M = KnowsFew M × (ArePastIn begun M × (AreRecorded begun M × (KnowsParted begun M × WorksAreKnown M)))
+abbrev pub AcksNeed : Bool → List Action → Seen → Type 0
+AcksNeed few begun M = (few ≡ true → KnowsFew M) × (ArePastIn begun M × (AreRecorded begun M × (KnowsParted begun M × WorksAreKnown M)))
 
-module _ (hd : Header) (begun : List Action) (e k : ℕ) (d : Disk) (t : Parts) (M : Seen) (more : AcksNeed begun (up k d t M)) (good : IsGoodOf begun (up k d t M)) (all : AcksAreKnown begun (up k d t M)) where
+module _ (hd : Header) (few : Bool) (begun : List Action) (e k : ℕ) (d : Disk) (t : Parts) (M : Seen) (more : AcksNeed few begun (up k d t M)) (good : IsGoodOf begun (up k d t M)) (all : AcksAreKnown few begun (up k d t M)) where
   abbrev past : ArePastIn begun (up k d t M)
   past = more.1.0
 
@@ -548,20 +548,20 @@ module _ (hd : Header) (begun : List Action) (e k : ℕ) (d : Disk) (t : Parts) 
   commits : AreOfCommits d.intents t.coord.tree
   commits = records_of_disk 0 k d t M (begun, good)
 
-  before : AreListed begun (records_at k d.intents M.nodes) M.sent × Others begun k t M × KnowsAcks M.sent k (record { number = k; disk = d; live = Some t })
-  before = known_at begun k t d (Some t) M all
+  before : AreListed begun (records_at k d.intents M.nodes) M.sent × Others few begun k t M × KnowsAcks few M.sent k (record { number = k; disk = d; live = Some t })
+  before = known_at few begun k t d (Some t) M all
 
-  mine : KnowsAcked M.sent k d.intents t
+  mine : KnowsAcked few M.sent k d.intents t
   mine = before.2 t refl
 
-  stays_in : (v : Parts) (outs : List Effect) → Awaits begun good.begun all.homes k M.sent d.intents v.coord.telling → KnowsAcked M.sent k d.intents v → AllMay begun k v M.nodes outs M.sent d.intents → Walks (AcksAreKnown begun) e k outs (Up (AcksAreKnown begun) k v) d M
-  stays_in v outs awaits knows may = acks_walk begun k v e outs d M all.homes (before.0, knows) before.1 may
+  stays_in : (v : Parts) (outs : List Effect) → Awaits few begun good.begun all.homes k M.sent d.intents v.coord.telling → KnowsAcked few M.sent k d.intents v → AllMay few begun k v M.nodes outs M.sent d.intents → Walks (AcksAreKnown few begun) e k outs (Up (AcksAreKnown few begun) k v) d M
+  stays_in v outs awaits knows may = acks_walk few begun k v e outs d M all.homes (before.0, knows) before.1 may
 
   -- with another coordinator
-  with_it : (c : Coord) → Awaits begun good.begun all.homes k M.sent d.intents c.telling → KnowsAcked M.sent k d.intents (with_coord t c)
+  with_it : (c : Coord) → Awaits few begun good.begun all.homes k M.sent d.intents c.telling → KnowsAcked few M.sent k d.intents (with_coord t c)
   with_it c awaits = record { voted = mine.voted; acked = mine.acked; awaited = awaits }
 
-  pub message_acks : (v : Parts) (from : ℕ) (m : Message) (outs : List Effect) → In (record { from = from; to = k; message = m }) M.sent → is_meant t m ≡ true → handle k d t from m ≡ Took v outs → Walks (AcksAreKnown begun) e k outs (Up (AcksAreKnown begun) k v) d M
+  pub message_acks : (v : Parts) (from : ℕ) (m : Message) (outs : List Effect) → In (record { from = from; to = k; message = m }) M.sent → is_meant t m ≡ true → handle k d t from m ≡ Took v outs → Walks (AcksAreKnown few begun) e k outs (Up (AcksAreKnown few begun) k v) d M
   message_acks v from m outs there meant is = let z = by (coord_case k d t v from m outs is) in stays_in v outs z.0 (knows z.0) z.1
     where
       p : Post
@@ -583,7 +583,7 @@ module _ (hd : Header) (begun : List Action) (e k : ℕ) (d : Disk) (t : Parts) 
       serves : Serves m t.server v.server × (is_for_parts m ≡ true → AllByRecursion (PartSo m v.server) outs)
       serves = subst (ServesSo k d t from m) is (serves_so k d t from m)
 
-      knows : Awaits begun good.begun all.homes k M.sent d.intents v.coord.telling → KnowsAcked M.sent k d.intents v
+      knows : Awaits few begun good.begun all.homes k M.sent d.intents v.coord.telling → KnowsAcked few M.sent k d.intents v
       knows awaits = record { voted = voted; acked = acked_so; awaited = awaits }
         where
           inc : t.server.inc ≡ v.server.inc
@@ -592,33 +592,33 @@ module _ (hd : Header) (begun : List Action) (e k : ℕ) (d : Disk) (t : Parts) 
           voted : (u : Uid) → is_on v.server.voted u ≡ true → IsVoter M.sent u k v.server.inc
           voted u on = subst (IsVoter M.sent u k) inc (⊎_elim (λ old. mine.voted u old) (λ q. record { post = p; posted = there; to = refl; head = q.head; ties = q.ties; ends = q.ends; asking = q.asking; top = q.top }) (serves.0.voted u on))
 
-          acked_so : (u : Uid) → HasAcked M.sent u k → (is_told u v.server ≡ true) ⊎ ((i : ℕ) → IsVoter M.sent u k i → i < v.server.inc)
-          acked_so u a = ⊎_elim (λ told. inl (serves.0.told u told)) (λ late. inr (λ i q. subst (λ n. i < n) inc (late i q))) (mine.acked u a)
+          acked_so : few ≡ true → (u : Uid) → HasAcked M.sent u k → (is_told u v.server ≡ true) ⊎ ((i : ℕ) → IsVoter M.sent u k i → i < v.server.inc)
+          acked_so counted u a = ⊎_elim (λ told. inl (serves.0.told u told)) (λ late. inr (λ i q. subst (λ n. i < n) inc (late i q))) (mine.acked counted u a)
 
       teller : Teller begun good.begun k d.intents v.coord
       teller = record { good = now.good; sure = now.sure; node = now.node; inner = now.inner; records = later }
 
-      by : CoordCase d t from m v outs → Awaits begun good.begun all.homes k M.sent d.intents v.coord.telling × AllMay begun k v M.nodes outs M.sent d.intents
-      by (OfParts fp same plain sent_to) = (subst (λ (c : Coord). Awaits begun good.begun all.homes k M.sent d.intents c.telling) (sym same) mine.awaited, parts_may begun good.begun all.homes k v M.nodes d.intents m outs M.sent (λ u wants. record { post = p; posted = there; demands = wants }) (serves.1 fp))
+      by : CoordCase d t from m v outs → Awaits few begun good.begun all.homes k M.sent d.intents v.coord.telling × AllMay few begun k v M.nodes outs M.sent d.intents
+      by (OfParts fp same plain sent_to) = (subst (λ (c : Coord). Awaits few begun good.begun all.homes k M.sent d.intents c.telling) (sym same) mine.awaited, parts_may few begun good.begun all.homes k v M.nodes d.intents m outs M.sent (λ u wants. record { post = p; posted = there; demands = wants }) (serves.1 fp))
       by (Asks u which same outs_are) = (
-        subst (λ (c : Coord). Awaits begun good.begun all.homes k M.sent d.intents c.telling) (sym same) mine.awaited,
-        tell_may begun good.begun all.homes k v M.nodes d.intents (sent_after k outs M.sent) now.tops outs M.sent refl
+        subst (λ (c : Coord). Awaits few begun good.begun all.homes k M.sent d.intents c.telling) (sym same) mine.awaited,
+        tell_may few begun good.begun all.homes k v M.nodes d.intents (sent_after k outs M.sent) now.tops outs M.sent refl
             (subst (AllTell begun good.begun k d.intents) outs_are (query_so begun good.begun k d.intents rec.disk.each from u t.coord (home (past.posts p there).asks)))
-            (votes_quiet begun good.begun all.homes k d.intents (sent_after k outs M.sent) outs (subst AllQuiet outs_are (quiet_query from u d.intents t.coord))),
+            (votes_quiet few begun good.begun all.homes k d.intents (sent_after k outs M.sent) outs (subst AllQuiet outs_are (quiet_query from u d.intents t.coord))),
       )
         where
           home : AsksBegun begun k m → u.node ≡ k
           home asks_it = let a = subst (λ (z : Message). AsksBegun begun k z) which asks_it in sym a.0
       by (Heard a r of part outs_are) =
-          step_may begun good.begun all.homes k tree d t v M outs was now commits later rec.disk.each mine.awaited
+          step_may few begun good.begun all.homes k tree d t v M outs was now commits later rec.disk.each mine.awaited
           (subst (λ es. Stepped begun good.begun tree k d.intents rec.disk.each t.coord v.coord es) outs_are (subst (λ c. Stepped begun good.begun tree k d.intents rec.disk.each t.coord c (heard from a r d.intents t.coord).outs) part
-          (heard_stepped begun good.begun tree k d.intents rec.disk.each from a r t.coord (teller_was begun good.begun all.homes k tree d t v M outs was now commits later rec.disk.each mine.awaited) (subst (Teller begun good.begun k d.intents) (sym part) teller))))
+          (heard_stepped begun good.begun tree k d.intents rec.disk.each from a r t.coord (teller_was few begun good.begun all.homes k tree d t v M outs was now commits later rec.disk.each mine.awaited) (subst (Teller begun good.begun k d.intents) (sym part) teller))))
           (subst (AllSeek v.coord) outs_are (subst (λ c. AllSeek c (heard from a r d.intents t.coord).outs) part (heard_seeks begun (paths_of begun) tree t.coord was.good x.faithful.works from a r d.intents)))
       by (Acks u which part outs_are) =
-          acked_may begun good.begun all.homes k d t M was commits rec before.0 mine.awaited (λ w j at. top_in begun w j d.intents (tops_of_disk 0 k d t M (begun, good)) (keys.at_in w j d.intents at)) (λ w j at. (x.faithful.told w j (in_to (w, j) t.coord.telling (keys.at_in w j t.coord.telling at))).0 ∙ x.node) from u
+          acked_may few begun good.begun all.homes k d t M was commits rec before.0 mine.awaited (λ w j at. top_in begun w j d.intents (tops_of_disk 0 k d t M (begun, good)) (keys.at_in w j d.intents at)) (λ w j at. (x.faithful.told w j (in_to (w, j) t.coord.telling (keys.at_in w j t.coord.telling at))).0 ∙ x.node) from u
           (record { post = p; posted = there; from = refl; acks = ap acked_in which }) v outs part outs_are now.tops (subst AllQuiet outs_are (quiet_acked from u d.intents t.coord))
 
-  pub act_acks : (i : Input) → is_act i ≡ true → refusal_up hd i t.coord ≡ None → (let did = acts i d.intents t.coord in Walks (AcksAreKnown begun) e k did.outs (Up (AcksAreKnown begun) k (with_coord t did.part)) d M)
+  pub act_acks : (i : Input) → is_act i ≡ true → refusal_up hd i t.coord ≡ None → (let did = acts i d.intents t.coord in Walks (AcksAreKnown few begun) e k did.outs (Up (AcksAreKnown few begun) k (with_coord t did.part)) d M)
   act_acks i is free = stays_in v did.outs z.0 (with_it did.part z.0) z.1
     where
       did : Did Coord
@@ -636,13 +636,13 @@ module _ (hd : Header) (begun : List Action) (e k : ℕ) (d : Disk) (t : Parts) 
       now : Stays begun k (sent_after k did.outs M.sent) did.part
       now = known_walk begun e k v did.outs d M (act_good e k d t M (begun, good) hd i is free) ((past_of hd).act begun e k d t i M is free tt good past) ((parted_keep hd).act begun e k d t i M is free tt good parted) ((works_keep hd).act e k d t i M is free working)
 
-      z : Awaits begun good.begun all.homes k M.sent d.intents did.part.telling × AllMay begun k v M.nodes did.outs M.sent d.intents
-      z = step_may begun good.begun all.homes k tree d t v M did.outs was now commits later rec.disk.each mine.awaited
-          (acts_stepped begun good.begun tree k d.intents rec.disk.each t.coord (teller_was begun good.begun all.homes k tree d t v M did.outs was now commits later rec.disk.each mine.awaited) x.faithful.works hd i free (record { good = now.good; sure = now.sure; node = now.node; inner = now.inner; records = later }))
+      z : Awaits few begun good.begun all.homes k M.sent d.intents did.part.telling × AllMay few begun k v M.nodes did.outs M.sent d.intents
+      z = step_may few begun good.begun all.homes k tree d t v M did.outs was now commits later rec.disk.each mine.awaited
+          (acts_stepped begun good.begun tree k d.intents rec.disk.each t.coord (teller_was few begun good.begun all.homes k tree d t v M did.outs was now commits later rec.disk.each mine.awaited) x.faithful.works hd i free (record { good = now.good; sure = now.sure; node = now.node; inner = now.inner; records = later }))
           (acts_seeks begun (paths_of begun) tree t.coord was.good x.faithful.works i d.intents other)
 
-  pub tick_acks : Walks (AcksAreKnown begun) e k (tick_outs (record { number = k; disk = d; live = Some t }) t) (Up (AcksAreKnown begun) k (with_coord t (again_all t.coord.doings t.coord).part)) d M
-  tick_acks = stays_in v outs awaits (with_it c awaits) (tell_may begun good.begun all.homes k v M.nodes d.intents (sent_after k outs M.sent) now.tops outs M.sent refl tells (votes_of begun good.begun all.homes k d.intents (sent_after k outs M.sent) c now none outs seeks))
+  pub tick_acks : Walks (AcksAreKnown few begun) e k (tick_outs (record { number = k; disk = d; live = Some t }) t) (Up (AcksAreKnown few begun) k (with_coord t (again_all t.coord.doings t.coord).part)) d M
+  tick_acks = stays_in v outs awaits (with_it c awaits) (tell_may few begun good.begun all.homes k v M.nodes d.intents (sent_after k outs M.sent) now.tops outs M.sent refl tells (votes_of few begun good.begun all.homes k d.intents (sent_after k outs M.sent) c now none outs seeks))
     where
       c : Coord
       c = (again_all t.coord.doings t.coord).part
@@ -659,8 +659,8 @@ module _ (hd : Header) (begun : List Action) (e k : ℕ) (d : Disk) (t : Parts) 
       outs : List Effect
       outs = (again_all t.coord.doings t.coord).outs ++ tolds ++ queries
 
-      awaits : Awaits begun good.begun all.homes k M.sent d.intents c.telling
-      awaits = subst (Awaits begun good.begun all.homes k M.sent d.intents) (sym (again_telling begun t.coord.doings t.coord)) mine.awaited
+      awaits : Awaits few begun good.begun all.homes k M.sent d.intents c.telling
+      awaits = subst (Awaits few begun good.begun all.homes k M.sent d.intents) (sym (again_telling begun t.coord.doings t.coord)) mine.awaited
 
       now : Stays begun k (sent_after k outs M.sent) c
       now = known_walk begun e k v outs d M (tick_good e k d t M (begun, good)) ((past_of hd).tick begun e k d t M tt good past) ((parted_keep hd).tick begun e k d t M tt good parted) ((works_keep hd).tick e k d t M working)

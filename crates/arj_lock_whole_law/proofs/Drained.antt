@@ -38,6 +38,7 @@ use Rattle.arj_lock_run_law.specs.Sees.{SeesUp}
 use Rattle.arj_lock_run_law.proofs.GoodSteps.{good_node}
 use Rattle.arj_lock_run_law.proofs.OtherSteps.{here_of}
 use Rattle.arj_lock_whole_law.specs.Aborts.{AbortsAreKnown}
+use Rattle.arj_lock_whole_law.proofs.AckSteps.{voter_part}
 use Rattle.arj_lock_whole_law.proofs.AckWalks.{part_home}
 use Rattle.arj_lock_whole_law.specs.Acks.{AcksAreKnown, HasAcked, IsPartOf, IsVoter, WasRecorded, records_in}
 
@@ -58,7 +59,7 @@ told_as : (m : Message) (u : Uid) → Contains {X = Uid × End} (told_in m) (u, 
 told_as (message.Told m) u there = there
 told_as _ u there = none_in u ending.Abort there
 
-module _ (f : Fixed) (x : ℕ) (begun : List Action) (S : State) (s : Spot) (seen : IsSeenIn (case_of f x begun S) (world_at s)) (knows : AbortsAreKnown begun (world_at s)) (acks : AcksAreKnown begun (world_at s)) where
+module _ (f : Fixed) (x : ℕ) (begun : List Action) (S : State) (s : Spot) (seen : IsSeenIn (case_of f x begun S) (world_at s)) (knows : AbortsAreKnown begun (world_at s)) (acks : AcksAreKnown true begun (world_at s)) where
   abbrev M : Seen
   M = s.seen
 
@@ -176,7 +177,7 @@ module _ (f : Fixed) (x : ℕ) (begun : List Action) (S : State) (s : Spot) (see
       -- it didn't acknowledge
       unacked : HasAcked M.sent t s.node → ⊥
       unacked has = let k = acks.nodes s.node (record { number = s.node; disk = s.disk; live = Some s.parts }) here s.parts refl in
-          ⊎_elim (λ told. never told (untold t is)) (λ late. below_self (let r = server_at s in r.inc) (late (let r = server_at s in r.inc) voter)) (k.acked t has)
+          ⊎_elim (λ told. never told (untold t is)) (λ late. below_self (let r = server_at s in r.inc) (late (let r = server_at s in r.inc) voter)) (k.acked refl t has)
 
       module _ (u : Uid) (on_u : is_on o.holder u ≡ true) (told : IsToldAbort s u) (alive : IsAborted (case_of f x begun S) u → ⊥) (unit : root (f.act t) ≡ root (f.act u)) (top_t : is_top (f.act t) ≡ true) (recorded : (n : Node) → (let W = world_at s in W.nodes t.node) ≡ Some n → IsVoter M.sent t s.node (let r = server_at s in r.inc) → WasRecorded (records_in (let W = world_at s in W.nodes)) M.sent t) where
         no_way : ⊥
@@ -184,9 +185,9 @@ module _ (f : Fixed) (x : ℕ) (begun : List Action) (S : State) (s : Spot) (see
             let a = voter_action t voter in
             let p = part u told alive t top_t a.0 a.1 a.2 unit (last_uid o.holder) (on_holder t is) (on_holder u on_u) in
             let n = (knows.told u s.node (told.post, told.sent, told.to, told.told)).1 in
-            let its = recorded n.0 (ap (let W = world_at s in W.nodes) (part_home begun whole.begun acks.homes u.node t u p refl) ∙ n.1) voter in
+            let its = recorded n.0 (ap (let W = world_at s in W.nodes) (part_home true begun whole.begun acks.homes u.node t u p refl) ∙ n.1) voter in
             let v = subst (λ n. IsVoter M.sent t n (let r = server_at s in r.inc)) (sym told.to) voter in
-            unacked (subst (HasAcked M.sent t) told.to (let y = acks.world in y.aborts told.post u t (let r = server_at s in r.inc) told.sent (told_as (let q = told.post in q.message) u told.told) p v its))
+            unacked (subst (HasAcked M.sent t) told.to (let y = acks.world in y.aborts told.post u t told.sent (told_as (let q = told.post in q.message) u told.told) p (voter_part M.sent t (let q = told.post in q.to) (let r = server_at s in r.inc) v) its))
 
   pub none_left : ((t : Uid) (k : Call) (n : Node) → (let W = world_at s in W.nodes t.node) ≡ Some n → IsVoter M.sent t s.node (let r = server_at s in r.inc) → (let a = S.action (f.act t) in a.stage) ≡ 3 → In k S.calls → k.write ≡ true → Survives S k.act → top k.act ≡ f.act t → WasRecorded (records_in (let W = world_at s in W.nodes)) M.sent t)
       → (u : Uid) → IsToldAbort s u → (IsAborted (case_of f x begun S) u → ⊥) → HasNoneLeft (view_in (case_of f x begun S) s.node) u (server_at s) S

@@ -1,5 +1,5 @@
 -- All that is known of the protocol alone is kept, for the actions that were begun, where few bindings were made.
-use Rattle.std.proofs.Common.{ℕ, List, ◌∷◌, Some, refl, subst}
+use Rattle.std.proofs.Common.{ℕ, true, List, ◌∷◌, Some, refl, subst}
 use Rattle.std.specs.Prelude.{⊤}
 use Rattle.arj_protocol.specs.Words.{Header}
 use Rattle.arj_protocol.specs.Asking.{again_all, begin_action}
@@ -136,7 +136,7 @@ module _ (hd : Header) (x : ℕ) (has : HasObject hd x) where
   Told begun M = IsKept M × AbortsAreKnown begun M
 
   abbrev Acked : List Action → Seen → Type 0
-  Acked begun M = ArePastIn begun M × AcksAreKnown begun M
+  Acked begun M = ArePastIn begun M × AcksAreKnown true begun M
 
   abbrev Ends : List Action → Seen → Type 0
   Ends begun M = Told begun M × Acked begun M
@@ -149,8 +149,8 @@ module _ (hd : Header) (x : ℕ) (has : HasObject hd x) where
       (of_more hd AbortsNeed (λ begun M. With All begun M × IsKept M) AbortsAreKnown (λ begun M h. ((h.1.1, (let z = h.0.1 in z.1.1.1.1)), ((let z = h.0.1 in z.0.1), (let z = h.0.1 in z.1.1.1.0)))) (aborts_of hd))
 
   acked : KeepsOf hd (With All) Acked
-  acked = of_both hd (With All) ArePastIn AcksAreKnown (of_more hd (λ begun M. ⊤) (λ begun M. With All begun M × AcksAreKnown begun M) ArePastIn (λ begun M h. tt) (past_of hd))
-      (of_more hd AcksNeed (λ begun M. With All begun M × ArePastIn begun M) AcksAreKnown (λ begun M h. (h.0.0, (h.1, (let z = h.0.1 in (z.1.1.1.0, (z.1.1.1.1, z.1.0.0.0)))))) (acks_of hd))
+  acked = of_both hd (With All) ArePastIn (AcksAreKnown true) (of_more hd (λ begun M. ⊤) (λ begun M. With All begun M × AcksAreKnown true begun M) ArePastIn (λ begun M h. tt) (past_of hd))
+      (of_more hd (AcksNeed true) (λ begun M. With All begun M × ArePastIn begun M) (AcksAreKnown true) (λ begun M h. ((λ counted. h.0.0), (h.1, (let z = h.0.1 in (z.1.1.1.0, (z.1.1.1.1, z.1.0.0.0)))))) (acks_of hd true))
 
   ends : KeepsOf hd (With All) Ends
   ends = of_both hd (With All) Told Acked (of_more hd (With All) (λ begun M. With All begun M × Acked begun M) Told (λ begun M h. h.0) told) (of_more hd (With All) (λ begun M. With All begun M × Told begun M) Acked (λ begun M h. h.0) acked)

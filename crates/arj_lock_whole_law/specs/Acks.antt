@@ -1,5 +1,5 @@
--- Who acknowledges a top's commit: whoever was asked to vote for it is listed by its record, acknowledges its commit before the record goes,
--- and is told no abort of it before.
+-- Who acknowledges a top's commit: whoever was asked for a part in it, a vote or naming's confirmation, is listed by its record, acknowledges its
+-- commit before the record goes, and is told no abort of it before.
 use Rattle.std.specs.Prelude.{◌≡◌, ◌⊎◌, ◌<◌, ℕ, Bool, true, false, List, Option, Some, None, Contains, option_map}
 use Rattle.std.specs.List.{AllByRecursion}
 use Rattle.arj_protocol.specs.Words.{Binding, End, Head, Message, Uid, asks, first_uid, is_on, uids_of}
@@ -17,6 +17,7 @@ use Rattle.arj_protocol.specs.Tree.{root_of}
 use Rattle.arj_part_law.specs.Actions.{Action, act_of}
 use Rattle.arj_part_law.specs.Ends.{told_by}
 use Rattle.arj_view_law.specs.Seen.{In, Post, Seen}
+use Rattle.arj_lock_whole_law.specs.Aborts.{IsPartAsked}
 
 -- ---- messages
 
@@ -82,30 +83,30 @@ IsPartOf begun u w = (u ≡ w) ⊎ ((a : Action) × Contains begun a × (act_of 
 abbrev pub AreHomed : List Action → Type 0
 AreHomed begun = AllByRecursion (λ (a : Action). (let r = first_uid (uids_of a.path) in r.node) ≡ (let u = act_of a in u.node)) begun
 
--- A record lists whoever was asked to vote; a top that was recorded and has no record any more was acknowledged by them; and each of them
+-- A record lists whoever was asked for a part; a top that was recorded and has no record any more was acknowledged by them; and each of them
 -- that an abort of it, or of its serializing action, was told acknowledged it before, where it was ever recorded. Who acknowledges was told
 -- to.
 pub record AreListed (begun : List Action) (records : Uid → Option Intent) (sent : List Post) : Type 0 where
-  pub listed : (u : Uid) (i : Intent) (k inc : ℕ) → records u ≡ Some i → IsVoter sent u k inc → has (let j = i in j.nodes) k ≡ true
-  pub ended : (u : Uid) (k inc : ℕ) → IsDemanded sent u → records u ≡ None → IsVoter sent u k inc → HasAcked sent u k
-  pub aborts : (p : Post) (w u : Uid) (inc : ℕ) → In p sent → Contains {X = Uid × End} (told_by p.message) (w, ending.Abort) → IsPartOf begun u w → IsVoter sent u p.to inc → WasRecorded records sent u → HasAcked sent u p.to
+  pub listed : (u : Uid) (i : Intent) (k : ℕ) → records u ≡ Some i → IsPartAsked sent u k → has (let j = i in j.nodes) k ≡ true
+  pub ended : (u : Uid) (k : ℕ) → IsDemanded sent u → records u ≡ None → IsPartAsked sent u k → HasAcked sent u k
+  pub aborts : (p : Post) (w u : Uid) → In p sent → Contains {X = Uid × End} (told_by p.message) (w, ending.Abort) → IsPartOf begun u w → IsPartAsked sent u p.to → WasRecorded records sent u → HasAcked sent u p.to
   pub asked : (u : Uid) (k : ℕ) → HasAcked sent u k → IsDemanded sent u
 
 -- ---- nodes
 
--- A node that is up: for whom its server votes it was asked to, in its incarnation; what it acknowledged its server was told, or was asked to
--- vote for in earlier incarnations; and of a record that is told again, who isn't awaited acknowledged.
-pub record KnowsAcked (sent : List Post) (k : ℕ) (intents : List (Uid × Intent)) (t : Parts) : Type 0 where
+-- A node that is up: for whom its server votes it was asked to, in its incarnation; where few bindings were made, what it acknowledged its
+-- server was told, or was asked to vote for in earlier incarnations; and of a record that is told again, who isn't awaited acknowledged.
+pub record KnowsAcked (few : Bool) (sent : List Post) (k : ℕ) (intents : List (Uid × Intent)) (t : Parts) : Type 0 where
   pub voted : (u : Uid) → is_on (let s = t.server in s.voted) u ≡ true → IsVoter sent u k (let s = t.server in s.inc)
-  pub acked : (u : Uid) → HasAcked sent u k → (is_told u t.server ≡ true) ⊎ ((i : ℕ) → IsVoter sent u k i → i < (let s = t.server in s.inc))
+  pub acked : few ≡ true → (u : Uid) → HasAcked sent u k → (is_told u t.server ≡ true) ⊎ ((i : ℕ) → IsVoter sent u k i → i < (let s = t.server in s.inc))
   pub awaited : (u : Uid) (j i : Intent) (m : ℕ) → at_uid u (let c = t.coord in c.telling) ≡ Some j → at_uid u intents ≡ Some i → has (let z = i in z.nodes) m ≡ true → has (let z = j in z.nodes) m ≡ false → HasAcked sent u m
 
 -- so it is at a node that is up
-abbrev pub KnowsAcks : List Post → ℕ → Node → Type 0
-KnowsAcks sent k n = (t : Parts) → n.live ≡ Some t → KnowsAcked sent k (let d = n.disk in d.intents) t
+abbrev pub KnowsAcks : Bool → List Post → ℕ → Node → Type 0
+KnowsAcks few sent k n = (t : Parts) → n.live ≡ Some t → KnowsAcked few sent k (let d = n.disk in d.intents) t
 
--- So it is in the world.
-pub record AcksAreKnown (begun : List Action) (M : Seen) : Type 0 where
+-- So it is in the world, where the test says whether few bindings were made.
+pub record AcksAreKnown (few : Bool) (begun : List Action) (M : Seen) : Type 0 where
   pub homes : AreHomed begun
   pub world : AreListed begun (records_in M.nodes) M.sent
-  pub nodes : (k : ℕ) (n : Node) → M.nodes k ≡ Some n → KnowsAcks M.sent k n
+  pub nodes : (k : ℕ) (n : Node) → M.nodes k ≡ Some n → KnowsAcks few M.sent k n

@@ -1,5 +1,5 @@
 -- What is known of the protocol alone in every run, all together, for the actions that were begun.
-use Rattle.std.specs.Prelude.{ℕ, List}
+use Rattle.std.specs.Prelude.{ℕ, true, List}
 use Rattle.arj_part_law.specs.Actions.{Action}
 use Rattle.arj_view_law.specs.Seen.{Seen}
 use Rattle.arj_call_law.specs.Bindings.{AreSaid}
@@ -31,7 +31,7 @@ pub record KnowsWhole (x : ℕ) (begun : List Action) (M : Seen) : Type 0 where
   pub written : IsKept M
   pub aborts : AbortsAreKnown begun M
   pub past : ArePastIn begun M
-  pub acks : AcksAreKnown begun M
+  pub acks : AcksAreKnown true begun M
   pub avoids : AvoidsAreKnown M
   pub counts : AreSaid M
   pub entry : HoldsEntry x M

@@ -1,4 +1,4 @@
--- Each line of a run that a store's abort is done stands behind its cause.
+-- Each line of a run that a store's abort is done stands behind its cause, and naming aborts nothing of a decided top.
 use Rattle.std.proofs.Common.{◌≡◌, ◌∙◌, ◌&&◌, ◌||◌, ◌++◌, ℕ, Bool, true, false, inl, inr, not, List, [], ◌∷◌, refl, sym, ap, subst}
 use Rattle.std.specs.List.{list_any}
 use Rattle.std.proofs.lemmas.Bool.{and_parts}
@@ -22,8 +22,9 @@ use Rattle.arj_line_law.proofs.Runs.{run_written}
 use Rattle.arj_joint_law.specs.Outcome.{has_cause_to_abort, is_said, may_abort}
 use Rattle.arj_joint_law.proofs.Behind.{commits_behind, each_from}
 use Rattle.arj_joint_law.proofs.Called.{right_front}
-use Rattle.arj_settle_law.specs.Outcomes.{RunsShowOneOutcome, StoresAbortByCauses}
+use Rattle.arj_settle_law.specs.Outcomes.{NamingAbortsNoneDecided, RunsShowOneOutcome, StoresAbortByCauses}
 use Rattle.arj_settle_law.proofs.Causes.{cause_may}
+use Rattle.arj_settle_law.proofs.ConfirmRuns.{naming_run}
 use Rattle.arj_settle_law.proofs.Rights.{right_run}
 
 -- an action of these that the test finds
@@ -50,6 +51,18 @@ stores_abort hd es before line behind n u is says said =
     let front = right_front new_book before (line ∷ behind) (subst (AreRight new_book) is right) in
     cause_may before n u (core.lines before line behind n u is says (said_decided before front u said))
 
+pub naming_aborts_none : NamingAbortsNoneDecided
+naming_aborts_none hd es before line behind n u is says = by (is_said before u) refl
+  where
+    by : (b : Bool) → is_said before u ≡ b → b ≡ false
+    by false none = refl
+    by true said =
+        let h = naming_run hd es in
+        let core = (let z = h.holds in z.1) in
+        let right : AreRight new_book (journal hd es) = (let w = (run_written hd es).1 in w.right) in
+        let front = right_front new_book before (line ∷ behind) (subst (AreRight new_book) is right) in
+        absurd (core.lines before line behind n u is says (said_decided before front u said))
+
 -- as the rest says, where it is said
 where_said : (a b : Bool) → (a ≡ true → b ≡ true) → (not a || b) ≡ true
 where_said false b its = refl
@@ -64,11 +77,11 @@ caused before (body.Done n u r e) each = by e each
 caused before b each = refl
 
 pub runs_show : RunsShowOneOutcome
-runs_show hd es named = record {
+runs_show hd es = record {
   commits = commits_behind hd es;
   aborts = each_from has_cause_to_abort (journal hd es) (λ before line behind is. caused before line.body (λ r n u says said. by before line behind is r n u says said)) [] (journal hd es) refl;
 }
   where
     by : (before : List Line) (line : Line) (behind : List Line) → journal hd es ≡ before ++ line ∷ behind → (r : Role) (n : ℕ) (u : Uid) → line.body ≡ body.Done n u r ending.Abort → is_said before u ≡ true → may_abort before r n u ≡ true
     by before line behind is role.Store n u says said = stores_abort hd es before line behind n u is says said
-    by before line behind is role.Names n u says said = named before line behind n u is says said
+    by before line behind is role.Names n u says said = let no_way : true ≡ false = sym said ∙ naming_aborts_none hd es before line behind n u is says in cc no_way

@@ -135,10 +135,10 @@ module _ (k : ℕ) (d : Disk) (t : Parts) (M : Seen) (right : IsRight (up k d t 
       acked_core = mild_core k d (Some t) M (λ x. ⊥) IsNoEnd Sends (Either Is v) Z w right.1 mild
 
     acked_rest : (outs : List Effect) → AllByRecursion (FitsSo k M IsNoEnd Sends quiet_no_end tt Is) outs → Walks Known e k outs (Up Known k v) c M → Walks IsRight e k outs (Up IsRight k v) c M
-    acked_rest outs fits known = step_walk k M IsNoEnd Sends quiet_no_end tt Is v e outs c fits refl (λ Z its w. acked_core Z w) known
+    acked_rest outs fits known = step_walk Known IsCore k M IsNoEnd Sends quiet_no_end tt Is v e outs c fits refl (λ Z its w. acked_core Z w) known
 
     acked_halt : Known (halted e k c M) → IsRight (halted e k c M)
-    acked_halt known = step_halt k M IsNoEnd Sends quiet_no_end tt Is v e c refl (λ Z its w. acked_core Z w) known
+    acked_halt known = step_halt Known IsCore k M IsNoEnd Sends quiet_no_end tt Is v e c refl (λ Z its w. acked_core Z w) known
 
   -- ---- the cases
 

@@ -50,23 +50,23 @@ some_is {A} {a} {b} is = let k : ◌≡◌ {A = Option A} (Some a) (Some b) = is
 pub asked_more : (p : Post) (sent : List Post) (u : Uid) → WasAsked sent u → WasAsked (p ∷ sent) u
 asked_more p sent u w = (w.0, inr w.1, w.2)
 
-prepared_on : (P Q : Uid → Type 0) (d : Pair) → ((u : Uid) → P u → Q u) → HasPrepared P d → HasPrepared Q d
+pub prepared_on : (P Q : Uid → Type 0) (d : Pair) → ((u : Uid) → P u → Q u) → HasPrepared P d → HasPrepared Q d
 prepared_on P Q d on h = record { sorted = h.sorted; each = all_each (λ (e : Uid × List ObjectState). P e.0) (λ (e : Uid × List ObjectState). Q e.0) d.pend (λ e its. on e.0 its) h.each }
 
 -- ---- one work
 
-put_prepared : (Q : Uid → Type 0) (u : Uid) (states : List ObjectState) (d : Pair) → Q u → HasPrepared Q d → HasPrepared Q (record d { pend = put_uid u states d.pend })
+pub put_prepared : (Q : Uid → Type 0) (u : Uid) (states : List ObjectState) (d : Pair) → Q u → HasPrepared Q d → HasPrepared Q (record d { pend = put_uid u states d.pend })
 put_prepared Q u states d its h = record { sorted = keys.sorted_put u states d.pend h.sorted; each = all_put Q u states d.pend its h.each }
 
 -- what stays prepared when an action's entry goes, whatever is held
-drop_prepared : (Q : Uid → Type 0) (u : Uid) (d e : Pair) → e.pend ≡ without_uid u d.pend → HasPrepared Q d → HasPrepared Q e
+pub drop_prepared : (Q : Uid → Type 0) (u : Uid) (d e : Pair) → e.pend ≡ without_uid u d.pend → HasPrepared Q d → HasPrepared Q e
 drop_prepared Q u d e same h = record { sorted = subst AreSorted (sym same) (keys.sorted_without u d.pend h.sorted); each = subst (AllByRecursion (λ (z : Uid × List ObjectState). Q z.0)) (sym same) (all_without Q u d.pend h.each) }
 
 abbrev OnDisk : List Post → ℕ → Disk → Type 0
 OnDisk sent k d = HasPrepared (λ u. WasAsked sent u) d.store × HasPrepared (λ u. WasAsked sent u × (k ≡ 1)) d.names
 
 -- in part, nothing more is prepared or less
-same_prepared : (Q : Uid → Type 0) (d e : Pair) → e.pend ≡ d.pend → HasPrepared Q d → HasPrepared Q e
+pub same_prepared : (Q : Uid → Type 0) (d e : Pair) → e.pend ≡ d.pend → HasPrepared Q d → HasPrepared Q e
 same_prepared Q d e same h = record { sorted = subst AreSorted (sym same) h.sorted; each = subst (AllByRecursion (λ (z : Uid × List ObjectState). Q z.0)) (sym same) h.each }
 
 module _ (acts : List Action) (sent : List Post) (k : ℕ) where

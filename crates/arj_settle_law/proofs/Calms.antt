@@ -78,10 +78,14 @@ Calm U c e (Do w) = ⊥
 abbrev pub AllCalm : (Uid → Type 0) → Coord → Coord → List Effect → Type 0
 AllCalm U c e outs = AllByRecursion (Calm U c e) outs
 
--- Nothing but that; or a top is decided that naming confirmed.
-pub data Goes (U : Uid → Type 0) (c e : Coord) (outs : List Effect) : Type 0 where
-  Still : e.telling ≡ c.telling → AllCalm U c e outs → Goes U c e outs
-  Decided : (u : Uid) (q : Doing) (p : Plan) → doing_of u c ≡ Some q → q.now ≡ Committing (Confirming p) → e ≡ (decide (record p { confirmed = true }) c).part → outs ≡ (decide (record p { confirmed = true }) c).outs → Goes U c e outs
+-- the answer is naming's Yes, to this action
+abbrev pub IsYes : Asked → Reply → Uid → Type 0
+IsYes a r u = (r ≡ Reply.Confirmed confirmed.Yes) × (a.act ≡ u)
+
+-- Nothing but that; or a top is decided that naming confirmed, of which this is known.
+pub data Goes (U Y : Uid → Type 0) (c e : Coord) (outs : List Effect) : Type 0 where
+  Still : e.telling ≡ c.telling → AllCalm U c e outs → Goes U Y c e outs
+  Decided : (u : Uid) (q : Doing) (p : Plan) → doing_of u c ≡ Some q → q.now ≡ Committing (Confirming p) → e ≡ (decide (record p { confirmed = true }) c).part → outs ≡ (decide (record p { confirmed = true }) c).outs → Y u → Goes U Y c e outs
 
 module _ (U : Uid → Type 0) (c e : Coord) where
   pub calm_both : (xs ys : List Effect) → AllCalm U c e xs → AllCalm U c e ys → AllCalm U c e (xs ++ ys)
@@ -334,7 +338,7 @@ module _ (U : Uid → Type 0) where
   abort_calm : (u : Uid) (why : Cause) (intents : List (Uid × Intent)) (c : Coord) → AllCalm U c (ended u ending.Abort c) (aborts_with u why intents c).outs
   abort_calm u why intents c = calm_both U c (ended u ending.Abort c) (says u (λ l. body.Aborted l why) c) (tolds_of intents (ended u ending.Abort c) u) (plain_says U c (ended u ending.Abort c) u (λ l. body.Aborted l why) (λ l. tt) c) (calm_tolds U c (ended u ending.Abort c) intents u (λ b is. inr (inr (inr (ended_aborted u c b is)))))
 
-  abort_goes : (u : Uid) (why : Cause) (intents : List (Uid × Intent)) (c : Coord) → Goes U c (aborts_with u why intents c).part (aborts_with u why intents c).outs
+  abort_goes : (u : Uid) (why : Cause) (intents : List (Uid × Intent)) (c : Coord) → Goes U (λ w. ⊥) c (aborts_with u why intents c).part (aborts_with u why intents c).outs
   abort_goes u why intents c = Still (ended_telling u c ending.Abort) (abort_calm u why intents c)
 
   -- a step that decides nothing
@@ -371,55 +375,55 @@ module _ (U : Uid → Type 0) where
     voting : (u : Uid) (d : Doing) (m : Machine) → doing_of u c ≡ Some d → d.now ≡ Committing m → actor (plan_of m).path ≡ u
     voting u d m found now = let v : IsVoting c.tree u (plan_of m) = subst (IsBusy c.tree u) now (good.busy u d found) in actor_is actions paths tree u (plan_of m).path c good v.asking
 
-    pub heard_goes : (from : ℕ) (a : Asked) (r : Reply) (intents : List (Uid × Intent)) → Goes U c (heard from a r intents c).part (heard from a r intents c).outs
+    pub heard_goes : (from : ℕ) (a : Asked) (r : Reply) (intents : List (Uid × Intent)) → Goes U (IsYes a r) c (heard from a r intents c).part (heard from a r intents c).outs
     heard_goes from a r intents = by (doing_of a.act c) refl
       where
-        machine : (d : Doing) → doing_of a.act c ≡ Some d → (n : Machine) → d.now ≡ Committing n → Goes U c (moved_commit a.act (commit.answered from n r) intents c).part (moved_commit a.act (commit.answered from n r) intents c).outs
-        machine d found n at = by_kind n at r
+        machine : (d : Doing) → doing_of a.act c ≡ Some d → (n : Machine) → d.now ≡ Committing n → Goes U (IsYes a r) c (moved_commit a.act (commit.answered from n r) intents c).part (moved_commit a.act (commit.answered from n r) intents c).outs
+        machine d found n at = by_kind n at r refl
           where
-            still : (k : Machine) (z : Reply) → d.now ≡ Committing k → ((q : Plan) → (commit.answered from k z).step ≡ Decides q → ⊥) → Goes U c (moved_commit a.act (commit.answered from k z) intents c).part (moved_commit a.act (commit.answered from k z) intents c).outs
+            still : (k : Machine) (z : Reply) → d.now ≡ Committing k → ((q : Plan) → (commit.answered from k z).step ≡ Decides q → ⊥) → Goes U (IsYes a r) c (moved_commit a.act (commit.answered from k z) intents c).part (moved_commit a.act (commit.answered from k z) intents c).outs
             still k z now none = let s = moved_still a.act (commit.answered from k z) intents c d found (asks_who a.act (plan_of k) (commit.answered from k z).step (voting a.act d k found now) (answer_step actions paths tree from k z)) none in Still s.0 s.1
 
-            by_kind : (k : Machine) → d.now ≡ Committing k → (z : Reply) → Goes U c (moved_commit a.act (commit.answered from k z) intents c).part (moved_commit a.act (commit.answered from k z) intents c).outs
-            by_kind (Voting p left) now z = still (Voting p left) z now (λ q is. voting_undecided from p left z q (uses a.act d (Voting p left) found now) is)
-            by_kind (Preparing p left) now z = still (Preparing p left) z now (λ q is. preparing_undecided from p left z q (uses a.act d (Preparing p left) found now) is)
-            by_kind (Confirming p) now (Reply.Confirmed confirmed.Yes) = Decided a.act d p found now refl refl
-            by_kind (Confirming p) now (Reply.Confirmed (confirmed.Conflict h m)) = still (Confirming p) (Reply.Confirmed (confirmed.Conflict h m)) now (λ q is. cc is)
-            by_kind (Confirming p) now (Reply.Confirmed (confirmed.Changed w)) = still (Confirming p) (Reply.Confirmed (confirmed.Changed w)) now (λ q is. cc is)
-            by_kind (Confirming p) now (Reply.Confirmed (confirmed.NoStores x)) = still (Confirming p) (Reply.Confirmed (confirmed.NoStores x)) now (λ q is. cc is)
-            by_kind (Confirming p) now (Reply.Confirmed (confirmed.Listed x s)) = still (Confirming p) (Reply.Confirmed (confirmed.Listed x s)) now (λ q is. cc is)
-            by_kind (Confirming p) now (Reply.Bound z) = still (Confirming p) (Reply.Bound z) now (λ q is. cc is)
-            by_kind (Confirming p) now (Reply.Loaded z) = still (Confirming p) (Reply.Loaded z) now (λ q is. cc is)
-            by_kind (Confirming p) now (Reply.Activated z) = still (Confirming p) (Reply.Activated z) now (λ q is. cc is)
-            by_kind (Confirming p) now (Reply.Noted z) = still (Confirming p) (Reply.Noted z) now (λ q is. cc is)
-            by_kind (Confirming p) now (Reply.Invoked z) = still (Confirming p) (Reply.Invoked z) now (λ q is. cc is)
-            by_kind (Confirming p) now (Reply.Voted z) = still (Confirming p) (Reply.Voted z) now (λ q is. cc is)
-            by_kind (Confirming p) now (Reply.Prepared z) = still (Confirming p) (Reply.Prepared z) now (λ q is. cc is)
+            by_kind : (k : Machine) → d.now ≡ Committing k → (z : Reply) → r ≡ z → Goes U (IsYes a r) c (moved_commit a.act (commit.answered from k z) intents c).part (moved_commit a.act (commit.answered from k z) intents c).outs
+            by_kind (Voting p left) now z same = still (Voting p left) z now (λ q is. voting_undecided from p left z q (uses a.act d (Voting p left) found now) is)
+            by_kind (Preparing p left) now z same = still (Preparing p left) z now (λ q is. preparing_undecided from p left z q (uses a.act d (Preparing p left) found now) is)
+            by_kind (Confirming p) now (Reply.Confirmed confirmed.Yes) same = Decided a.act d p found now refl refl (same, refl)
+            by_kind (Confirming p) now (Reply.Confirmed (confirmed.Conflict h m)) same = still (Confirming p) (Reply.Confirmed (confirmed.Conflict h m)) now (λ q is. cc is)
+            by_kind (Confirming p) now (Reply.Confirmed (confirmed.Changed w)) same = still (Confirming p) (Reply.Confirmed (confirmed.Changed w)) now (λ q is. cc is)
+            by_kind (Confirming p) now (Reply.Confirmed (confirmed.NoStores x)) same = still (Confirming p) (Reply.Confirmed (confirmed.NoStores x)) now (λ q is. cc is)
+            by_kind (Confirming p) now (Reply.Confirmed (confirmed.Listed x s)) same = still (Confirming p) (Reply.Confirmed (confirmed.Listed x s)) now (λ q is. cc is)
+            by_kind (Confirming p) now (Reply.Bound z) same = still (Confirming p) (Reply.Bound z) now (λ q is. cc is)
+            by_kind (Confirming p) now (Reply.Loaded z) same = still (Confirming p) (Reply.Loaded z) now (λ q is. cc is)
+            by_kind (Confirming p) now (Reply.Activated z) same = still (Confirming p) (Reply.Activated z) now (λ q is. cc is)
+            by_kind (Confirming p) now (Reply.Noted z) same = still (Confirming p) (Reply.Noted z) now (λ q is. cc is)
+            by_kind (Confirming p) now (Reply.Invoked z) same = still (Confirming p) (Reply.Invoked z) now (λ q is. cc is)
+            by_kind (Confirming p) now (Reply.Voted z) same = still (Confirming p) (Reply.Voted z) now (λ q is. cc is)
+            by_kind (Confirming p) now (Reply.Prepared z) same = still (Confirming p) (Reply.Prepared z) now (λ q is. cc is)
 
-        by_now : (d : Doing) → doing_of a.act c ≡ Some d → (n : Now) → d.now ≡ n → Goes U c (heard_now from a r intents c n).part (heard_now from a r intents c n).outs
+        by_now : (d : Doing) → doing_of a.act c ≡ Some d → (n : Now) → d.now ≡ n → Goes U (IsYes a r) c (heard_now from a r intents c n).part (heard_now from a r intents c n).outs
         by_now d found Idle at = Still refl tt
         by_now d found (Calling s) at = one (waits_for_call from a r s)
           where
             m : Moved
             m = answered (is_free (root_of s.path) (actor s.path) s.x c) (kept_at s c) s.goal s.at r
 
-            one : (w : Bool) → let z = cond {A = Served Coord (Unit {0})} w (heard_by (heard_call s r c)) (heard_none c) in Goes U c z.part z.outs
+            one : (w : Bool) → let z = cond {A = Served Coord (Unit {0})} w (heard_by (heard_call s r c)) (heard_none c) in Goes U (IsYes a r) c z.part z.outs
             one true = Still (step_telling s m.step (on_root (root_of s.path) (root_moved s r m) c)) (step_call_calm c s m.step (on_root (root_of s.path) (root_moved s r m) c))
             one false = Still refl tt
         by_now d found (Committing n) at = one (waits_for_commit from a r n)
           where
-            one : (w : Bool) → let z = cond {A = Served Coord (Unit {0})} w (heard_by (moved_commit a.act (commit.answered from n r) intents c)) (heard_none c) in Goes U c z.part z.outs
+            one : (w : Bool) → let z = cond {A = Served Coord (Unit {0})} w (heard_by (moved_commit a.act (commit.answered from n r) intents c)) (heard_none c) in Goes U (IsYes a r) c z.part z.outs
             one true = machine d found n at
             one false = Still refl tt
 
-        by : (o : Option Doing) → doing_of a.act c ≡ o → Goes U c (heard_doing from a r intents c o).part (heard_doing from a r intents c o).outs
+        by : (o : Option Doing) → doing_of a.act c ≡ o → Goes U (IsYes a r) c (heard_doing from a r intents c o).part (heard_doing from a r intents c o).outs
         by None none = Still refl tt
         by (Some d) found = by_now d found d.now refl
 
-    give_up_goes : (u : Uid) (intents : List (Uid × Intent)) → Goes U c (give_up u intents c).part (give_up u intents c).outs
+    give_up_goes : (u : Uid) (intents : List (Uid × Intent)) → Goes U (λ w. ⊥) c (give_up u intents c).part (give_up u intents c).outs
     give_up_goes u intents = by (doing_of u c) refl
       where
-        by_now : (d : Doing) → doing_of u c ≡ Some d → (n : Now) → d.now ≡ n → Goes U c (gives_up u intents c n).part (gives_up u intents c n).outs
+        by_now : (d : Doing) → doing_of u c ≡ Some d → (n : Now) → d.now ≡ n → Goes U (λ w. ⊥) c (gives_up u intents c n).part (gives_up u intents c n).outs
         by_now d found Idle at = Still refl tt
         by_now d found (Calling s) at =
             let t = step_call s (given_up s.at) (on_root (root_of s.path) (root_lost s (given_up s.at)) c) in
@@ -429,18 +433,18 @@ module _ (U : Uid → Type 0) where
             let s = moved_still u (commit.given_up n) intents c d found (asks_who u (plan_of n) (commit.given_up n).step (voting u d n found at) (giveup_step actions paths tree n)) (λ q is. giveup_undecided n q (uses u d n found at) is) in
             Still s.0 (calm_both U c t.part (gaveup_lines u (nodes_given_up n) c) t.outs (calm_gaveup U c t.part u (nodes_given_up n)) s.1)
 
-        by : (o : Option Doing) → doing_of u c ≡ o → Goes U c (give_up_doing u intents c o).part (give_up_doing u intents c o).outs
+        by : (o : Option Doing) → doing_of u c ≡ o → Goes U (λ w. ⊥) c (give_up_doing u intents c o).part (give_up_doing u intents c o).outs
         by None none = Still refl tt
         by (Some d) found = by_now d found d.now refl
 
     -- as a commit begins
-    commit_goes : (b : Branch) (intents : List (Uid × Intent)) (d : Doing) → branch_of (actor b.path) c.tree ≡ Some b → doing_of (actor b.path) c ≡ Some d → U (actor b.path) → Goes U c (commit_action b intents c).part (commit_action b intents c).outs
+    commit_goes : (b : Branch) (intents : List (Uid × Intent)) (d : Doing) → branch_of (actor b.path) c.tree ≡ Some b → doing_of (actor b.path) c ≡ Some d → U (actor b.path) → Goes U (λ w. ⊥) c (commit_action b intents c).part (commit_action b intents c).outs
     commit_goes b intents d there found unasked = by b.doomed
       where
         plan : Plan
         plan = plan_for b.path (last_req (doing_of (actor b.path) c)) (root_at (root_of b.path) c) c
 
-        ends : (how : End) (f : Label → Body) → ((q : Doing) → doing_of (actor b.path) c ≡ Some q → SaysNow U c (f q.label)) → Goes U c (ends_with (actor b.path) how f intents c).part (ends_with (actor b.path) how f intents c).outs
+        ends : (how : End) (f : Label → Body) → ((q : Doing) → doing_of (actor b.path) c ≡ Some q → SaysNow U c (f q.label)) → Goes U (λ w. ⊥) c (ends_with (actor b.path) how f intents c).part (ends_with (actor b.path) how f intents c).outs
         ends how f each = Still (ended_telling (actor b.path) c how) (let e = ended (actor b.path) how c in calm_both U c e (says (actor b.path) f c) (tolds_of intents e (actor b.path)) (calm_says U c e (actor b.path) f each c refl) (calm_tolds U c e intents (actor b.path) (λ z is. inl unasked)))
 
         decided : (q : Plan) → q ≡ plan → ((decide q c).part.telling ≡ c.telling) × AllCalm U c (decide q c).part (decide q c).outs
@@ -466,28 +470,28 @@ module _ (U : Uid → Type 0) where
         started (Asks m) its of = step_still (actor b.path) (Asks m) intents c d found (asks_who (actor b.path) plan (Asks m) refl of) (λ q is. cc is)
         started (Aborts why p) its of = step_still (actor b.path) (Aborts why p) intents c d found (asks_who (actor b.path) plan (Aborts why p) refl of) (λ q is. cc is)
 
-        top : Goes U c (commit_top b.path intents c).part (commit_top b.path intents c).outs
+        top : Goes U (λ w. ⊥) c (commit_top b.path intents c).part (commit_top b.path intents c).outs
         top =
             let t = moved_commit (actor b.path) (commit.start plan) intents c in
             let s = started (commit.start plan).step (λ q is. start_decides plan q is) (vote_step actions paths tree (servers_of plan) plan plan (refl, refl)) in
             Still s.0 (calm_both U c t.part (says (actor b.path) body.Committing c) t.outs (plain_says U c t.part (actor b.path) body.Committing (λ l. tt) c) s.1)
 
-        kinds : (k : Kind) → Goes U c (commit_open b intents c k).part (commit_open b intents c k).outs
+        kinds : (k : Kind) → Goes U (λ w. ⊥) c (commit_open b intents c k).part (commit_open b intents c k).outs
         kinds kind.Nested = ends ending.Commit body.Committed (λ q is. (actor b.path, b, q, there, is, refl, unasked))
         kinds kind.Serial = ends ending.Commit body.Ended (λ q is. tt)
         kinds kind.Top = top
         kinds kind.Independent = top
         kinds kind.Constituent = top
 
-        by : (w : Bool) → let z = cond {A = Did Coord} w (aborts_with (actor b.path) cause.Doomed intents c) (commit_open b intents c b.kind) in Goes U c z.part z.outs
+        by : (w : Bool) → let z = cond {A = Did Coord} w (aborts_with (actor b.path) cause.Doomed intents c) (commit_open b intents c b.kind) in Goes U (λ w. ⊥) c z.part z.outs
         by true = abort_goes (actor b.path) cause.Doomed intents c
         by false = kinds b.kind
 
-    pub acts_goes : (i : Input) (intents : List (Uid × Intent)) → ((l : Label) (k : Kind) (parent : Option Label) → i ≢ input.Begin l k parent) → ((l : Label) (b : Branch) → i ≡ input.Commit l → branch_of (actor b.path) c.tree ≡ Some b → branch_named l c ≡ Some b → U (actor b.path)) → Goes U c (acts i intents c).part (acts i intents c).outs
+    pub acts_goes : (i : Input) (intents : List (Uid × Intent)) → ((l : Label) (k : Kind) (parent : Option Label) → i ≢ input.Begin l k parent) → ((l : Label) (b : Branch) → i ≡ input.Commit l → branch_of (actor b.path) c.tree ≡ Some b → branch_named l c ≡ Some b → U (actor b.path)) → Goes U (λ w. ⊥) c (acts i intents c).part (acts i intents c).outs
     acts_goes (input.Begin l k parent) intents other unasked = absurd (other l k parent refl)
     acts_goes (input.Call l x o) intents other unasked = by (branch_named l c)
       where
-        by : (f : Option Branch) → let z = on_branch (λ b. call b.path x o c) c f in Goes U c z.part z.outs
+        by : (f : Option Branch) → let z = on_branch (λ b. call b.path x o c) c f in Goes U (λ w. ⊥) c z.part z.outs
         by None = Still refl tt
         by (Some b) =
             let old = keeping_of x (root_at (root_of b.path) c) in
@@ -496,17 +500,17 @@ module _ (U : Uid → Type 0) where
             Still (goes_telling (call_steps b.path x o (next_req (actor b.path) c) (root_at (root_of b.path) c) c k) t) (goes_calm c (call_steps b.path x o (next_req (actor b.path) c) (root_at (root_of b.path) c) c k) t)
     acts_goes (input.Include l x s) intents other unasked = by (branch_named l c)
       where
-        by : (f : Option Branch) → let z = on_branch (λ b. include b.path x s c) c f in Goes U c z.part z.outs
+        by : (f : Option Branch) → let z = on_branch (λ b. include b.path x s c) c f in Goes U (λ w. ⊥) c z.part z.outs
         by None = Still refl tt
         by (Some b) = Still (goes_telling (start b.path x (calls.Include s) None unbound (next_req (actor b.path) c)) (record c { tree = uses_object b.path x c.tree })) (goes_calm c (start b.path x (calls.Include s) None unbound (next_req (actor b.path) c)) (record c { tree = uses_object b.path x c.tree }))
     acts_goes (input.Commit l) intents other unasked = by (branch_named l c) refl
       where
-        by : (f : Option Branch) → branch_named l c ≡ f → let z = on_branch (λ b. commit_action b intents c) c f in Goes U c z.part z.outs
+        by : (f : Option Branch) → branch_named l c ≡ f → let z = on_branch (λ b. commit_action b intents c) c f in Goes U (λ w. ⊥) c z.part z.outs
         by None is = Still refl tt
         by (Some b) is = let there = named_found actions paths tree intents c good l b is in let d = work_there c works (actor b.path) b there in commit_goes b intents d.0 there d.1 (unasked l b refl there is)
     acts_goes (input.Abort l) intents other unasked = by (branch_named l c)
       where
-        by : (f : Option Branch) → let z = on_branch (λ b. abort_action (actor b.path) intents c) c f in Goes U c z.part z.outs
+        by : (f : Option Branch) → let z = on_branch (λ b. abort_action (actor b.path) intents c) c f in Goes U (λ w. ⊥) c z.part z.outs
         by None = Still refl tt
         by (Some b) =
             let us = open_below (actor b.path) c.tree ++ actor b.path ∷ [] in
@@ -514,7 +518,7 @@ module _ (U : Uid → Type 0) where
             Still (aborted_telling us c) (calm_both U c t.part t.outs (flat_map (tolds_of intents t.part) us) (all_aborted_calm us c c t.part) (calm_all_tolds U c t.part intents us (λ w i z is. inr (inr (inr (each_aborted us c w i z is))))))
     acts_goes (input.GiveUp l) intents other unasked = by (branch_named l c)
       where
-        by : (f : Option Branch) → let z = on_branch (λ b. give_up (actor b.path) intents c) c f in Goes U c z.part z.outs
+        by : (f : Option Branch) → let z = on_branch (λ b. give_up (actor b.path) intents c) c f in Goes U (λ w. ⊥) c z.part z.outs
         by None = Still refl tt
         by (Some b) = give_up_goes (actor b.path) intents
     acts_goes (input.Frame k from m) intents other unasked = Still refl tt

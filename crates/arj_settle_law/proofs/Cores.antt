@@ -121,7 +121,7 @@ listed : (M : Seen) (u : Uid) (n : ℕ) → Lists M u n → IsDone M u
 listed M u n l = inr (l.0, l.1, l.2, l.3)
 
 -- a line stands in the first lines, or in those behind them
-split : (xs ys before : List Line) (line : Line) (behind : List Line) → xs ++ ys ≡ before ++ line ∷ behind → ((rest : List Line) × (xs ≡ before ++ line ∷ rest)) ⊎ ((rest : List Line) × (before ≡ xs ++ rest) × (ys ≡ rest ++ line ∷ behind))
+pub split : (xs ys before : List Line) (line : Line) (behind : List Line) → xs ++ ys ≡ before ++ line ∷ behind → ((rest : List Line) × (xs ≡ before ++ line ∷ rest)) ⊎ ((rest : List Line) × (before ≡ xs ++ rest) × (ys ≡ rest ++ line ∷ behind))
 split [] ys before line behind is = inr (before, refl, is)
 split (x ∷ xs) ys [] line behind is = let one : x ≡ line = cc is in inl (xs, ap (λ z. z ∷ xs) one)
 split (x ∷ xs) ys (b ∷ before) line behind is =

@@ -75,28 +75,28 @@ module _ (k : ℕ) (d : Disk) (t : Parts) (M : Seen) (right : IsRight (up k d t 
   watched : IsWatched Start k (the_node k d (Some t)) t
   watched = let core = right.1 in core.coords k (the_node k d (Some t)) t here refl
 
-  voting : IsVoting t.coord.tree u p
+  pub voting : IsVoting t.coord.tree u p
   voting = subst (IsBusy t.coord.tree u) now (coords.busy u q found)
 
-  there : branch_of u t.coord.tree ≡ Some (let v = voting in let a = v.asking in a.branch)
+  pub there : branch_of u t.coord.tree ≡ Some (let v = voting in let a = v.asking in a.branch)
   there = let v = voting in let a = v.asking in a.found
 
-  opened : is_some (let v = voting in let a = v.asking in let b = a.branch in b.ended) ≡ false
+  pub opened : is_some (let v = voting in let a = v.asking in let b = a.branch in b.ended) ≡ false
   opened = let v = voting in let a = v.asking in a.opened
 
-  acts_for : actor p.path ≡ u
+  pub acts_for : actor p.path ≡ u
   acts_for = actor_is begun (paths_of begun) tree u p.path t.coord coords (let v = voting in v.asking)
 
-  home : u.node ≡ k
+  pub home : u.node ≡ k
   home = node_is Start right.0 k (the_node k d (Some t)) t here refl u (let v = voting in let a = v.asking in a.branch) there
 
-  undone : IsDone Start u → ⊥
+  pub undone : IsDone Start u → ⊥
   undone = open_undone Start right.0 k (the_node k d (Some t)) t here refl u (let v = voting in let a = v.asking in a.branch) there opened
 
   untold : WasTold M.sent u → ⊥
   untold told = told_closed Start right.0 k (the_node k d (Some t)) t here refl u home told (let v = voting in let a = v.asking in a.branch) there opened
 
-  unacked : (n : ℕ) → IsAcked M.sent n u → ⊥
+  pub unacked : (n : ℕ) → IsAcked M.sent n u → ⊥
   unacked n acked = let core = right.1 in untold (core.ends u n acked)
 
   not_aborted : (n : ℕ) → TellsAbort M.sent u n → ⊥
@@ -115,7 +115,7 @@ module _ (k : ℕ) (d : Disk) (t : Parts) (M : Seen) (right : IsRight (up k d t 
   listed : (n : ℕ) → has p.prepared n ≡ true → has (participants (record p { confirmed = true })) n ≡ true
   listed n on = has_set (servers_of P ++ p.prepared ++ naming_node P) n (has_both (servers_of P ++ p.prepared) (naming_node P) n (inl (has_both (servers_of P) p.prepared n (inr on))))
 
-  its_label : (x : Uid) → uid_in (let B = book M.lines in B.acts) q.label ≡ Some x → x ≡ u
+  pub its_label : (x : Uid) → uid_in (let B = book M.lines in B.acts) q.label ≡ Some x → x ≡ u
   its_label x is =
       let g = knows Start right.0 k (the_node k d (Some t)) t here refl in
       let w = g.knows in
@@ -235,10 +235,10 @@ module _ (k : ℕ) (d : Disk) (t : Parts) (M : Seen) (right : IsRight (up k d t 
         decided_core = mild_core k d (Some t) M (λ x. x ≡ u) Says Sends (Either Is v) Z w right.1 mild
 
       decided_rest : (outs : List Effect) → outs ≡ says (actor p.path) body.Committed t.coord ++ map (decided_told (root_of p.path) (actor p.path) (record p { confirmed = true })) p.sent → Walks Known e k outs (Up Known k v) c M → Walks IsRight e k outs (Up IsRight k v) c M
-      decided_rest outs are known = step_walk k M Says Sends (quiet_mild (λ x. x ≡ u) (let B = book M.lines in B.acts)) tt Is v e outs c (subst (AllByRecursion (FitsSo k M Says Sends (quiet_mild (λ x. x ≡ u) (let B = book M.lines in B.acts)) tt Is)) (sym are) fits) refl (λ Z its w. decided_core Z w) known
+      decided_rest outs are known = step_walk Known IsCore k M Says Sends (quiet_mild (λ x. x ≡ u) (let B = book M.lines in B.acts)) tt Is v e outs c (subst (AllByRecursion (FitsSo k M Says Sends (quiet_mild (λ x. x ≡ u) (let B = book M.lines in B.acts)) tt Is)) (sym are) fits) refl (λ Z its w. decided_core Z w) known
 
       decided_halt : Known (halted e k c M) → IsRight (halted e k c M)
-      decided_halt known = step_halt k M Says Sends (quiet_mild (λ x. x ≡ u) (let B = book M.lines in B.acts)) tt Is v e c refl (λ Z its w. decided_core Z w) known
+      decided_halt known = step_halt Known IsCore k M Says Sends (quiet_mild (λ x. x ≡ u) (let B = book M.lines in B.acts)) tt Is v e c refl (λ Z its w. decided_core Z w) known
 
   -- ---- both ways
 

@@ -41,8 +41,8 @@ use Rattle.arj_line_law.specs.Knows.{IsKnown}
 use Rattle.arj_line_law.specs.Right.{AreRight}
 use Rattle.arj_joint_law.specs.Outcome.{was_excluded}
 use Rattle.arj_lock_fact_law.proofs.CommitCoords.{AreAt, IsNext, at_again, at_heard}
-use Rattle.arj_settle_law.proofs.Calms.{AllCalm, Decided, Goes, Still, acts_goes, again_calm, calm_both, calm_tells, heard_goes}
 use Rattle.arj_joint_law.proofs.Comes.{came_acts, waits_not}
+use Rattle.arj_settle_law.proofs.Calms.{AllCalm, Decided, Goes, IsYes, Still, acts_goes, again_calm, calm_both, calm_tells, heard_goes}
 use Rattle.arj_settle_law.proofs.Cores.{HasMarks, IsWatched, marks_on}
 use Rattle.arj_settle_law.proofs.Knowns.{Known, asked_settled, coord, knows, node_is, never, numbers, works}
 use Rattle.arj_settle_law.proofs.Marks.{answer_marks, excluded_line, excludes, giveup_marks, start_marks}
@@ -88,11 +88,11 @@ tolds_plain (x ∷ es) = let i = x.1 in plain_both (tell_all i.root true ((x.0, 
     one (n ∷ ns) = (((λ a q. cc q), (λ w q. cc q)), one ns)
 
 module _ (U : Uid → Type 0) (c e : Coord) where
-  queries_calm : (us : List Uid) → AllCalm U c e (map query_about us)
+  pub queries_calm : (us : List Uid) → AllCalm U c e (map query_about us)
   queries_calm [] = tt
   queries_calm (u ∷ us) = (((λ h states q. absurd (cc q)), (λ w q. absurd (cc q))), queries_calm us)
 
-  tolds_calm : (telling : List (Uid × Intent)) → AllCalm U c e (tolds_again telling)
+  pub tolds_calm : (telling : List (Uid × Intent)) → AllCalm U c e (tolds_again telling)
   tolds_calm [] = tt
   tolds_calm (x ∷ es) = let i = x.1 in calm_both U c e (tell_all i.root true ((x.0, ending.Commit) ∷ []) i.nodes) (tolds_again es) (calm_tells U c e i.root true ((x.0, ending.Commit) ∷ []) i.nodes (λ w last. absurd (let z : ending.Commit ≡ ending.Abort = ap (λ (y : Uid × End). y.1) (some_is last) in cc z))) (tolds_calm es)
 
@@ -103,7 +103,7 @@ module _ (k : ℕ) (d : Disk) (t : Parts) (M : Seen) (right : IsRight (up k d t 
   here : Start.nodes k ≡ Some (the_node k d (Some t))
   here = here_is k d (Some t) M
 
-  abbrev begun : List Action
+  abbrev pub begun : List Action
   begun = right.0.0.0.0.0.0
 
   good : IsGoodOf begun Start
@@ -112,13 +112,13 @@ module _ (k : ℕ) (d : Disk) (t : Parts) (M : Seen) (right : IsRight (up k d t 
   pub tree : IsTree (paths_of begun)
   tree = begun_tree begun good.begun
 
-  coords : IsGoodCoord begun (paths_of begun) t.coord
+  pub coords : IsGoodCoord begun (paths_of begun) t.coord
   coords = coord Start right.0 k (the_node k d (Some t)) t here refl
 
-  long : length t.coord.doings ≡ length t.coord.tree.branches
+  pub long : length t.coord.doings ≡ length t.coord.tree.branches
   long = works Start right.0 k (the_node k d (Some t)) t here refl
 
-  uses : (u : Uid) (q : Doing) (m : Machine) → doing_of u t.coord ≡ Some q → q.now ≡ Committing m → (let p = plan_of m in p.used) ≢ []
+  pub uses : (u : Uid) (q : Doing) (m : Machine) → doing_of u t.coord ≡ Some q → q.now ≡ Committing m → (let p = plan_of m in p.used) ≢ []
   uses u q m found now = let l = knows Start right.0 k (the_node k d (Some t)) t here refl in let z = l.tops in let y = z.uses in y.plans u q m found now
 
   watched : IsWatched Start k (the_node k d (Some t)) t
@@ -163,10 +163,10 @@ module _ (k : ℕ) (d : Disk) (t : Parts) (M : Seen) (right : IsRight (up k d t 
     its_marks lines more are said rights = at_heard (HasMarks lines) t.coord (λ u q z found now. subst (λ ls. HasMarks ls u z) (sym are) (marks_on M.lines more u z (watched.marked u q z found now))) from a r d.intents
         (λ q z found now waiting v. answer_marks lines a.act from z r v (excludes lines a.act t.coord q found (commit.answered from z r).marks (λ x n says. excluded_here a.act q found z now x n lines (said (body.Excluded q.label x n) (subst (SaysIn (body.Excluded q.label x n)) (sym (its_outs q z found now waiting)) (says_left (body.Excluded q.label x n) (mark_lines a.act (commit.answered from z r).marks t.coord) _ says))) rights)))
 
-    goes : Goes (Unasked k d t M right) t.coord its.part its.outs
+    goes : Goes (Unasked k d t M right) (IsYes a r) t.coord its.part its.outs
     goes = heard_goes (Unasked k d t M right) begun (paths_of begun) tree t.coord coords long uses from a r d.intents
 
-    well : GoesOn t.coord its.part × AreTrue its.part its.outs
+    pub well : GoesOn t.coord its.part × AreTrue its.part its.outs
     well = well_heard begun (paths_of begun) tree from a r d.intents t.coord coords
 
     heard_still : its.part.telling ≡ t.coord.telling → AllCalm (Unasked k d t M right) t.coord its.part its.outs → Walks Known e k its.outs (Up Known k (with_coord t its.part)) d M → Walks IsRight e k its.outs (Up IsRight k (with_coord t its.part)) d M
@@ -175,9 +175,9 @@ module _ (k : ℕ) (d : Disk) (t : Parts) (M : Seen) (right : IsRight (up k d t 
     pub heard_walk : ((u : Uid) (q : Doing) (p : Plan) → doing_of u t.coord ≡ Some q → q.now ≡ Committing (commit.Confirming p) → its.part ≡ (decide (record p { confirmed = true }) t.coord).part → its.outs ≡ (decide (record p { confirmed = true }) t.coord).outs → Walks IsRight e k its.outs (Up IsRight k (with_coord t its.part)) d M) → Walks Known e k its.outs (Up Known k (with_coord t its.part)) d M → Walks IsRight e k its.outs (Up IsRight k (with_coord t its.part)) d M
     heard_walk decides known = by goes
       where
-        by : Goes (Unasked k d t M right) t.coord its.part its.outs → Walks IsRight e k its.outs (Up IsRight k (with_coord t its.part)) d M
+        by : Goes (Unasked k d t M right) (IsYes a r) t.coord its.part its.outs → Walks IsRight e k its.outs (Up IsRight k (with_coord t its.part)) d M
         by (Still telling calm) = heard_still telling calm known
-        by (Decided u q p found now part outs) = decides u q p found now part outs
+        by (Decided u q p found now part outs heard_it) = decides u q p found now part outs
 
   -- ---- an input
 
@@ -185,7 +185,7 @@ module _ (k : ℕ) (d : Disk) (t : Parts) (M : Seen) (right : IsRight (up k d t 
     abbrev does : Did Coord
     does = acts i d.intents t.coord
 
-    other : (l : Label) (how : Kind) (parent : Option Label) → i ≢ input.Begin l how parent
+    pub other : (l : Label) (how : Kind) (parent : Option Label) → i ≢ input.Begin l how parent
     other l how parent same = let no_way : false ≡ true = sym (ap is_act same) ∙ is in cc no_way
 
     its_home : (l : Label) (b : Branch) → branch_named l t.coord ≡ Some b → (actor b.path).node ≡ k
@@ -209,10 +209,10 @@ module _ (k : ℕ) (d : Disk) (t : Parts) (M : Seen) (right : IsRight (up k d t 
         first true y z q = absurd (cc q)
         first false y z q = refl
 
-    act_well : GoesOn t.coord does.part × AreTrue does.part does.outs
+    pub act_well : GoesOn t.coord does.part × AreTrue does.part does.outs
     act_well = well_acts begun (paths_of begun) tree d.intents t.coord coords long hd i free other
 
-    act_goes : Goes (Unasked k d t M right) t.coord does.part does.outs
+    act_goes : Goes (Unasked k d t M right) (λ u. ⊥) t.coord does.part does.outs
     act_goes = acts_goes (Unasked k d t M right) begun (paths_of begun) tree t.coord coords long uses i d.intents other (λ l b same found named. none_asked l b same named)
 
     -- a step given up
@@ -242,12 +242,12 @@ module _ (k : ℕ) (d : Disk) (t : Parts) (M : Seen) (right : IsRight (up k d t 
     act_still : does.part.telling ≡ t.coord.telling → AllCalm (Unasked k d t M right) t.coord does.part does.outs → Walks Known e k does.outs (Up Known k (with_coord t does.part)) d M → Walks IsRight e k does.outs (Up IsRight k (with_coord t does.part)) d M
     act_still telling calm known = still_walk k d t M right (with_coord t does.part) (λ u. let g = act_well.0 in g.own u) telling act_votes e does.outs calm (plain_sends does.part does.outs act_well.1) act_marks known
 
-    pub act_walk : ((u : Uid) (q : Doing) (p : Plan) → doing_of u t.coord ≡ Some q → q.now ≡ Committing (commit.Confirming p) → does.part ≡ (decide (record p { confirmed = true }) t.coord).part → does.outs ≡ (decide (record p { confirmed = true }) t.coord).outs → Walks IsRight e k does.outs (Up IsRight k (with_coord t does.part)) d M) → Walks Known e k does.outs (Up Known k (with_coord t does.part)) d M → Walks IsRight e k does.outs (Up IsRight k (with_coord t does.part)) d M
-    act_walk decides known = by act_goes
+    pub act_walk : Walks Known e k does.outs (Up Known k (with_coord t does.part)) d M → Walks IsRight e k does.outs (Up IsRight k (with_coord t does.part)) d M
+    act_walk known = by act_goes
       where
-        by : Goes (Unasked k d t M right) t.coord does.part does.outs → Walks IsRight e k does.outs (Up IsRight k (with_coord t does.part)) d M
+        by : Goes (Unasked k d t M right) (λ u. ⊥) t.coord does.part does.outs → Walks IsRight e k does.outs (Up IsRight k (with_coord t does.part)) d M
         by (Still telling calm) = act_still telling calm known
-        by (Decided u q p found now part outs) = decides u q p found now part outs
+        by (Decided u q p found now part outs nobody) = absurd nobody
 
   -- ---- a tick
 

@@ -131,7 +131,7 @@ module _ (k : ℕ) (d : Disk) (t : Parts) (M : Seen) (core : IsCore (up k d t M)
   part_fits (Send to m ∷ es) all = (all.0, part_fits es all.1)
 
   pub part_walk : (e : ℕ) (v : Parts) (outs : List Effect) → v.coord ≡ t.coord → AllByRecursion (IsPart (λ n u. Lists (up k d t M) u n) HasAck k) outs → Walks Known e k outs (Up Known k v) d M → Walks IsRight e k outs (Up IsRight k v) d M
-  part_walk e v outs same all known = step_walk k M IsNoEnd (PartSends Listed HasAck) quiet_no_end tt (HasThese d) v e outs d (part_fits outs all) (refl, refl)
+  part_walk e v outs same all known = step_walk Known IsCore k M IsNoEnd (PartSends Listed HasAck) quiet_no_end tt (HasThese d) v e outs d (part_fits outs all) (refl, refl)
       (λ Z its w. light_core k d (Some t) M IsNoEnd (PartSends Listed HasAck) (Either (HasThese d) v) Z w core (part_light v same Z w)) known
 
 -- ---- a message
@@ -233,11 +233,11 @@ module _ (k : ℕ) (d : Disk) (t : Parts) (M : Seen) (right : IsRight (up k d t 
 
       -- a stop
       prepared_halt : Known (halted e k c M) → IsRight (halted e k c M)
-      prepared_halt known = step_halt k M IsNoEnd (λ p. ⊥) quiet_no_end tt It v e c refl (λ Z its w. light_core k d (Some t) M IsNoEnd (λ p. ⊥) (Either It v) Z w right.1 (prepared_light (λ p. ⊥) (λ p none. absurd none) Z w)) known
+      prepared_halt known = step_halt Known IsCore k M IsNoEnd (λ p. ⊥) quiet_no_end tt It v e c refl (λ Z its w. light_core k d (Some t) M IsNoEnd (λ p. ⊥) (Either It v) Z w right.1 (prepared_light (λ p. ⊥) (λ p none. absurd none) Z w)) known
 
       -- the answer
       prepared_walk : (outs : List Effect) → AllByRecursion (FitsSo k M IsNoEnd SaysYes quiet_no_end tt It) outs → is_prepared (actor h.path) c.store ≡ true → Walks Known e k outs (Up Known k v) c M → Walks IsRight e k outs (Up IsRight k v) c M
-      prepared_walk outs fits on known = step_walk k M IsNoEnd SaysYes quiet_no_end tt It v e outs c fits refl (λ Z its w. light_core k d (Some t) M IsNoEnd SaysYes (Either It v) Z w right.1 (prepared_light SaysYes (λ p s. (s, on)) Z w)) known
+      prepared_walk outs fits on known = step_walk Known IsCore k M IsNoEnd SaysYes quiet_no_end tt It v e outs c fits refl (λ Z its w. light_core k d (Some t) M IsNoEnd SaysYes (Either It v) Z w right.1 (prepared_light SaysYes (λ p s. (s, on)) Z w)) known
 
     pub again_walk : is_prepared (actor h.path) d.store ≡ true → (outs : List Effect) → outs ≡ Send from (response (asked_by h) (Reply.Prepared prepared.Yes)) ∷ [] → Walks Known e k outs (Up Known k v) d M → Walks IsRight e k outs (Up IsRight k v) d M
     again_walk on outs are known = prepared_walk d (λ u z. z) (λ u z. inl z) refl outs (subst (AllByRecursion (FitsSo k M IsNoEnd SaysYes quiet_no_end tt (λ b. b ≡ d))) (sym are) (refl, tt)) on known

@@ -16,7 +16,7 @@ use Rattle.arj_protocol.specs.Named.{Named}
 use Rattle.arj_protocol.specs.Naming.{Naming}
 use Rattle.arj_protocol.specs.Node.{Parts, prepared_actions, query_about, with_coord}
 use Rattle.arj_protocol.specs.Order.{at_uid, uid_set, without_number}
-use Rattle.arj_protocol.specs.Step.{Node, acts, first_disk, hello_to, naming_at, naming_back, numbers_to, parent_of, parts_in, recovered_records, restart_outs, tolds_again}
+use Rattle.arj_protocol.specs.Step.{Node, first_disk, hello_to, naming_at, naming_back, numbers_to, parent_of, parts_in, recovered_records, restart_outs, tolds_again}
 use Rattle.arj_protocol.specs.Tree.{at_place, is_own, next_uid}
 use Rattle.arj_protocol.specs.World as world
 use Rattle.arj_protocol.specs.World.{format, is_serial_kind, numbered, run_all}
@@ -170,7 +170,7 @@ module _ (hd : Header) (k : ℕ) (d : Disk) (M : Seen) (right : IsRight (down k 
   here = here_is k d None M
 
   -- it has a record
-  abbrev Found : Uid → Type 0
+  abbrev pub Found : Uid → Type 0
   Found x = (i : Intent) × (at_uid x d.intents ≡ Some i)
 
   abbrev Says : Body → Type 0
@@ -182,7 +182,7 @@ module _ (hd : Header) (k : ℕ) (d : Disk) (M : Seen) (right : IsRight (down k 
   recorded : IsRecorded right.0.0.1.0 (the_node k d None)
   recorded = let z = right.0.0.1 in let y = z.2 in y.0 k (the_node k d None) here
 
-  its_home : (x : Uid) → Found x → x.node ≡ k
+  pub its_home : (x : Uid) → Found x → x.node ≡ k
   its_home x (i, at_it) =
       let w = right.0.0.0.0.1 in
       let n : KnowsNode (book M.lines) k (the_node k d None) = w.nodes k (the_node k d None) here in
@@ -293,7 +293,7 @@ module _ (hd : Header) (k : ℕ) (d : Disk) (M : Seen) (right : IsRight (down k 
       }
 
   restart_walk : Walks Known e k (restart_outs hd k (d.inc + 1) d) (Up Known k (parts_in k (d.inc + 1) d)) d M → Walks IsRight e k (restart_outs hd k (d.inc + 1) d) (Up IsRight k (parts_in k (d.inc + 1) d)) d M
-  restart_walk known = step_walk k M Says Sends (quiet_mild Found (let B = book M.lines in B.acts)) tt (HasThese d) (parts_in k (d.inc + 1) d) e (restart_outs hd k (d.inc + 1) d) d restart_fits (refl, refl) (λ Z its w. restart_core Z w) known
+  restart_walk known = step_walk Known IsCore k M Says Sends (quiet_mild Found (let B = book M.lines in B.acts)) tt (HasThese d) (parts_in k (d.inc + 1) d) e (restart_outs hd k (d.inc + 1) d) d restart_fits (refl, refl) (λ Z its w. restart_core Z w) known
 
 -- ---- a message
 
@@ -352,12 +352,12 @@ first_core hd = record {
 
 -- ---- all handlers
 
-right_keep : (hd : Header) → Keeps hd IsRight
+pub right_keep : (hd : Header) → Keeps hd IsRight
 right_keep hd = record {
   quiet = λ e bs M quiet right. (its.quiet e bs M quiet right.0, quiet_core e bs M quiet right.1);
   stop = λ e k d live M right. (its.stop e k d live M right.0, stop_core k d live M right.1 e);
   message = λ e k d t v from m outs M right there meant is. message_walk hd e k d t v from m outs M right there (handle_case k d t from m v outs is) (its.message e k d t v from m outs M right.0 there meant is);
-  act = λ e k d t i M is free right. act_walk k d t M right e hd i is free (λ u q p found now part tells. decided_walk k d t M right e u q p found now (with_coord t (acts i d.intents t.coord).part) part (acts i d.intents t.coord).outs tells (its.act e k d t i M is free right.0)) (its.act e k d t i M is free right.0);
+  act = λ e k d t i M is free right. act_walk k d t M right e hd i is free (its.act e k d t i M is free right.0);
   begin = λ e k d t l how parent M new may free right. (its.begin e k d t l how parent M new may free right.0, begun_core k d t M right.1 e l how parent (let G = given l (record { node = k; serial = is_serial_kind how }) M in G.labels));
   tick = λ e k d t M right. tick_walk k d t M right e (its.tick e k d t M right.0);
   restart = λ e k d M right. restart_walk hd k d M right e (its.restart e k d M right.0);

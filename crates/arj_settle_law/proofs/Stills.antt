@@ -66,21 +66,42 @@ IsPlainSend (Say b) = ⊤
 IsPlainSend (Do w) = ⊤
 
 -- without work no stop falls
-abbrev HasNoWork : Effect → Type 0
+abbrev pub HasNoWork : Effect → Type 0
 HasNoWork (Do w) = ⊥
 HasNoWork f = ⊤
 
-no_stops : (P Q : Seen → Type 0) {f g : Disk → Seen → Type 0} (e k : ℕ) (outs : List Effect) → AllByRecursion HasNoWork outs → (d : Disk) (M : Seen) → ((c : Disk) (N : Seen) → f c N → g c N) → Walks P e k outs f d M → Walks Q e k outs g d M
+pub no_stops : (P Q : Seen → Type 0) {f g : Disk → Seen → Type 0} (e k : ℕ) (outs : List Effect) → AllByRecursion HasNoWork outs → (d : Disk) (M : Seen) → ((c : Disk) (N : Seen) → f c N → g c N) → Walks P e k outs f d M → Walks Q e k outs g d M
 no_stops P Q e k [] none d M to w = to d M w
 no_stops P Q e k (Say b ∷ es) none d M to w = no_stops P Q e k es none.1 d (said e (b ∷ []) M) to w
 no_stops P Q e k (Send n m ∷ es) none d M to w = λ more q. no_stops P Q e k es none.1 d (said e more (posted (record { from = k; to = n; message = m }) M)) to (w more q)
 no_stops P Q e k (Do w ∷ es) none d M to walk = absurd none.0
 
-no_work : (U : Uid → Type 0) (c e : Coord) (outs : List Effect) → AllCalm U c e outs → AllByRecursion HasNoWork outs
+pub no_work : (U : Uid → Type 0) (c e : Coord) (outs : List Effect) → AllCalm U c e outs → AllByRecursion HasNoWork outs
 no_work U c e [] calm = tt
 no_work U c e (Say b ∷ es) calm = (tt, no_work U c e es calm.1)
 no_work U c e (Send n m ∷ es) calm = (tt, no_work U c e es calm.1)
 no_work U c e (Do w ∷ es) calm = absurd calm.0
+
+-- a coordinator's line that commits is about one of these
+module _ (U : Uid → Type 0) (k : ℕ) (d : Disk) (t : Parts) (M : Seen) (known : Known (up k d t M)) where
+  pub line_fits : (b : Body) → SaysNow U t.coord b → LineMild U (let B = book M.lines in B.acts) b
+  line_fits (body.Committed l) (u, b, q, found, does, label, its) = λ x is. subst U (one x is) its
+    where
+      one : (x : Uid) → uid_in (let B = book M.lines in B.acts) l ≡ Some x → u ≡ x
+      one x is =
+          let g = knows (up k d t M) known k (the_node k d (Some t)) t (here_is k d (Some t) M) refl in
+          let q2 = g.knows in
+          let s : IsKnown (book M.lines) u b.kind b.ended q.label = q2.acts u b q found does in
+          some_is (sym (ap (λ o. option_map (λ (y : Act). y.uid) o) s.named ∙ ap Some s.uid) ∙ ap (uid_in (let B = book M.lines in B.acts)) label ∙ is)
+  line_fits (body.Began l h u p) so = absurd so
+  line_fits (body.Recovered n u) so = absurd so
+  line_fits (body.Done n u r e) so = absurd so
+  line_fits (body.Committing l) so = tt
+  line_fits (body.Aborted l c) so = tt
+  line_fits (body.Ended l) so = tt
+  line_fits (body.Ok l x o r) so = tt
+  line_fits (body.Includes l x n) so = tt
+  line_fits b so = tt
 
 module _ (k : ℕ) (d : Disk) (t : Parts) (M : Seen) (right : IsRight (up k d t M)) where
   abbrev Start : Seen
@@ -98,25 +119,6 @@ module _ (k : ℕ) (d : Disk) (t : Parts) (M : Seen) (right : IsRight (up k d t 
 
   abbrev acts : List Act
   acts = (let B = book M.lines in B.acts)
-
-  line_fits : (b : Body) → SaysNow Unasked t.coord b → LineMild Unasked (let B = book M.lines in B.acts) b
-  line_fits (body.Committed l) (u, b, q, found, does, label, unasked) = λ x is. subst Unasked (one x is) unasked
-    where
-      one : (x : Uid) → uid_in (let B = book M.lines in B.acts) l ≡ Some x → u ≡ x
-      one x is =
-          let g = knows Start right.0 k (the_node k d (Some t)) t here refl in
-          let q2 = g.knows in
-          let s : IsKnown (book M.lines) u b.kind b.ended q.label = q2.acts u b q found does in
-          some_is (sym (ap (λ o. option_map (λ (y : Act). y.uid) o) s.named ∙ ap Some s.uid) ∙ ap (uid_in (let B = book M.lines in B.acts)) label ∙ is)
-  line_fits (body.Began l h u p) so = absurd so
-  line_fits (body.Recovered n u) so = absurd so
-  line_fits (body.Done n u r e) so = absurd so
-  line_fits (body.Committing l) so = tt
-  line_fits (body.Aborted l c) so = tt
-  line_fits (body.Ended l) so = tt
-  line_fits (body.Ok l x o r) so = tt
-  line_fits (body.Includes l x n) so = tt
-  line_fits b so = tt
 
   -- this node's disk stays as it is
   abbrev pub Same : Disk → Type 0
@@ -137,7 +139,7 @@ module _ (k : ℕ) (d : Disk) (t : Parts) (M : Seen) (right : IsRight (up k d t 
 
     effects_fit : (outs : List Effect) → AllCalm Unasked t.coord v.coord outs → AllByRecursion IsPlainSend outs → AllByRecursion (FitsSo k M (LineMild Unasked (let B = book M.lines in B.acts)) (SendsSo Unasked v.coord) (quiet_mild Unasked (let B = book M.lines in B.acts)) tt Same) outs
     effects_fit [] calm plain = tt
-    effects_fit (Say b ∷ es) calm plain = (line_fits b calm.0, effects_fit es calm.1 plain.1)
+    effects_fit (Say b ∷ es) calm plain = (line_fits Unasked k d t M right.0 b calm.0, effects_fit es calm.1 plain.1)
     effects_fit (Send to m ∷ es) calm plain = ((calm.0, plain.0), effects_fit es calm.1 plain.1)
     effects_fit (Do w ∷ es) calm plain = absurd calm.0
 

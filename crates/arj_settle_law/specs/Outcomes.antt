@@ -1,5 +1,5 @@
--- Each run shows one outcome of each top, as far as stores abort what they prepared.
-use Rattle.std.specs.Prelude.{◌≡◌, ℕ, true, List, ◌∷◌, ◌++◌}
+-- Each run shows one outcome of each top: what stores abort of a decided one has a cause, and naming aborts nothing of it.
+use Rattle.std.specs.Prelude.{◌≡◌, ℕ, true, false, List, ◌∷◌, ◌++◌}
 use Rattle.arj_base.specs.declared.mode.End.TheVariants as ending
 use Rattle.arj_base.specs.declared.uid.Uid.{Uid}
 use Rattle.arj_journal.specs.declared.body.Body.TheVariants as body
@@ -17,10 +17,14 @@ StoresHaveCauses lines = (before : List Line) (line : Line) (behind : List Line)
 abbrev pub StoresAbortByCauses : Type 0
 StoresAbortByCauses = (hd : Header) (es : List Asked) → StoresHaveCauses (journal hd es)
 
--- what naming aborts of a decided top has a cause
-abbrev pub NamingHasCauses : List Line → Type 0
-NamingHasCauses lines = (before : List Line) (line : Line) (behind : List Line) (n : ℕ) (u : Uid) → lines ≡ before ++ line ∷ behind → line.body ≡ body.Done n u role.Names ending.Abort → is_said before u ≡ true → may_abort before role.Names n u ≡ true
+-- naming aborts nothing that it prepared for an action that was decided before
+abbrev pub AbortsNoneDecided : List Line → Type 0
+AbortsNoneDecided lines = (before : List Line) (line : Line) (behind : List Line) (n : ℕ) (u : Uid) → lines ≡ before ++ line ∷ behind → line.body ≡ body.Done n u role.Names ending.Abort → is_said before u ≡ false
 
--- and where naming has its causes too, the run shows one outcome of each top
+-- so it is in every run
+abbrev pub NamingAbortsNoneDecided : Type 0
+NamingAbortsNoneDecided = (hd : Header) (es : List Asked) → AbortsNoneDecided (journal hd es)
+
+-- and each run shows one outcome of each top
 abbrev pub RunsShowOneOutcome : Type 0
-RunsShowOneOutcome = (hd : Header) (es : List Asked) → NamingHasCauses (journal hd es) → ShowsOneOutcome (journal hd es)
+RunsShowOneOutcome = (hd : Header) (es : List Asked) → ShowsOneOutcome (journal hd es)

@@ -7,9 +7,11 @@
 //! (`arj_round_law`). It gives upward `whoever_is_prepared_settles`, `quiesces_leave_nodes_idle` and `rounds_leave_nodes_idle`
 //! (`specs/Settled.antt`), and `files_of_idle_nodes_hold_the_last` (`specs/Last.antt`).
 //!
-//! And what stores abort of decided tops has its cause in the journal, in every run: `runs_show_one_outcome` (`specs/Outcomes.antt`). Of each
-//! top that asked a store (`proofs/Cores.antt`): once it is decided the store has something prepared and the record lists it, or its abort has a
-//! cause; which each handler keeps (`proofs/Rights.antt`).
+//! And each run shows one outcome of each top: `runs_show_one_outcome` (`specs/Outcomes.antt`). What stores abort of decided tops has its
+//! cause in the journal. Of each top that asked a store (`proofs/Cores.antt`): once it is decided the store has something prepared and the
+//! record lists it, or its abort has a cause; which each handler keeps (`proofs/Rights.antt`). And naming aborts nothing of a decided top. Of
+//! each top that asked naming to mark a store (`proofs/Confirms.antt`): once it is decided it was recorded, naming confirmed it, and what naming
+//! acknowledged of it is prepared no more and isn't prepared again; which each handler keeps (`proofs/ConfirmRuns.antt`).
 #![tactic(auto)]
 
 mod outcomes;
