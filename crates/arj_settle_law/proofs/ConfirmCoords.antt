@@ -1,6 +1,6 @@
 -- A coordinator hears an answer, takes an input, or sends again: what holds of naming's confirmations goes on, where it decides nothing, and
 -- where it decides a top that naming confirmed.
-use Rattle.std.proofs.Common.{◌≡◌, ◌⊎◌, ◌≤◌, ◌∙◌, ◌++◌, ℕ, Bool, true, false, List, [], ◌∷◌, Option, Some, None, refl, sym, ap, subst, inl, inr, ⊎_elim, arith}
+use Rattle.std.proofs.Common.{◌≡◌, ◌⊎◌, ◌≤◌, ◌∙◌, ◌++◌, ℕ, true, List, [], ◌∷◌, Option, Some, None, refl, sym, ap, subst, inl, inr, ⊎_elim, arith}
 use Rattle.std.specs.Prelude.{⊤}
 use Rattle.std.specs.List.{AllByRecursion}
 use Rattle.arj_protocol.specs.Words.{Ask, Body, Head, Line, Message, Uid, asks}
@@ -38,9 +38,6 @@ some_is {A} {a} {b} is = let k : ◌≡◌ {A = Option A} (Some a) (Some b) = is
 none_not : {A P : Type 0} {x : A} → None ≡ Some x → P
 none_not {A} {P} {x} is = let no_way : ◌≡◌ {A = Option A} None (Some x) = is in absurd (cc no_way)
 
-never : {P : Type 0} {b : Bool} → b ≡ true → b ≡ false → P
-never {P} {b} holds fails = let no_way : true ≡ false = sym holds ∙ fails in absurd (cc no_way)
-
 -- ---- lines and messages
 
 -- nothing that was prepared ends by it
@@ -73,7 +70,7 @@ none_done U M (l ∷ ls) (b ∷ before) line behind n u all is says_it = let res
 abbrev pub IsUnanswering : Message → Type 0
 IsUnanswering m = (answers m ≡ None) × (acked_in m ≡ None)
 
-pub coord_unanswering : (m : Message) → is_of_coord m ≡ true → IsUnanswering m
+coord_unanswering : (m : Message) → is_of_coord m ≡ true → IsUnanswering m
 coord_unanswering m own = (no_answer m own, acks m own)
   where
     acks : (z : Message) → is_of_coord z ≡ true → acked_in z ≡ None
@@ -118,9 +115,6 @@ module _ (k : ℕ) (d : Disk) (t : Parts) (M : Seen) (right : IsNaming (up k d t
   module _ (v : Parts) (same : v.naming ≡ t.naming) where
     abbrev Sends : Post → Type 0
     Sends p = ((h : Head) (a : Ask) → asks p.message ≡ Some (h, a) → asks_part a ≡ true → IsAskedNow v.coord p.to h a) × IsUnanswering p.message
-
-    abbrev Says : Body → Type 0
-    Says = SaysSo (Unmarked) M
 
     abbrev Is : Disk → Type 0
     Is c = c ≡ d

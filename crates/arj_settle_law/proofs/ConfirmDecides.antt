@@ -1,5 +1,5 @@
 -- A coordinator decides a top that naming confirmed: where naming was asked by marks there is a record, and naming's Yes was heard.
-use Rattle.std.proofs.Common.{◌≡◌, ◌≢◌, ◌⊎◌, ◌≤◌, ◌∙◌, ◌++◌, ◌||◌, ℕ, Bool, true, false, cond, not, List, [], ◌∷◌, map, Option, Some, None, refl, sym, ap, subst, inl, inr, ⊎_elim, arith}
+use Rattle.std.proofs.Common.{◌≡◌, ◌≢◌, ◌⊎◌, ◌≤◌, ◌∙◌, ◌++◌, ◌||◌, ℕ, Bool, true, false, cond, not, List, [], ◌∷◌, map, Option, Some, refl, sym, ap, subst, inl, inr, ⊎_elim, arith}
 use Rattle.std.specs.Prelude.{is_some}
 use Rattle.std.specs.List.{AllByRecursion}
 use Rattle.arj_protocol.specs.Words.{Ask, Head, Uid, asks}
@@ -36,9 +36,6 @@ use Rattle.arj_settle_law.proofs.Trails.{FitsSo, Went, mild_decides}
 
 some_is : {A : Type 0} {a b : A} → Some a ≡ Some b → a ≡ b
 some_is {A} {a} {b} is = let k : ◌≡◌ {A = Option A} (Some a) (Some b) = is in cc k
-
-none_not : {A P : Type 0} {x : A} → None ≡ Some x → P
-none_not {A} {P} {x} is = let no_way : ◌≡◌ {A = Option A} None (Some x) = is in absurd (cc no_way)
 
 never : {P : Type 0} {b : Bool} → b ≡ true → b ≡ false → P
 never {P} {b} holds fails = let no_way : true ≡ false = sym holds ∙ fails in absurd (cc no_way)
@@ -134,9 +131,6 @@ module _ (k : ℕ) (d : Disk) (t : Parts) (M : Seen) (right : IsNaming (up k d t
         one : (b : Bool) → Fits (cond b (tell (root_of p.path) (has_record (record p { confirmed = true })) ((actor p.path, ending.Commit) ∷ []) n) (tell (root_of p.path) false ((actor p.path, ending.Abort) ∷ []) n))
         one true = ((λ h a z part. cc z), ((λ a z. cc z), refl))
         one false = ((λ h a z part. cc z), ((λ a z. cc z), refl))
-
-    abbrev rest : List Effect
-    rest = says (actor p.path) body.Committed t.coord ++ map (decided_told (root_of p.path) (actor p.path) (record p { confirmed = true })) p.sent
 
     fits : AllByRecursion Fits (says (actor p.path) body.Committed t.coord ++ map (decided_told (root_of p.path) (actor p.path) (record p { confirmed = true })) p.sent)
     fits = fits_both (says (actor p.path) body.Committed t.coord) (map (decided_told (root_of p.path) (actor p.path) (record p { confirmed = true })) p.sent) fits_says (fits_tolds p.sent)

@@ -63,9 +63,6 @@ module _ (k : ℕ) (d : Disk) (t : Parts) (M : Seen) (right : IsNaming (up k d t
   abbrev Start : Seen
   Start = up k d t M
 
-  abbrev begun : List Action
-  begun = right.0.1.0
-
   good : IsGoodOf right.0.1.0 Start
   good = right.0.1.1
 

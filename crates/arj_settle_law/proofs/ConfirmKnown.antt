@@ -33,9 +33,6 @@ use Rattle.arj_settle_law.proofs.Confirms.{AsksConfirm, IsConfirming, part_of_it
 use Rattle.arj_settle_law.proofs.Settled.{sorted_as}
 use Rattle.arj_settle_law.proofs.Stills.{IsRight}
 
-some_is : {A : Type 0} {a b : A} → Some a ≡ Some b → a ≡ b
-some_is {A} {a} {b} is = let k : ◌≡◌ {A = Option A} (Some a) (Some b) = is in cc k
-
 -- who was told of ends, records, who takes part, what waits, who acknowledges, and which actions the journal has
 abbrev pub KnowsNaming : List Action → Seen → Type 0
 KnowsNaming begun M = ((ArePastIn begun M × AreRecorded begun M) × (KnowsParted begun M × WorksAreKnown M)) × (AcksAreKnown false begun M × IsPathedOf begun M)

@@ -34,7 +34,7 @@ some_is {A} {a} {b} is = let k : ◌≡◌ {A = Option A} (Some a) (Some b) = is
 
 -- ---- lines
 
-pub calm_undeciding : (L : Uid → Type 0) (b : Body) → IsCalmBut L b → IsUndeciding b
+calm_undeciding : (L : Uid → Type 0) (b : Body) → IsCalmBut L b → IsUndeciding b
 calm_undeciding L (body.Committed l) so = absurd so
 calm_undeciding L (body.Recovered n x) so = absurd so
 calm_undeciding L b so = tt
@@ -100,7 +100,7 @@ module _ (k : ℕ) (d : Disk) (live : Option Parts) (M : Seen) (L : Uid → Type
   calm_confirms core apart here = step_confirms k d live M (IsCalmBut L) Sends D Z w core (record { decides = decides; recorded = recorded; stays = stays; clean = clean; asks = asks_none; apart = apart; here = here })
 
   -- node 1, where nothing is acknowledged or confirmed, and less is prepared
-  pub calm_node : ((p : Post) → Sends p → acked_in p.message ≡ None) → ((p : Post) → Sends p → (a : Asked) → answers p.message ≡ Some (a, Reply.Confirmed confirmed.Yes) → ⊥) → d.inc ≤ (let c = w.disk in c.inc)
+  calm_node : ((p : Post) → Sends p → acked_in p.message ≡ None) → ((p : Post) → Sends p → (a : Asked) → answers p.message ≡ Some (a, Reply.Confirmed confirmed.Yes) → ⊥) → d.inc ≤ (let c = w.disk in c.inc)
       → ((u : Uid) → is_prepared u (let c = w.disk in c.names) ≡ true → is_prepared u d.names ≡ true) → Remembers live w.live → IsNamesNode (at k d live M) (the_node k d live) → IsNamesNode Z (the_node k w.disk w.live)
   calm_node = node_still k d live M (IsCalmBut L) Sends D Z w decides recorded asks_none
 
@@ -147,7 +147,7 @@ stop_confirms k d live M core e = mute_confirms k d live M (λ p. ⊥) (Down k M
 abbrev pub HasSame : Disk → Disk → Type 0
 HasSame d c = (c.names ≡ d.names) × ((c.inc ≡ d.inc) × (c.intents ≡ d.intents))
 
-pub apart_same : (how : Stop) (w : Work) (d c : Disk) → IsApart w → HasSame d c → HasSame d (stopped how w c)
+apart_same : (how : Stop) (w : Work) (d c : Disk) → IsApart w → HasSame d c → HasSame d (stopped how w c)
 apart_same Before w d c so h = h
 apart_same After Look d c so h = h
 apart_same After (PutInc i) d c so h = absurd so

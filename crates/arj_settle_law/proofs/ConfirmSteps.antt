@@ -17,9 +17,6 @@ use Rattle.arj_settle_law.proofs.Cores.{IsDone, Recorded}
 use Rattle.arj_settle_law.proofs.Milds.{here_is, now_cases, the_node, was_cases}
 use Rattle.arj_settle_law.proofs.Trails.{Went}
 
-some_is : {A : Type 0} {a b : A} → Some a ≡ Some b → a ≡ b
-some_is {A} {a} {b} is = let k : ◌≡◌ {A = Option A} (Some a) (Some b) = is in cc k
-
 -- who is done now asked naming by marks only where it was recorded, naming confirmed it, and nothing of it was acknowledged
 abbrev pub IsSound : Seen → Seen → Uid → Type 0
 IsSound M Z u = AsksMarked M.sent u → (HasAcked M.sent u 1 → ⊥) × (WasRecorded (records_in Z.nodes) Z.sent u × SaidConfirmed Z.sent u)
@@ -60,7 +57,7 @@ module _ (k : ℕ) (d : Disk) (live : Option Parts) (M : Seen) (Says : Body → 
   old_yes none u (p, i, a, is, act) = ⊎_elim (λ old. (p, old, a, is, act)) (λ new. absurd (none p new.1 a is)) (w.back p i)
 
   -- what is known of acknowledgements goes back
-  pub back_acked : ((u : Uid) → HasAcked Z.sent u 1 → HasAcked M.sent u 1) → ((u : Uid) → AsksMarked Z.sent u → AsksMarked M.sent u ⊎ (IsDone Z u → ⊥)) → ((u : Uid) → IsDone Z u → IsDone (at k d live M) u ⊎ IsSound M Z u)
+  back_acked : ((u : Uid) → HasAcked Z.sent u 1 → HasAcked M.sent u 1) → ((u : Uid) → AsksMarked Z.sent u → AsksMarked M.sent u ⊎ (IsDone Z u → ⊥)) → ((u : Uid) → IsDone Z u → IsDone (at k d live M) u ⊎ IsSound M Z u)
       → (u : Uid) → HasAcked Z.sent u 1 → IsDone Z u → AsksMarked Z.sent u → HasAcked M.sent u 1 × IsDone (at k d live M) u × AsksMarked M.sent u
   back_acked acks asked done u a is c = ⊎_elim
       (λ old. ⊎_elim (λ was. (acks u a, was, old)) (λ new. absurd ((new old).0 (acks u a))) (done u is))

@@ -246,9 +246,6 @@ module _ (k : ℕ) (d : Disk) (t : Parts) (M : Seen) (right : IsNaming (up k d t
   abbrev Start : Seen
   Start = up k d t M
 
-  abbrev post : Post
-  post = record { from = from; to = k; message = m }
-
   pub here : Start.nodes k ≡ Some (the_node k d (Some t))
   here = here_is k d (Some t) M
 

@@ -21,9 +21,6 @@ use Rattle.arj_lock_whole_law.specs.Aborts.{IsPartAsked}
 use Rattle.arj_lock_whole_law.specs.Acks.{HasAcked, IsDemanded, WasRecorded, record_in, records_in}
 use Rattle.arj_settle_law.proofs.Cores.{IsDone, Recorded, split}
 
-some_is : {A : Type 0} {a b : A} → Some a ≡ Some b → a ≡ b
-some_is {A} {a} {b} is = let k : ◌≡◌ {A = Option A} (Some a) (Some b) = is in cc k
-
 -- ---- what stands of a top at naming
 
 -- its coordinator asked naming to confirm
@@ -86,7 +83,7 @@ pub record IsConfirming (M : Seen) : Type 0 where
 
 -- ---- more that was sent
 
-abbrev pub asks_on : (sent more : List Post) → ((p : Post) → In p sent → In p more) → (u : Uid) → AsksConfirm sent u → AsksConfirm more u
+abbrev asks_on : (sent more : List Post) → ((p : Post) → In p sent → In p more) → (u : Uid) → AsksConfirm sent u → AsksConfirm more u
 asks_on sent more on u c = record { post = c.post; head = c.head; grants = c.grants; excluded = c.excluded; included = c.included; posted = on c.post c.posted; to = c.to; asking = c.asking; by = c.by }
 
 pub marked_on : (sent more : List Post) → ((p : Post) → In p sent → In p more) → (u : Uid) → AsksMarked sent u → AsksMarked more u
@@ -116,7 +113,7 @@ part_of_it sent u c = record { post = c.post; head = c.head; ask = ask.Confirm c
 pub to_records : (M : Seen) (u : Uid) → Recorded M u → (i : Intent) × (records_in M.nodes u ≡ Some i)
 to_records M u r = (r.1, ap (record_in u) r.2 ∙ r.3)
 
-pub from_records : (M : Seen) (u : Uid) (i : Intent) → records_in M.nodes u ≡ Some i → Recorded M u
+from_records : (M : Seen) (u : Uid) (i : Intent) → records_in M.nodes u ≡ Some i → Recorded M u
 from_records M u i is = by (M.nodes u.node) refl is
   where
     by : (o : Option Node) → M.nodes u.node ≡ o → record_in u o ≡ Some i → Recorded M u

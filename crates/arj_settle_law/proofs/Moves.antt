@@ -1,11 +1,10 @@
 -- A coordinator hears an answer, takes an input, or sends again, and decides nothing: what holds of outcomes goes on.
 use Rattle.std.proofs.Common.{◌≡◌, ◌≢◌, ◌∙◌, ◌++◌, ◌==◌, ◌&&◌, ◌||◌, ℕ, Bool, true, false, cond, length, List, [], ◌∷◌, map, Option, Some, None, refl, sym, ap, subst, ⊎_elim}
 use Rattle.std.specs.Prelude.{is_some}
-use Rattle.std.specs.List.{AllByRecursion, list_any}
-use Rattle.std.proofs.lemmas.Bool.{and_parts, or_cases}
-use Rattle.arj_base.proofs.Uids.{uid_is}
+use Rattle.std.specs.List.{AllByRecursion}
+use Rattle.std.proofs.lemmas.Bool.{and_parts}
 use Rattle.arj_journal.specs.declared.body.Line.{Line}
-use Rattle.arj_protocol.specs.Words.{Asked, Body, End, Header, Kind, Label, Message, Uid, is_on, uid_eq, uids_of}
+use Rattle.arj_protocol.specs.Words.{Asked, Body, End, Header, Kind, Label, Message, Uid}
 use Rattle.arj_protocol.specs.Words.body
 use Rattle.arj_protocol.specs.Words.ending
 use Rattle.arj_protocol.specs.Words.kind
@@ -24,10 +23,10 @@ use Rattle.arj_protocol.specs.Step.{Input, acts, branch_named, commit_reasons, i
 use Rattle.arj_protocol.specs.Tree.{Branch, root_of}
 use Rattle.arj_part_law.specs.Actions.{Action, paths_of}
 use Rattle.arj_part_law.specs.Claims.{AreTrue, GoesOn}
-use Rattle.arj_part_law.specs.Coords.{IsBusy, IsCommitting, IsGoodCoord, IsVoting}
+use Rattle.arj_part_law.specs.Coords.{IsBusy, IsGoodCoord, IsVoting}
 use Rattle.arj_part_law.specs.Copies.{IsTree}
 use Rattle.arj_part_law.specs.Requests.{AreNumbered}
-use Rattle.arj_part_law.proofs.Begun.{begun_tree, on_own}
+use Rattle.arj_part_law.proofs.Begun.{begun_tree}
 use Rattle.arj_part_law.proofs.CoordInputs.{named_found, off}
 use Rattle.arj_part_law.proofs.GoodTrees.{found_by}
 use Rattle.arj_part_law.proofs.Tellings.{asks_telling}
