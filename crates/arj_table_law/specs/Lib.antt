@@ -1,2 +1,3 @@
 pub mod Tables
 pub mod Shown
+pub mod Fitting
