@@ -175,10 +175,10 @@ module _ (k : ℕ) (d : Disk) (t : Parts) (M : Seen) (right : IsRight (up k d t 
       abbrev gone : Disk
       gone = worked (RemoveIntent u) d
 
-      recs : (x : Uid) (j : Intent) → at_uid x (without_uid u d.intents) ≡ Some j → at_uid x d.intents ≡ Some j
+      pub recs : (x : Uid) (j : Intent) → at_uid x (without_uid u d.intents) ≡ Some j → at_uid x d.intents ≡ Some j
       recs x j z = (without_cases x u j d.intents sorted z).1
 
-      lists : (x : Uid) (j : Intent) (n : ℕ) → at_uid x d.intents ≡ Some j → has j.nodes n ≡ true → (at_uid x (without_uid u d.intents) ≡ Some j) ⊎ IsAcked M.sent n x
+      pub lists : (x : Uid) (j : Intent) (n : ℕ) → at_uid x d.intents ≡ Some j → has j.nodes n ≡ true → (at_uid x (without_uid u d.intents) ≡ Some j) ⊎ IsAcked M.sent n x
       lists x j n z on = ⊎_elim
           (λ one. ⊎_elim
           (λ waits. ⊎_elim

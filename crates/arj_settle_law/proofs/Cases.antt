@@ -99,7 +99,7 @@ response_last a (Reply.Prepared r) u is = cc is
 response_last a (Reply.Confirmed r) u is = cc is
 
 reply_idle : (a : Asked) (r : Reply) → IsOtherReply r → IsIdleSend (response a r)
-reply_idle a r other = (((λ h states is. let no_way : ◌≡◌ {A = Option (Head × Ask)} None (Some (h, ask.Prepare states)) = sym (no_request a r) ∙ is in cc no_way), (λ u is. response_last a r u is)), ((λ b is. let q : Some (a, r) ≡ Some (b, Reply.Prepared prepared.Yes) = sym (response_reads_back a r) ∙ is in let s : r ≡ Reply.Prepared prepared.Yes = ap (λ (z : Asked × Reply). z.1) (some_is q) in subst IsOtherReply s other), (λ u is. response_acks a r u is)))
+reply_idle a r other = (((λ h q is. let no_way : ◌≡◌ {A = Option (Head × Ask)} None (Some (h, q)) = sym (no_request a r) ∙ is in cc no_way), (λ u is. response_last a r u is)), ((λ b is. let q : Some (a, r) ≡ Some (b, Reply.Prepared prepared.Yes) = sym (response_reads_back a r) ∙ is in let s : r ≡ Reply.Prepared prepared.Yes = ap (λ (z : Asked × Reply). z.1) (some_is q) in subst IsOtherReply s other), (λ u is. response_acks a r u is)))
 
 queries_beside : (us : List Uid) → AllBeside (map query_about us)
 queries_beside us = all_map IsBeside query_about us (λ u. (((λ h states is. cc is), (λ w is. cc is)), ((λ a is. cc is), (λ w is. cc is))))

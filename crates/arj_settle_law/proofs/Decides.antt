@@ -72,7 +72,7 @@ module _ (k : ℕ) (d : Disk) (t : Parts) (M : Seen) (right : IsRight (up k d t 
   coords : IsGoodCoord begun (paths_of begun) t.coord
   coords = coord Start right.0 k (the_node k d (Some t)) t here refl
 
-  watched : IsWatched Start k (the_node k d (Some t)) t
+  pub watched : IsWatched Start k (the_node k d (Some t)) t
   watched = let core = right.1 in core.coords k (the_node k d (Some t)) t here refl
 
   pub voting : IsVoting t.coord.tree u p
@@ -112,7 +112,7 @@ module _ (k : ℕ) (d : Disk) (t : Parts) (M : Seen) (right : IsRight (up k d t 
       (λ marked. inr (watched.marked u q (Confirming p) found now n marked))
       (watched.votes u q (Confirming p) found now n (subst (λ j. AskedFrom j M.sent u n) home asked))
 
-  listed : (n : ℕ) → has p.prepared n ≡ true → has (participants (record p { confirmed = true })) n ≡ true
+  pub listed : (n : ℕ) → has p.prepared n ≡ true → has (participants (record p { confirmed = true })) n ≡ true
   listed n on = has_set (servers_of P ++ p.prepared ++ naming_node P) n (has_both (servers_of P ++ p.prepared) (naming_node P) n (inl (has_both (servers_of P) p.prepared n (inr on))))
 
   pub its_label : (x : Uid) → uid_in (let B = book M.lines in B.acts) q.label ≡ Some x → x ≡ u
@@ -260,7 +260,7 @@ module _ (k : ℕ) (d : Disk) (t : Parts) (M : Seen) (right : IsRight (up k d t 
             r = on_root (root_of p.path) (root_after P) (on_doing (actor p.path) (λ (z : Doing). record z { took = participants P }) (ended (actor p.path) ending.Commit t.coord))
 
     -- without a record no store prepared
-    unrecorded : (n : ℕ) → has_record (record p { confirmed = true }) ≡ false → has p.prepared n ≡ true → ⊥
+    pub unrecorded : (n : ℕ) → has_record (record p { confirmed = true }) ≡ false → has p.prepared n ≡ true → ⊥
     unrecorded n none on = by p.prepared refl on
       where
         by : (ps : List ℕ) → p.prepared ≡ ps → has ps n ≡ true → ⊥

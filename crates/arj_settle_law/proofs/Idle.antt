@@ -13,16 +13,13 @@ use Rattle.arj_view_law.proofs.Happens.{runs_asked}
 use Rattle.arj_address_law.specs.Addresses.{AreAddressed, IsNode}
 use Rattle.arj_address_law.proofs.Runs.{kept}
 use Rattle.arj_round_law.specs.Quiet.{AreQuiet, SettlesAll}
-use Rattle.arj_round_law.specs.Rounds.{AnswersWaits}
 use Rattle.arj_round_law.proofs.Fits.{runs_few}
 use Rattle.arj_round_law.proofs.GiveUps.{one_more, round_settles, runs_on}
 use Rattle.arj_round_law.proofs.Quiesces.{asked_both, keeps_good}
 use Rattle.arj_round_law.proofs.Quiets.{quiesce_settles}
-use Rattle.arj_wait_law.specs.Waits.{WaitsAreKnown}
-use Rattle.arj_wait_law.proofs.Gives.{known_give}
-use Rattle.arj_wait_law.proofs.Keeping.{waits_keep}
 use Rattle.arj_settle_law.specs.Settled.{EndsQuiet, KnowsPrepared, QuiescesIdle, RoundsIdle}
 use Rattle.arj_settle_law.proofs.Settled.{handlers_settle}
+use Rattle.arj_settle_law.proofs.Waiting.{AllKnown, all_answer, all_kept}
 use Rattle.std.specs.Prelude.{◌&&◌, nat_le, slice_get}
 use Rattle.std.specs.List.{list_all}
 
@@ -35,14 +32,6 @@ settles_less hd P Q less s = record {
   naming = λ n d t M u q is. s.naming n d t M u (less _ q) is;
   awaited = λ n d t M u i q is. s.awaited n d t M u i (less _ q) is;
   prepared = λ n d t M k a u q found is home. s.prepared n d t M k a u (less _ q) found is home;
-}
-
-answers_less : (hd : Header) (P Q : Seen → Type 0) → ((M : Seen) → Q M → P M) → AnswersWaits hd P → AnswersWaits hd Q
-answers_less hd P Q less s = record {
-  within = λ M p q there. s.within M p (less M q) there;
-  calls = λ j d t M c u x y q found now h void. s.calls j d t M c u x y (less _ q) found now h void;
-  meant = λ j d t M p a r x y q there to is found now waits. s.meant j d t M p a r x y (less _ q) there to is found now waits;
-  commits = λ j d t M c u x m n q found now left h void. s.commits j d t M c u x m n (less _ q) found now left h void;
 }
 
 -- ---- the line
@@ -101,11 +90,10 @@ quiesces_idle hd form es e none nobody is over last ups = ends_quiet hd e (run_a
     s = handlers_settle hd form
 
 pub rounds_idle : RoundsIdle
-rounds_idle hd form test keeps rest es gs e f is all last over went ups over_w nobody over_f ups_f = ends_quiet hd f (run_all gs (run_event e (run_all es (format hd)))) (subst (Holds hd (AreAddressed hd)) whole (runs_asked hd (AreAddressed hd) (kept hd form) (((es ++ e ∷ []) ++ gs) ++ f ∷ []))) last over_w over_f
-    (round_settles hd (λ M. KnowsPrepared hd M × (WaitsAreKnown hd M × (test M ≡ true)))
-    (asked_both hd (KnowsPrepared hd) (λ M. WaitsAreKnown hd M × (test M ≡ true)) s.0 (asked_both hd (WaitsAreKnown hd) (λ M. test M ≡ true) (waits_keep hd form) keeps))
-    (answers_less hd (λ M. WaitsAreKnown hd M × (test M ≡ true)) (λ M. (KnowsPrepared hd M × (WaitsAreKnown hd M × (test M ≡ true))) × IsGood M) (λ M q. q.0.1) (known_give hd form test rest))
-    (settles_less hd (KnowsPrepared hd) (λ M. (KnowsPrepared hd M × (WaitsAreKnown hd M × (test M ≡ true))) × IsGood M) (λ M q. q.0.0) s.1) es gs e f is all last over went ups over_w nobody over_f ups_f)
+rounds_idle hd form es gs e f is all last over went ups over_w nobody over_f ups_f = ends_quiet hd f (run_all gs (run_event e (run_all es (format hd)))) (subst (Holds hd (AreAddressed hd)) whole (runs_asked hd (AreAddressed hd) (kept hd form) (((es ++ e ∷ []) ++ gs) ++ f ∷ []))) last over_w over_f
+    (round_settles hd (λ M. KnowsPrepared hd M × AllKnown hd M) (asked_both hd (KnowsPrepared hd) (AllKnown hd) s.0 (all_kept hd form))
+    (all_answer hd form (λ M. (KnowsPrepared hd M × AllKnown hd M) × IsGood M) (λ M q. q.0.1))
+    (settles_less hd (KnowsPrepared hd) (λ M. (KnowsPrepared hd M × AllKnown hd M) × IsGood M) (λ M q. q.0.0) s.1) es gs e f is all last over went ups over_w nobody over_f ups_f)
   where
     whole : run_all (((es ++ e ∷ []) ++ gs) ++ f ∷ []) (format hd) ≡ run_event f (run_all gs (run_event e (run_all es (format hd))))
     whole = one_more hd ((es ++ e ∷ []) ++ gs) f ∙ ap (run_event f) (runs_on (es ++ e ∷ []) gs (format hd) ∙ ap (run_all gs) (one_more hd es e))

@@ -2,7 +2,6 @@ pub mod Asked
 pub mod AskedWalks
 pub mod Askers
 pub mod Settled
-pub mod Idle
 pub mod Last
 pub mod Causes
 pub mod Calms
@@ -37,4 +36,16 @@ pub mod ConfirmMoves
 pub mod Rights
 pub mod ConfirmStarts
 pub mod ConfirmRuns
+pub mod Joins
+pub mod JoinRuns
+pub mod Stocks
+pub mod StockParts
+pub mod StockCoords
+pub mod StockRuns
+pub mod Listings
+pub mod ListingNames
+pub mod ListingRuns
+pub mod Stored
+pub mod Waiting
+pub mod Idle
 pub mod Aborting

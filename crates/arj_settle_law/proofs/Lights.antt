@@ -2,7 +2,7 @@
 use Rattle.std.proofs.Common.{◌≡◌, ◌⊎◌, ◌∙◌, ◌++◌, ℕ, true, List, [], ◌∷◌, Option, Some, None, refl, sym, ap, subst, inl, inr, ⊎_elim}
 use Rattle.std.specs.Prelude.{⊤}
 use Rattle.std.specs.List.{AllByRecursion}
-use Rattle.arj_protocol.specs.Words.{Asked, Body, Head, Line, Message, ObjectState, Uid, asks}
+use Rattle.arj_protocol.specs.Words.{Ask, Asked, Body, Head, Line, Message, ObjectState, Uid, asks}
 use Rattle.arj_protocol.specs.Words.ask
 use Rattle.arj_protocol.specs.Words.body
 use Rattle.arj_protocol.specs.Words.ending
@@ -44,7 +44,7 @@ IsNoEnd (body.Recovered n x) = ⊥
 IsNoEnd (body.Done n u r e) = IsNoDrop r e
 IsNoEnd b = ⊤
 
-undeciding : (b : Body) → IsNoEnd b → IsUndeciding b
+pub undeciding : (b : Body) → IsNoEnd b → IsUndeciding b
 undeciding (body.Committed l) so = absurd so
 undeciding (body.Recovered n x) so = absurd so
 undeciding b so = tt
@@ -131,9 +131,9 @@ aside_these (InPart which) (Abort r u) d c so h = h
 aside_these (InPart which) (PutIntent u i) d c so h = h
 aside_these (InPart which) (RemoveIntent u) d c so h = h
 
--- it prepares nothing, tells no abort, says no Yes, and acknowledges nothing
+-- it asks nothing, tells no abort, says no Yes, and acknowledges nothing
 abbrev pub IsIdleSend : Message → Type 0
-IsIdleSend m = (((h : Head) (states : List ObjectState) → asks m ≡ Some (h, ask.Prepare states) → ⊥) × ((u : Uid) → last_end (told_by m) ≡ Some (u, ending.Abort) → ⊥)) × IsNoAnswer m
+IsIdleSend m = (((h : Head) (a : Ask) → asks m ≡ Some (h, a) → ⊥) × ((u : Uid) → last_end (told_by m) ≡ Some (u, ending.Abort) → ⊥)) × IsNoAnswer m
 
 abbrev pub IsBeside : Effect → Type 0
 IsBeside (Say b) = IsNoEnd b

@@ -53,7 +53,7 @@ use Rattle.arj_settle_law.proofs.Yeses.{AskedFrom, Votes, answer_votes, giveup_v
 some_is : {A : Type 0} {a b : A} → Some a ≡ Some b → a ≡ b
 some_is {A} {a} {b} is = let k : ◌≡◌ {A = Option A} (Some a) (Some b) = is in cc k
 
-plain_sends : (c : Coord) (outs : List Effect) → AreTrue c outs → AllByRecursion IsPlainSend outs
+pub plain_sends : (c : Coord) (outs : List Effect) → AreTrue c outs → AllByRecursion IsPlainSend outs
 plain_sends c [] all = tt
 plain_sends c (Say b ∷ es) all = (tt, plain_sends c es all.1)
 plain_sends c (Do w ∷ es) all = (tt, plain_sends c es all.1)
@@ -70,15 +70,15 @@ again_telling (q ∷ ds) c = again_telling ds (again_now c q.now).part ∙ now q
     now (Calling s) = refl
     now (Committing m) = asks_telling (plan_of m).path (plan_of m).req (commit.waiting m) c
 
-plain_both : (xs ys : List Effect) → AllByRecursion IsPlainSend xs → AllByRecursion IsPlainSend ys → AllByRecursion IsPlainSend (xs ++ ys)
+pub plain_both : (xs ys : List Effect) → AllByRecursion IsPlainSend xs → AllByRecursion IsPlainSend ys → AllByRecursion IsPlainSend (xs ++ ys)
 plain_both [] ys a b = b
 plain_both (x ∷ xs) ys a b = (a.0, plain_both xs ys a.1 b)
 
-queries_plain : (us : List Uid) → AllByRecursion IsPlainSend (map query_about us)
+pub queries_plain : (us : List Uid) → AllByRecursion IsPlainSend (map query_about us)
 queries_plain [] = tt
 queries_plain (u ∷ us) = (((λ a q. cc q), (λ w q. cc q)), queries_plain us)
 
-tolds_plain : (telling : List (Uid × Intent)) → AllByRecursion IsPlainSend (tolds_again telling)
+pub tolds_plain : (telling : List (Uid × Intent)) → AllByRecursion IsPlainSend (tolds_again telling)
 tolds_plain [] = tt
 tolds_plain (x ∷ es) = let i = x.1 in plain_both (tell_all i.root true ((x.0, ending.Commit) ∷ []) i.nodes) (tolds_again es) (one i.nodes) (tolds_plain es)
   where
@@ -162,7 +162,7 @@ module _ (k : ℕ) (d : Disk) (t : Parts) (M : Seen) (right : IsRight (up k d t 
     its_marks lines more are said rights = at_heard (HasMarks lines) t.coord (λ u q z found now. subst (λ ls. HasMarks ls u z) (sym are) (marks_on M.lines more u z (watched.marked u q z found now))) from a r d.intents
         (λ q z found now waiting v. answer_marks lines a.act from z r v (excludes lines a.act t.coord q found (commit.answered from z r).marks (λ x n says. excluded_here a.act q found z now x n lines (said (body.Excluded q.label x n) (subst (SaysIn (body.Excluded q.label x n)) (sym (its_outs q z found now waiting)) (says_left (body.Excluded q.label x n) (mark_lines a.act (commit.answered from z r).marks t.coord) _ says))) rights)))
 
-    goes : Goes (Unasked k d t M right) (IsYes a r) t.coord its.part its.outs
+    pub goes : Goes (Unasked k d t M right) (IsYes a r) t.coord its.part its.outs
     goes = heard_goes (Unasked k d t M right) begun (paths_of begun) tree t.coord coords long uses from a r d.intents
 
     pub well : GoesOn t.coord its.part × AreTrue its.part its.outs
@@ -211,7 +211,7 @@ module _ (k : ℕ) (d : Disk) (t : Parts) (M : Seen) (right : IsRight (up k d t 
     pub act_well : GoesOn t.coord does.part × AreTrue does.part does.outs
     act_well = well_acts begun (paths_of begun) tree d.intents t.coord coords long hd i free other
 
-    act_goes : Goes (Unasked k d t M right) (λ u. ⊥) t.coord does.part does.outs
+    pub act_goes : Goes (Unasked k d t M right) (λ u. ⊥) t.coord does.part does.outs
     act_goes = acts_goes (Unasked k d t M right) begun (paths_of begun) tree t.coord coords long uses i d.intents other (λ l b same found named. none_asked l b same named)
 
     -- a step given up

@@ -4,6 +4,7 @@ use Rattle.std.specs.List.{AllByRecursion, list_all}
 use Rattle.std.proofs.lemmas.Bool.{and_parts}
 use Rattle.arj_lock.proofs.Members.{in_from, in_to}
 use Rattle.arj_protocol.specs.Words.{Body, End, Header, Kind, Label, Line, Message, Uid}
+use Rattle.arj_protocol.specs.Words.ask
 use Rattle.arj_protocol.specs.Words.body
 use Rattle.arj_protocol.specs.Words.ending
 use Rattle.arj_protocol.specs.Asking.{begin_action, heard}
@@ -227,7 +228,7 @@ module _ (hd : Header) (k : ℕ) (d : Disk) (M : Seen) (right : IsRight (down k 
   puts : FitsSo k M Says Sends (quiet_mild Found (let B = book M.lines in B.acts)) tt (HasThese d) (Do (PutInc (d.inc + 1)))
   puts c these how = aside_these how (PutInc (d.inc + 1)) d c tt these
 
-  restart_fits : AllByRecursion Fits (restart_outs hd k (d.inc + 1) d)
+  pub restart_fits : AllByRecursion Fits (restart_outs hd k (d.inc + 1) d)
   restart_fits = all_both Fits four hellos (all_both Fits three asking (all_both Fits two (tolds_again d.intents) (all_both Fits one records (looks, (puts, (tt, (looks, back_fit (naming_at k (d.inc + 1) d.names)))))
       (looks, records_fit d.intents (λ x i there. (i, in_at (x, i) d.intents sorted (in_from (x, i) d.intents there))))) (tolds_fit d.intents))
       (queries_fit (uid_set (prepared_actions d.store ++ prepared_actions d.names))))
@@ -277,7 +278,7 @@ module _ (hd : Header) (k : ℕ) (d : Disk) (M : Seen) (right : IsRight (down k 
     back = λ u n tells asked x. lists_back k d None M Says Sends (Either (HasThese d) new) Z w w.fits.0.1 u n x;
     keeps = λ u on. inl (ap (is_prepared u) w.fits.0.0 ∙ on);
     new = λ u on. inl (ap (is_prepared u) (sym w.fits.0.0) ∙ on);
-    asks = λ p so h states is. absurd (let z = so.0 in z.0 h states is);
+    asks = λ p so h states is. absurd (let z = so.0 in z.0 h (ask.Prepare states) is);
     tells = λ p so u last asked x. let z = so.0 in z.1 u last;
     yeses = λ p so a is. absurd (let z = so.1 in z.0 a is);
     acks = λ p so u is. absurd (let z = so.1 in z.1 u is);

@@ -42,7 +42,7 @@ abbrev pub WasHeard : List Post → Uid → Plan → ℕ → Type 0
 WasHeard sent u p n = ((has p.prepared n ≡ true) × SaidYes sent n u) ⊎ IsMarked p n
 
 -- what is included somewhere was loaded
-abbrev Loads : Plan → Type 0
+abbrev pub Loads : Plan → Type 0
 Loads p = AllByRecursion (λ (u : Used). (s : ℕ) → has u.joins s ≡ true → is_some u.loaded ≡ true) p.used
 
 -- Nobody was asked while the servers vote; then targets of the plan; and once all have answered, each was heard.
@@ -69,7 +69,7 @@ mark_keeps f m (k ∷ ks) is = by (nat_lt k.0 m.0 || ((k.0 == m.0) && nat_lt k.1
     by true ih = first (f k) is ih
     by false ih = second (f m) (f k || list_any f ks) is
 
-mark_has : (f : ℕ × ℕ → Bool) (m : ℕ × ℕ) (ks : List (ℕ × ℕ)) → f m ≡ true → list_any f (with_mark m ks) ≡ true
+pub mark_has : (f : ℕ × ℕ → Bool) (m : ℕ × ℕ) (ks : List (ℕ × ℕ)) → f m ≡ true → list_any f (with_mark m ks) ≡ true
 mark_has f m [] is = ap (λ b. b || false) is
 mark_has f m (k ∷ ks) is = by (nat_lt k.0 m.0 || ((k.0 == m.0) && nat_lt k.1 m.1)) (mark_has f m ks is)
   where
@@ -81,7 +81,7 @@ mark_has f m (k ∷ ks) is = by (nat_lt k.0 m.0 || ((k.0 == m.0) && nat_lt k.1 m
     by true ih = second (f k) (list_any f (with_mark m ks)) ih
     by false ih = ap (λ b. b || (f k || list_any f ks)) is
 
-marks_keep : (f : ℕ × ℕ → Bool) (ms ks : List (ℕ × ℕ)) → list_any f ks ≡ true → list_any f (with_marks ms ks) ≡ true
+pub marks_keep : (f : ℕ × ℕ → Bool) (ms ks : List (ℕ × ℕ)) → list_any f ks ≡ true → list_any f (with_marks ms ks) ≡ true
 marks_keep f [] ks is = is
 marks_keep f (m ∷ ms) ks is = marks_keep f ms (with_mark m ks) (mark_keeps f m ks is)
 
@@ -107,7 +107,7 @@ with_cases m (k ∷ ns) n is = by (nat_cmp m k) is (with_cases m ns n)
     by Equal e ih = inr e
     by Greater e ih = ⊎_elim (λ same. inr (ap (λ b. b || has ns n) same)) (λ rest. ⊎_elim (λ here. inl here) (λ there. inr (second (k == n) (has ns n) there)) (ih rest)) (or_cases (k == n) (has (with_number m ns) n) e)
 
-in_set : (ns : List ℕ) (n : ℕ) → has (number_set ns) n ≡ true → has ns n ≡ true
+pub in_set : (ns : List ℕ) (n : ℕ) → has (number_set ns) n ≡ true → has ns n ≡ true
 in_set [] n is = absurd (cc is)
 in_set (m ∷ ns) n is = ⊎_elim (λ same. ap (λ b. b || has ns n) same) (λ rest. second (m == n) (has ns n) (in_set ns n rest)) (with_cases m (number_set ns) n is)
   where
@@ -150,7 +150,7 @@ targets_sent s p loads is = by p.used loads (in_set (flat_map (λ (u : Used). st
         (in_either (stores_by u (commit.changed_of u.x p)) (flat_map (λ (v : Used). stores_by v (commit.changed_of v.x p)) us) s on)
 
 -- what a plan includes is loaded as it begins
-plan_loads : (path : Path) (req : ℕ) (r : Root) (c : Coord) → Loads (plan_for path req r c)
+pub plan_loads : (path : Path) (req : ℕ) (r : Root) (c : Coord) → Loads (plan_for path req r c)
 plan_loads path req r c = all (objects_in (actor path) r c)
   where
     later : (s : ObjectState) (js : List Joined) → is_some (latest_of (Some s) js) ≡ true
@@ -192,14 +192,14 @@ module _ (k : ℕ) (sent : List Post) (u : Uid) where
   stores_next [] q loads aims each = confirm_next q.used q (λ n asked. ⊎_elim (λ on. absurd (cc on)) (λ heard. heard) (each n asked))
   stores_next (s ∷ ss) q loads aims each = (loads, aims, each)
 
-  left_cases : (from n : ℕ) (left : List ℕ) → has left n ≡ true → (n ≡ from) ⊎ (has (without_number from left) n ≡ true)
+  pub left_cases : (from n : ℕ) (left : List ℕ) → has left n ≡ true → (n ≡ from) ⊎ (has (without_number from left) n ≡ true)
   left_cases from n left on = by (n == from) refl
     where
       by : (b : Bool) → (n == from) ≡ b → (n ≡ from) ⊎ (has (without_number from left) n ≡ true)
       by true same = inl (eqb-true n from same)
       by false other = inr (has_without from n left ∙ (λ i. on i && not (other i)))
 
-  left_less : (from n : ℕ) (left : List ℕ) → has (without_number from left) n ≡ true → has left n ≡ true
+  pub left_less : (from n : ℕ) (left : List ℕ) → has (without_number from left) n ≡ true → has left n ≡ true
   left_less from n left on = by (has left n) (sym (has_without from n left) ∙ on)
     where
       by : (b : Bool) → (b && not (n == from)) ≡ true → b ≡ true

@@ -1,4 +1,5 @@
 pub mod Prepared
+pub mod Overtaken
 pub mod Settled
 pub mod Last
 pub mod Outcomes

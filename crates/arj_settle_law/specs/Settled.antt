@@ -1,5 +1,5 @@
 -- What holds in every run, of which nothing that is prepared is left for ever; and what a quiesce and the stated round leave.
-use Rattle.std.specs.Prelude.{◌≡◌, ◌⊎◌, ◌++◌, ℕ, Bool, true, false, List, [], ◌∷◌, Some, None}
+use Rattle.std.specs.Prelude.{◌≡◌, ◌⊎◌, ◌++◌, ℕ, true, false, List, [], ◌∷◌, Some, None}
 use Rattle.std.specs.List.{AllByRecursion}
 use Rattle.arj_journal.specs.ScriptForm.{HeaderInForm}
 use Rattle.arj_protocol.specs.Words.{Header, Line}
@@ -17,7 +17,6 @@ use Rattle.arj_address_law.specs.Binds.{BindsAreKnown}
 use Rattle.arj_disk_run_law.specs.Records.{AreRecorded}
 use Rattle.arj_round_law.specs.Quiet.{AreGivenUp, AreQuiet, IsGiveUp, NobodyWaits, SettlesAll}
 use Rattle.arj_round_law.specs.Rounds.{AreUp}
-use Rattle.arj_wait_law.specs.Waits.{AnswersRest, WaitsAreKnown}
 use Rattle.arj_settle_law.specs.Prepared.{AskersAreSettled, PreparedWereAsked}
 
 -- records are as records are, and whoever has something prepared was asked for it, for the actions that were begun
@@ -49,9 +48,8 @@ QuiescesIdle = (hd : Header) → HeaderInForm hd → (es : List Asked) (e : Aske
     → e.event ≡ event.Quiesce → w.over ≡ false → (run_event e w).over ≡ false → AreUp (run_event e w) → EndsQuiet (run_event e w)
 
 -- So does the stated round, in every run: a quiesce, giveups of each action that waits then, and a second quiesce, where every node stays
--- up in both and no limit is met (or any giveups behind which nobody waits). What is still to be given of requests for which somebody waits is
--- taken of a relation that is kept.
+-- up in both and no limit is met (or any giveups behind which nobody waits).
 abbrev pub RoundsIdle : Type 0
-RoundsIdle = (hd : Header) → HeaderInForm hd → (test : Seen → Bool) → KeepsAsked hd (λ M. test M ≡ true) → AnswersRest (λ M. WaitsAreKnown hd M × (test M ≡ true))
+RoundsIdle = (hd : Header) → HeaderInForm hd
     → (es gs : List Asked) (e f : Asked) → let u = run_all es (format hd) in let v = run_event e u in let w = run_all gs v in e.event ≡ event.Quiesce → AllByRecursion IsGiveUp gs → f.event ≡ event.Quiesce
     → u.over ≡ false → v.over ≡ false → AreUp v → w.over ≡ false → AreGivenUp gs v ⊎ NobodyWaits w → (run_event f w).over ≡ false → AreUp (run_event f w) → EndsQuiet (run_event f w)

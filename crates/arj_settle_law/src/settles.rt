@@ -1,5 +1,6 @@
 // What a quiesce and the stated round leave, in every run.
 ghost use Rattle.arj_settle_law.specs.Last.{IdleFilesHoldTheLast};
+ghost use Rattle.arj_settle_law.specs.Overtaken.{RunsLeaveOvertaken};
 ghost use Rattle.arj_settle_law.specs.Settled.{HandlersSettle, QuiescesIdle, RoundsIdle};
 
 /// Each handler keeps, wherever a stop falls, that each record is told again and waits for somebody's acknowledgement, and that whoever has
@@ -17,10 +18,16 @@ pub fn quiesces_leave_nodes_idle()
     ensures { QuiescesIdle }
 {}
 
+/// In the run of every script over a header in form, after a quiesce in which every node stays up and no limit is met, nobody waits but calls
+/// that are overtaken. It takes nothing: a store that a list names has a state of the object, or a decided top that includes it has it
+/// prepared. It does nothing when it runs.
+pub fn only_overtaken_calls_wait()
+    ensures { RunsLeaveOvertaken }
+{}
+
 /// In every run the stated round leaves every node idle, and its last line says so: a quiesce, a giveup of each action that waits then,
 /// by any label that stands for it at its node, and a second quiesce, where every node stays up and no limit is met (or any giveups
-/// behind which nobody waits). What is still to be given of requests for which somebody waits (`AnswersRest` of `arj_wait_law`) is taken
-/// of a relation that is kept. It does nothing when it runs.
+/// behind which nobody waits). It does nothing when it runs.
 pub fn rounds_leave_nodes_idle()
     ensures { RoundsIdle }
 {}

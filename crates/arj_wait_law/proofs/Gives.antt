@@ -32,7 +32,7 @@ use Rattle.arj_disk_run_law.specs.Entries.{IsEntryNode, KnowsEntries}
 use Rattle.arj_lock_fact_law.specs.Entries.{HasObject}
 use Rattle.arj_protocol.specs.Order.{at_number, at_uid, binding_eq, binding_less, binding_number, has, unbound}
 use Rattle.arj_past_law.specs.Told.{ArePastIn}
-use Rattle.arj_wait_law.specs.Waits.{AnswersRest, HasStored, KnownGive, WaitsAreKnown}
+use Rattle.arj_wait_law.specs.Waits.{HasStored, KnownGive, LoadsFind, WaitsAreKnown}
 use Rattle.arj_wait_law.proofs.Known.{all_send, are_objects, class_is, copy_fits, has_each, keyed_at, loads_own, not_below, object_is, op_fits, used_is, waits_req}
 use Rattle.arj_wait_law.proofs.Replies.{activate_answers, bind_answers, confirm_answers, invoke_answers, load_answers, prepare_answers, record_answers, taken_void, vote_answers}
 use Rattle.arj_wait_law.proofs.Uncommitted.{already_written, uncommitted}
@@ -508,10 +508,10 @@ module _ (hd : Header) (j : ℕ) (d : Disk) (t : Parts) (M : Seen) (known : Wait
   answer_meant (Reply.Confirmed r) is waits = refl
 
 -- so it is with any relation by which so much is known
-pub known_give_by : (hd : Header) → HeaderInForm hd → (P : Seen → Type 0) → ((M : Seen) → P M → WaitsAreKnown hd M) → AnswersRest P → AnswersWaits hd P
+pub known_give_by : (hd : Header) → HeaderInForm hd → (P : Seen → Type 0) → ((M : Seen) → P M → WaitsAreKnown hd M) → LoadsFind P → AnswersWaits hd P
 known_give_by hd form P to rest = record {
   within = λ M p r sent. let k = (to M r).0.0.1 in let so = k.1 in let z = so.1 p sent in z.1;
-  calls = λ j d t M c u q s r does now h void_it. call_given hd form j d t M (to (up j d t M) r) c u q does s now h (λ k n later is. rest.loads j d t M c u q s k n later r does now is h) void_it;
+  calls = λ j d t M c u q s r does now h void_it. call_given hd form j d t M (to (up j d t M) r) c u q does s now h (λ k n later is. rest j d t M c u q s k n later r does now is h) void_it;
   meant = λ j d t M p a x q s r sent at is does now waits. answer_meant hd j d t M (to (up j d t M) r) p a q s sent at does now x is waits;
   commits = λ j d t M c u q m n r does now left h void_it. commit_given hd form j d t M (to (up j d t M) r) c u q does m n now left h void_it;
 }

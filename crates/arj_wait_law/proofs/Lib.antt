@@ -16,4 +16,3 @@ pub mod AskedRuns
 pub mod Home
 pub mod Gives
 pub mod Keeping
-pub mod Waiting

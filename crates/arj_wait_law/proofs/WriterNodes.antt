@@ -46,7 +46,7 @@ step_none x g (AtInvoke k i) is = cc is
 -- ---- pairs
 
 -- an entry that is put into a map, by its key
-put_at : {X : Type 0} (Q : Uid → X → Type 0) (u : Uid) (v : X) (m : List (Uid × X)) → Q u v → AllByRecursion (λ (e : Uid × X). Q e.0 e.1) m → AllByRecursion (λ (e : Uid × X). Q e.0 e.1) (put_uid u v m)
+pub put_at : {X : Type 0} (Q : Uid → X → Type 0) (u : Uid) (v : X) (m : List (Uid × X)) → Q u v → AllByRecursion (λ (e : Uid × X). Q e.0 e.1) m → AllByRecursion (λ (e : Uid × X). Q e.0 e.1) (put_uid u v m)
 put_at Q u v [] its all = (its, tt)
 put_at {X} Q u v (e ∷ es) its all = by (uid_order u e.0) refl (put_at Q u v es its all.1)
   where

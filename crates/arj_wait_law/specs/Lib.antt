@@ -1,4 +1,3 @@
 pub mod Asked
 pub mod Writers
 pub mod Waits
-pub mod Runs

@@ -1,4 +1,4 @@
--- So much is known of whoever waits, in every run; and what is still to be given of requests for which somebody waits.
+-- So much is known of whoever waits, in every run; and what it gives of requests for which somebody waits.
 use Rattle.std.specs.Prelude.{Bool, List, Some, is_some, true, ℕ, ◌||◌, ◌≡◌}
 use Rattle.arj_journal.specs.ScriptForm.{HeaderInForm}
 use Rattle.arj_protocol.specs.Words.{Header, Uid, object}
@@ -40,16 +40,16 @@ WaitsAreKnown hd M = (((EndsArePast M × RequestsAreKnown M) × AreAddressed hd 
 abbrev pub HandlersKeepWaits : Type 0
 HandlersKeepWaits = (hd : Header) → HeaderInForm hd → KeepsAsked hd (WaitsAreKnown hd)
 
--- ---- what is still to be given
+-- ---- where a Load comes
 
 -- the store is asked for a state that it has, or another action has prepared it
 abbrev pub HasStored : Disk → ℕ → Type 0
 HasStored d x = (is_some (holder_of (object x) d.store) || is_some (held_at (object x) d.store)) ≡ true
 
--- Where a Load that a call waits for has come, the store has a state. No other request needs anything.
-pub record AnswersRest (R : Seen → Type 0) : Type 0 where
-  pub loads : (j : ℕ) (d : Disk) (t : Parts) (M : Seen) (c : Coord) (u : Uid) (q : Doing) (s : Steps) (k : Known) (n : ℕ) (later : List ℕ) → R (up j d t M) → doing_of u c ≡ Some q → q.now ≡ Calling s → s.at ≡ AtLoad k n later → HasCome j (up j d t M) c (want_of_call u s) → HasStored d s.x
+-- So it is where a Load that a call waits for has come. `arj_settle_law` gives it in every run.
+abbrev pub LoadsFind : (Seen → Type 0) → Type 0
+LoadsFind R = (j : ℕ) (d : Disk) (t : Parts) (M : Seen) (c : Coord) (u : Uid) (q : Doing) (s : Steps) (k : Known) (n : ℕ) (later : List ℕ) → R (up j d t M) → doing_of u c ≡ Some q → q.now ≡ Calling s → s.at ≡ AtLoad k n later → HasCome j (up j d t M) c (want_of_call u s) → HasStored d s.x
 
--- With it no request for which somebody waits is void, but one of a call that is overtaken.
+-- With it no request for which somebody waits is void, but one of a call that is overtaken. No other request needs anything.
 abbrev pub KnownGive : Type 0
-KnownGive = (hd : Header) → HeaderInForm hd → (test : Seen → Bool) → AnswersRest (λ M. WaitsAreKnown hd M × (test M ≡ true)) → AnswersWaits hd (λ M. WaitsAreKnown hd M × (test M ≡ true))
+KnownGive = (hd : Header) → HeaderInForm hd → (test : Seen → Bool) → LoadsFind (λ M. WaitsAreKnown hd M × (test M ≡ true)) → AnswersWaits hd (λ M. WaitsAreKnown hd M × (test M ≡ true))

@@ -1,22 +1,25 @@
 -- After a quiesce only calls that are overtaken wait, in every run.
 use Rattle.std.proofs.Common.{◌≡◌, ℕ, true, false, [], Some, sym, ◌∙◌, ap, subst, ⊎_elim}
-use Rattle.arj_protocol.specs.Words.{Uid}
+use Rattle.arj_protocol.specs.Words.{Header, Uid}
 use Rattle.arj_protocol.specs.Commit.{Machine, is_empty, left_of}
 use Rattle.arj_protocol.specs.Coord.{Committing, Coord, Doing, doing_of}
 use Rattle.arj_protocol.specs.World.{format, run_all, run_event}
+use Rattle.arj_journal.specs.ScriptForm.{HeaderInForm}
 use Rattle.arj_part_law.specs.Requests.{IsNumbered}
 use Rattle.arj_run_law.specs.Worlds.{IsGood}
 use Rattle.arj_view_law.specs.Keeps.{Holds, KeepsAsked}
-use Rattle.arj_view_law.specs.Seen.{Seen, see, up}
-use Rattle.arj_view_law.proofs.Happens.{event_asked, runs_asked}
-use Rattle.arj_round_law.specs.Rounds.{WaitOvertaken}
+use Rattle.arj_view_law.specs.Seen.{Seen, see}
+use Rattle.arj_view_law.proofs.Happens.{event_asked, keeps_asked, runs_asked}
+use Rattle.arj_round_law.specs.Rounds.{AnswersWaits, WaitOvertaken}
 use Rattle.arj_round_law.specs.Waits.{coord_in}
 use Rattle.arj_round_law.proofs.Quiesces.{asked_both, keeps_good, run_answers}
-use Rattle.arj_wait_law.specs.Runs.{RunsLeaveOvertaken}
-use Rattle.arj_wait_law.specs.Waits.{AnswersRest, WaitsAreKnown}
+use Rattle.arj_wait_law.specs.Waits.{WaitsAreKnown}
 use Rattle.arj_wait_law.proofs.Gives.{at_of, known_give_by}
 use Rattle.arj_wait_law.proofs.Keeping.{waits_keep}
 use Rattle.arj_wait_law.proofs.Untold.{its_up}
+use Rattle.arj_settle_law.specs.Overtaken.{RunsLeaveOvertaken}
+use Rattle.arj_settle_law.proofs.ListingRuns.{ListsAreKnown, lists_keep}
+use Rattle.arj_settle_law.proofs.Stored.{loads_given}
 
 -- a commit that waits waits for some node
 none_left : (M : Seen) → IsGood M → (k : ℕ) (c : Coord) (u : Uid) (q : Doing) (m : Machine) → coord_in (M.nodes k) ≡ Some c → doing_of u c ≡ Some q → q.now ≡ Committing m → left_of m ≡ [] → ⊥
@@ -26,27 +29,29 @@ none_left M good k c u q m found does now none =
     let w = subst (IsNumbered q.req) now n in
     let no_way : true ≡ false = ap is_empty (sym none) ∙ w.1.1 in cc no_way
 
--- what is still to be given where more is known
-rest_less : (P Q : Seen → Type 0) → ((M : Seen) → Q M → P M) → AnswersRest P → AnswersRest Q
-rest_less P Q less rest = record {
-  loads = λ j d t M c u q s k n later r does now is h. rest.loads j d t M c u q s k n later (less (up j d t M) r) does now is h;
-}
+-- what is known of whoever waits, and of each store that a list names
+abbrev pub AllKnown : Header → Seen → Type 0
+AllKnown hd M = WaitsAreKnown hd M × ListsAreKnown hd M
+
+pub all_kept : (hd : Header) → HeaderInForm hd → KeepsAsked hd (AllKnown hd)
+all_kept hd form = asked_both hd (WaitsAreKnown hd) (ListsAreKnown hd) (waits_keep hd form) (keeps_asked hd (ListsAreKnown hd) (lists_keep hd form))
+
+-- so no request for which somebody waits is void, but one of a call that is overtaken
+pub all_answer : (hd : Header) → HeaderInForm hd → (P : Seen → Type 0) → ((M : Seen) → P M → AllKnown hd M) → AnswersWaits hd P
+all_answer hd form P to = known_give_by hd form P (λ M p. (to M p).0) (loads_given hd P (λ M p. (to M p).1))
 
 pub runs_leave_overtaken : RunsLeaveOvertaken
-runs_leave_overtaken hd form test keeps rest es e is over last ups k c u q node found does waits =
+runs_leave_overtaken hd form es e is over last ups k c u q node found does waits =
     ⊎_elim (λ s. s) (λ m. absurd (none_left (see after.sent (run_event e (run_all es (format hd)))) (let p = after.holds in p.1) k c u q m.0 found does m.1 m.2)) (answer k c u q node found does waits)
   where
-    R : Seen → Type 0
-    R M = WaitsAreKnown hd M × (test M ≡ true)
-
-    kept : KeepsAsked hd R
-    kept = asked_both hd (WaitsAreKnown hd) (λ M. test M ≡ true) (waits_keep hd form) keeps
+    kept : KeepsAsked hd (AllKnown hd)
+    kept = all_kept hd form
 
     P : Seen → Type 0
-    P M = R M × IsGood M
+    P M = AllKnown hd M × IsGood M
 
     after : Holds hd P (run_event e (run_all es (format hd)))
-    after = event_asked hd P (keeps_good hd R kept) e (run_all es (format hd)) (runs_asked hd P (keeps_good hd R kept) es)
+    after = event_asked hd P (keeps_good hd (AllKnown hd) kept) e (run_all es (format hd)) (runs_asked hd P (keeps_good hd (AllKnown hd) kept) es)
 
     answer : WaitOvertaken (run_event e (run_all es (format hd)))
-    answer = run_answers hd R kept (known_give_by hd form P (λ M p. p.0.0) (rest_less R P (λ M p. p.0) rest)) es e is over last ups
+    answer = run_answers hd (AllKnown hd) kept (all_answer hd form P (λ M p. p.0)) es e is over last ups

@@ -1,5 +1,0 @@
-use Rattle.arj_wait_law.proofs.Waiting.{runs_leave_overtaken}
-use Rattle.arj_wait_law.proofs.runs.only_overtaken_calls_wait.Goals as goal
-
-pub returns : goal.returns
-returns c = runs_leave_overtaken
