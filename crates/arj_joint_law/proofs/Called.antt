@@ -26,7 +26,7 @@ use Rattle.arj_law.proofs.Order.{rises}
 use Rattle.arj_model.specs.Actions.{Act, Placed, acts, acts_after, acts_from, chain_in, committed, committed_of, has_end, is_committed, put, read, recovered, recovered_of, top_in}
 use Rattle.arj_model.specs.Calls.{Call, Said, Top, call_of, committed_calls, ids, kept, kept_in, made, made_by, made_in, said, surviving, tops}
 use Rattle.arj_model.specs.Serial.{Values, top_place, writes_on}
-use Rattle.arj_line_law.specs.Book.{Book, book, is_decided, is_top, new_book, turned}
+use Rattle.arj_line_law.specs.Book.{Book, book, book_from, is_decided, is_top, new_book, turned}
 use Rattle.arj_line_law.specs.Laws.{AreApart, AreDistinct, called, called_of}
 use Rattle.arj_line_law.specs.Right.{AreRight, has_act}
 use Rattle.arj_line_law.proofs.Books.{never, or_which, sane_lines, sane_new}
@@ -52,6 +52,10 @@ use Rattle.arj_joint_law.specs.Writers.{DecidedWritersStand, IsWriter, WritersAr
 pub right_front : (B : Book) (xs ys : List Line) → AreRight B (xs ++ ys) → AreRight B xs
 right_front B [] ys right = tt
 right_front B (l ∷ xs) ys right = (right.0, right_front (turned B l.body) xs ys right.1)
+
+pub right_behind : (B : Book) (xs ys : List Line) → AreRight B (xs ++ ys) → AreRight (book_from B xs) ys
+right_behind B [] ys right = right
+right_behind B (l ∷ xs) ys right = right_behind (turned B l.body) xs ys right.1
 
 pub take_front : (xs ys : List Line) → take (length xs) (xs ++ ys) ≡ xs
 take_front [] ys = by ys

@@ -1,12 +1,11 @@
 -- Files are clean after each run, by both machines of each object, with what is named.
 use Rattle.std.proofs.Common.{Contains, ◌≡◌, ◌⊎◌, ◌<◌, ◌≤◌, ◌==◌, ◌&&◌, ◌||◌, ℕ, Bool, not, cond, false, eqb-true, eq-eqb, List, [], ◌∷◌, ◌++◌, length, true, is_some, refl, subst, inl, inr, ⊎_elim, filter, ap, sym, ◌∙◌, Option, Some, None}
-use Rattle.std.specs.List.{AllByRecursion}
 use Rattle.arj_journal.specs.ScriptForm.{HeaderInForm}
 use Rattle.arj_lock.proofs.Members.{In, in_find_none, in_from, in_to}
 use Rattle.arj_model.specs.Actions.{Act, acts}
 use Rattle.arj_model.specs.Calls.{Top, tops}
 use Rattle.arj_model.specs.Clean.{Clean, Disks}
-use Rattle.arj_model.specs.Last.{first_values, increasing, is_among, joins_of, leaves_of, object_line}
+use Rattle.arj_model.specs.Last.{first_values, increasing, is_among, joins_of, leaves_of, object_line, serial_tops}
 use Rattle.arj_model.specs.Serial.{Values}
 use Rattle.arj_protocol.specs.Words.{Header, Line, ObjectLine}
 use Rattle.arj_protocol.specs.World.{Asked, World, format, journal, run_all}
@@ -17,7 +16,9 @@ use Rattle.arj_line_law.proofs.Runs.{lines_keep, run_written}
 use Rattle.arj_disk_law.specs.Order.{counts_of}
 use Rattle.arj_disk_law.specs.State.{Done, Packed, decided as decided_so, decided_in, target}
 use Rattle.arj_disk_law.specs.Words as disk
+use Rattle.arj_disk_law.proofs.Listing.{filter_none}
 use Rattle.arj_disk_line_law.specs.Said.{IsJournalled}
+use Rattle.arj_law.specs.Growth.{IdleInPlace, first_stores}
 use Rattle.arj_line_law.specs.Idle.{HasNothing}
 use Rattle.arj_line_law.proofs.Books.{never, or_which}
 use Rattle.arj_line_law.proofs.Closed.{one_act}
@@ -48,6 +49,7 @@ use Rattle.arj_joint_law.specs.Shown.{FilesAre, IncludesAreThere}
 use Rattle.arj_joint_law.specs.Writers.{WritersAreNewestFirst}
 use Rattle.arj_joint_law.proofs.Called.{decided_writers_stand, decision_of, number_is, one_number, those_of, wrote_something}
 use Rattle.arj_joint_law.proofs.FormRuns.{runs_have_form}
+use Rattle.arj_joint_law.proofs.IdlePlaces.{added, all_idle, all_those, none_among}
 use Rattle.arj_joint_law.specs.Joined.{AreBareSo, AreRestBeside, AreWritten, IsJoinedSo, JoinedRunsAreSerial, KeepsHeardJoined}
 use Rattle.arj_joint_law.proofs.JoinedRuns.{runs_are_joined}
 use Rattle.arj_joint_law.proofs.JoinOrder.{decided_joiners_stand, includers_behind}
@@ -96,13 +98,6 @@ is_there t (u ∷ ts) (inr i) = by (u.id == t.id) (is_there t ts i)
 found_there : (t : Top) (ts : List Top) → is_one_of ts t ≡ true → (u : Top) × In u ts × (u.id ≡ t.id)
 found_there t [] on = absurd (cc on)
 found_there t (u ∷ ts) on = ⊎_elim (λ here. (u, inl refl, eqb-true u.id t.id here)) (λ there. let r = found_there t ts there in (r.0, inr r.1, r.2)) (or_which (u.id == t.id) (is_one_of ts t) on)
-
-all_those : (P : Top → Type 0) (ts : List Top) → ((u : Top) → Contains ts u → P u) → AllByRecursion P ts
-all_those P ts each = by ts (λ u i. each u (in_to u ts i))
-  where
-    by : (us : List Top) → ((u : Top) → In u us → P u) → AllByRecursion P us
-    by [] f = tt
-    by (u ∷ us) f = (f u (inl refl), by us (λ v i. f v (inr i)))
 
 later : (u : Top) (t : Top) (ts : List Top) → Contains ts u → Contains (t ∷ ts) u
 later u t ts i = in_to u (t ∷ ts) (inr (in_from u ts i))
@@ -155,6 +150,11 @@ counts_in d (e ∷ ds) i = by e.counts refl (counts_in d ds) i
 in_behind : (d : Done) (xs ys : List Done) → disk.In d ys → disk.In d (xs ++ ys)
 in_behind d [] ys i = i
 in_behind d (x ∷ xs) ys i = inr (in_behind d xs ys i)
+
+in_before : (d : Done) (xs ys : List Done) → disk.In d xs → disk.In d (xs ++ ys)
+in_before d [] ys i = absurd i
+in_before d (x ∷ xs) ys (inl same) = inl same
+in_before d (x ∷ xs) ys (inr i) = inr (in_before d xs ys i)
 
 -- what they take out of the list is what their commits excluded
 abbrev Leave : List Line → ℕ → List Done → Type 0
@@ -223,20 +223,37 @@ module _ (hd : Header) (es : List Asked) (form : HeaderInForm hd) (tied : AreLoc
         o.leaves e k.act (subst (disk.In e) (sym d.are) (in_behind e d.late d.others (of_filter e d.others i))) (in_to k.act (acts (journal hd es)) k.there) (sym (number ∙ number_is (first_values hd) (journal hd es) x z.0 right z.1 t k)) s
         ∙ ap (λ n. is_among (leaves_of (journal hd es) n x) s) k.number
 
-    join : Join (journal hd es) x (filter counts_of d.others)
-    join e t i listed number =
+    -- what a decided top adds to the list
+    joins_so : (e : Done) (t : Top) → disk.In e (let S = disk_of h.holds in S.tops) → Contains (tops (journal hd es)) t → e.top ≡ number_of (journal hd es) t → filter e.got (let p = e.plan in p.joins) ≡ added (journal hd es) x t
+    joins_so e t i listed number =
         let k = top_item (journal hd es) right t (in_from t (tops (journal hd es)) listed) in
         let z = tied.listed x there in
         let o = h.holds in
-        o.joins e k.act (subst (disk.In e) (sym d.are) (in_behind e d.late d.others (of_filter e d.others i))) (in_to k.act (acts (journal hd es)) k.there) (sym (number ∙ number_is (first_values hd) (journal hd es) x z.0 right z.1 t k))
+        o.joins e k.act i (in_to k.act (acts (journal hd es)) k.there) (sym (number ∙ number_is (first_values hd) (journal hd es) x z.0 right z.1 t k))
         ∙ ap (λ n. increasing (filter (λ s. not (is_among (leaves_of (journal hd es) n x) s)) (joins_of (journal hd es) n x))) k.number
+
+    join : Join (journal hd es) x (filter counts_of d.others)
+    join e t i listed number = joins_so e t (subst (disk.In e) (sym d.are) (in_behind e d.late d.others (of_filter e d.others i))) listed number
 
     decisions : AreDecisions (first_values hd) (journal hd es) x (filter counts_of d.others) its.those
     decisions = are_decisions (first_values hd) (journal hd es) x (filter counts_of d.others) its.those its.each (λ e t i. written e t (of_filter e d.others i)) leave join
 
-    -- each that wrote the object is one of them
-    wrote_all : (t : Top) → In t (tops (journal hd es)) → Wrote (journal hd es) x t → In t its.those
-    wrote_all t i wrote = by (journalled.done k.act (in_to k.act (acts (journal hd es)) k.there) k.kind k.done)
+    -- its number in the disk machine is that of its action
+    its_number : (t : Top) (i : In t (tops (journal hd es))) → number_of (journal hd es) t ≡ uid_number (let k = top_item (journal hd es) right t i in let a = k.act in a.uid)
+    its_number t i = let z = tied.listed x there in number_is (first_values hd) (journal hd es) x z.0 right z.1 t (top_item (journal hd es) right t i)
+
+    -- a top of the journal is one of them, late, or one that doesn't count; its commit ended without a record, or nothing of it survives
+    place : (t : Top) (i : In t (tops (journal hd es))) → In t its.those ⊎ ((e : Done) × disk.In e d.late × (e.top ≡ number_of (journal hd es) t)) ⊎ ((e : Done) × disk.In e d.others × (e.top ≡ number_of (journal hd es) t) × (e.counts ≡ false))
+        ⊎ ((let S = disk_of h.holds in S.bare (number_of (journal hd es) t)) ≡ true) ⊎ HasNothing (journal hd es) (let k = top_item (journal hd es) right t i in k.act)
+    place t i = ⊎_elim
+        (λ (on : decided_so (disk_of h.holds) (uid_number (let a = k.act in a.uid)) ≡ true).
+        let r = decided_out (let S = disk_of h.holds in S.tops) (uid_number (let a = k.act in a.uid)) on in
+        ⊎_elim
+        (λ (early : disk.In r.0 d.late). inr (inl (r.0, early, r.2 ∙ sym (its_number t i))))
+        (λ (other : disk.In r.0 d.others). counts r.0 other r.2 (let e = r.0 in e.counts) refl)
+        (in_either r.0 d.late d.others (subst (disk.In r.0) d.are r.1)))
+        (λ (rest : ((let S = disk_of h.holds in S.bare (uid_number (let a = k.act in a.uid))) ≡ true) ⊎ HasNothing (journal hd es) k.act). bare_or rest)
+        (journalled.done k.act (in_to k.act (acts (journal hd es)) k.there) k.kind k.done)
       where
         k : IsTopOf (journal hd es) t
         k = top_item (journal hd es) right t i
@@ -244,10 +261,15 @@ module _ (hd : Header) (es : List Asked) (form : HeaderInForm hd) (tied : AreLoc
         journalled : IsJournalled x (see h.sent w)
         journalled = let b = (let o = h.holds in o.begun) in b.journalled
 
-        number : number_of (journal hd es) t ≡ uid_number (let a = k.act in a.uid)
-        number = let z = tied.listed x there in number_is (first_values hd) (journal hd es) x z.0 right z.1 t k
+        bare_or : ((let S = disk_of h.holds in S.bare (uid_number (let a = k.act in a.uid))) ≡ true) ⊎ HasNothing (journal hd es) k.act
+            → In t its.those ⊎ ((e : Done) × disk.In e d.late × (e.top ≡ number_of (journal hd es) t)) ⊎ ((e : Done) × disk.In e d.others × (e.top ≡ number_of (journal hd es) t) × (e.counts ≡ false))
+            ⊎ ((let S = disk_of h.holds in S.bare (number_of (journal hd es) t)) ≡ true) ⊎ HasNothing (journal hd es) k.act
+        bare_or (inl bare) = inr (inr (inr (inl (ap (λ (n : ℕ). let S = disk_of h.holds in S.bare n) (its_number t i) ∙ bare))))
+        bare_or (inr none) = inr (inr (inr (inr none)))
 
-        counts : (e : Done) → disk.In e d.others → e.top ≡ uid_number (let a = k.act in a.uid) → (b : Bool) → e.counts ≡ b → In t its.those
+        counts : (e : Done) → disk.In e d.others → e.top ≡ uid_number (let a = k.act in a.uid) → (b : Bool) → e.counts ≡ b
+            → In t its.those ⊎ ((e : Done) × disk.In e d.late × (e.top ≡ number_of (journal hd es) t)) ⊎ ((e : Done) × disk.In e d.others × (e.top ≡ number_of (journal hd es) t) × (e.counts ≡ false))
+            ⊎ ((let S = disk_of h.holds in S.bare (number_of (journal hd es) t)) ≡ true) ⊎ HasNothing (journal hd es) k.act
         counts e j same true is =
             let z = tied.listed x there in
             let r = those_of (first_values hd) (journal hd es) x z.0 right z.1 (filter counts_of d.others) its.those decisions e (counted_in e d.others j is) in
@@ -255,22 +277,59 @@ module _ (hd : Header) (es : List Asked) (form : HeaderInForm hd) (tied : AreLoc
             let m = o.its in
             let uids = number_tells m.act.uid k.act.uid (sym o.number ∙ same) in
             let act = one_act (acts (journal hd es)) (let q = its_sound (journal hd es) right in q.distinct) m.act k.act m.there k.there uids in
-            subst (λ u. In u its.those) (one_number (first_values hd) (journal hd es) x z.0 right z.1 r.0 t o.listed i (sym m.number ∙ ap (λ (y : Act). y.id) act ∙ k.number)) r.1
-        counts e j same false is =
-            let core = (let v = journalled.sees.whole in v.core) in
-            let nothing = (let z = core.journal in z.plain e (subst (disk.In e) (sym d.are) (in_behind e d.late d.others j)) is) in
-            let none = subst (WroteSo (first_values hd) (journal hd es) x t) nothing (written e t j (in_to t (tops (journal hd es)) i) (same ∙ sym number)) in
-            absurd (never wrote.2 (none wrote.0 wrote.1 wrote.3))
+            inl (subst (λ u. In u its.those) (one_number (first_values hd) (journal hd es) x z.0 right z.1 r.0 t o.listed i (sym m.number ∙ ap (λ (y : Act). y.id) act ∙ k.number)) r.1)
+        counts e j same false is = inr (inr (inl (e, j, same ∙ sym (its_number t i), is)))
 
-        by : (decided_so (disk_of h.holds) (uid_number (let a = k.act in a.uid)) ≡ true) ⊎ ((let S = disk_of h.holds in S.bare (uid_number (let a = k.act in a.uid))) ≡ true) ⊎ HasNothing (journal hd es) k.act → In t its.those
-        by (inl on) =
-            let r = decided_out (let S = disk_of h.holds in S.tops) (uid_number (let a = k.act in a.uid)) on in
-            ⊎_elim
-            (λ early. absurd (d.silent r.0 t early (in_to t (tops (journal hd es)) i) (r.2 ∙ sym number) wrote))
-            (λ other. counts r.0 other r.2 (let e = r.0 in e.counts) refl)
-            (in_either r.0 d.late d.others (subst (disk.In r.0) d.are r.1))
-        by (inr (inl bare)) = absurd (let d3 = decide x there in d3.2 t (in_to t (tops (journal hd es)) i) (ap (let S = disk_of h.holds in S.bare) number ∙ bare) wrote)
-        by (inr (inr none)) = absurd (wrote_something (journal hd es) x t k.act k.number wrote none)
+    -- each that wrote the object is one of them
+    wrote_all : (t : Top) → In t (tops (journal hd es)) → Wrote (journal hd es) x t → In t its.those
+    wrote_all t i wrote = by (place t i)
+      where
+        k : IsTopOf (journal hd es) t
+        k = top_item (journal hd es) right t i
+
+        by : In t its.those ⊎ ((e : Done) × disk.In e d.late × (e.top ≡ number_of (journal hd es) t)) ⊎ ((e : Done) × disk.In e d.others × (e.top ≡ number_of (journal hd es) t) × (e.counts ≡ false))
+            ⊎ ((let S = disk_of h.holds in S.bare (number_of (journal hd es) t)) ≡ true) ⊎ HasNothing (journal hd es) k.act → In t its.those
+        by (inl one) = one
+        by (inr (inl (e, early, same))) = absurd ((d.silent e t early (in_to t (tops (journal hd es)) i) same).0 wrote)
+        by (inr (inr (inl (e, j, same, is)))) =
+            let b = (let o = h.holds in o.begun) in
+            let g = b.journalled in
+            let core = (let v = g.sees.whole in v.core) in
+            let nothing = (let z = core.journal in z.plain e (subst (disk.In e) (sym d.are) (in_behind e d.late d.others j)) is) in
+            let none = subst (WroteSo (first_values hd) (journal hd es) x t) nothing (written e t j (in_to t (tops (journal hd es)) i) same) in
+            absurd (never wrote.2 (none wrote.0 wrote.1 wrote.3))
+        by (inr (inr (inr (inl bare)))) = absurd (let d3 = decide x there in d3.2 t (in_to t (tops (journal hd es)) i) bare wrote)
+        by (inr (inr (inr (inr none)))) = absurd (wrote_something (journal hd es) x t k.act k.number wrote none)
+
+    -- one whose commit ended without a record touched nothing
+    spared_by : (t : Top) (i : In t (tops (journal hd es))) → (let S = disk_of h.holds in S.bare (number_of (journal hd es) t)) ≡ true → (s : ℕ)
+        → (let k = top_item (journal hd es) right t i in let a = k.act in (is_among (leaves_of (journal hd es) a.id x) s ≡ false) × (is_among (joins_of (journal hd es) a.id x) s ≡ false))
+    spared_by t i bare s = let k = top_item (journal hd es) right t i in let o = h.holds in o.untouched k.act (in_to k.act (acts (journal hd es)) k.there) (sym (ap (λ (n : ℕ). let S = disk_of h.holds in S.bare n) (its_number t i)) ∙ bare) s
+
+    -- each of the others adds no store
+    adds_none : (t : Top) → In t (tops (journal hd es)) → is_one_of its.those t ≡ false → added (journal hd es) x t ≡ []
+    adds_none t i off = by (place t i)
+      where
+        k : IsTopOf (journal hd es) t
+        k = top_item (journal hd es) right t i
+
+        empty : joins_of (journal hd es) (let a = k.act in a.id) x ≡ [] → added (journal hd es) x t ≡ []
+        empty is = ap (λ ns. increasing (filter (λ s. not (is_among (leaves_of (journal hd es) t.id x) s)) ns)) (ap (λ n. joins_of (journal hd es) n x) (sym k.number) ∙ is)
+
+        by : In t its.those ⊎ ((e : Done) × disk.In e d.late × (e.top ≡ number_of (journal hd es) t)) ⊎ ((e : Done) × disk.In e d.others × (e.top ≡ number_of (journal hd es) t) × (e.counts ≡ false))
+            ⊎ ((let S = disk_of h.holds in S.bare (number_of (journal hd es) t)) ≡ true) ⊎ HasNothing (journal hd es) k.act → added (journal hd es) x t ≡ []
+        by (inl one) = absurd (never (is_there t its.those one) off)
+        by (inr (inl (e, early, same))) = sym (joins_so e t (subst (disk.In e) (sym d.are) (in_before e d.late d.others early)) (in_to t (tops (journal hd es)) i) same) ∙ (d.silent e t early (in_to t (tops (journal hd es)) i) same).1
+        by (inr (inr (inl (e, j, same, is)))) =
+            let o = h.holds in
+            let m = subst (disk.In e) (sym d.are) (in_behind e d.late d.others j) in
+            sym (joins_so e t m (in_to t (tops (journal hd es)) i) same) ∙ filter_none e.got (let p = e.plan in p.joins) (λ s on. o.still e m is s)
+        by (inr (inr (inr (inl bare)))) = empty (none_among (joins_of (journal hd es) (let a = k.act in a.id) x) (λ s. (spared_by t i bare s).1))
+        by (inr (inr (inr (inr none)))) = empty (none.includes x)
+
+    idle : IdleInPlace (journal hd es) x (is_one_of its.those) (first_stores hd x) (serial_tops (journal hd es))
+    idle = all_idle (journal hd es) x (is_one_of its.those) (λ t. let S = disk_of h.holds in S.bare (number_of (journal hd es) t)) adds_none
+        (λ t i bare s. ap (λ n. is_among (leaves_of (journal hd es) n x) s) (sym (let k = top_item (journal hd es) right t i in k.number)) ∙ (spared_by t i bare s).0) (first_stores hd x) its.idle
 
     all : (t : Top) → Contains (tops (journal hd es)) t → (is_one_of its.those t ≡ true) ⊎ Wrote (journal hd es) x t → Contains its.those t
     all t c (inl on) =
@@ -307,7 +366,7 @@ module _ (hd : Header) (es : List Asked) (form : HeaderInForm hd) (tied : AreLoc
       counts = is_one_of its.those;
       counted = λ t i. (is_there t its.those (in_from t its.those i), ⊎_elim (λ wrote. inl wrote) (λ none. inr (joined_one t i none)) (wrote_so t i));
       all = all;
-      idle = its.idle;
+      idle = idle;
     }
 
     pub decided : AreDecidedOrLate hd (journal hd es) x (disk_of h.holds)

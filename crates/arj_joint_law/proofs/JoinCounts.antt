@@ -1,4 +1,5 @@
--- Whoever is decided and counts, and didn't write, includes a store: each effect of the disk machine keeps it.
+-- Whoever is decided and counts, and didn't write, includes a store, and who doesn't count has taken no Yes: each effect of the disk machine
+-- keeps it.
 use Rattle.std.proofs.Common.{◌≡◌, ◌==◌, ◌&&◌, ◌||◌, ◌∙◌, ℕ, Bool, true, false, not, List, [], ◌∷◌, ap, inl, refl, subst, sym, ⊎_elim}
 use Rattle.arj_disk_law.specs.Effects
 use Rattle.arj_disk_law.specs.Effects.{Allowed, Effect, Follows, Whole, World, after, done_of, run}
@@ -13,14 +14,21 @@ use Rattle.arj_names_view_law.specs.Handlers.{Answering, Change, Changes, Decidi
 use Rattle.arj_disk_run_law.proofs.Decisions.{Goes, goes_along}
 use Rattle.arj_disk_line_law.proofs.Tying.{goes_by}
 use Rattle.arj_joint_law.specs.MarkedTops.{AreJoiners}
+use Rattle.arj_joint_law.specs.Ordered.{AreStill}
+use Rattle.arj_joint_law.proofs.Ending.{Ends, ends_along, ends_by, ends_of}
 
 abbrev Joins : World → Type 0
-Joins W = AreJoiners W.disk.tops
+Joins W = AreJoiners W.disk.tops × AreStill W.disk.tops
 
 effect_joins : (W : World) (e : Effect) → Allowed W e → Whole W → Joins W → Joins (after W e)
-effect_joins W (Effects.Decide t) can whole joins = λ d i counts plain. ⊎_elim
-    (λ (same : done_of W.disk t ≡ d). subst (λ (z : Done). (s : ℕ) × (disk.has s z.plan.joins ≡ true)) same (whole.core.covered.plain t (conf (ap (λ (z : Done). z.counts) same ∙ counts)) open_yet (ap (λ (z : Done). z.plan.writes) same ∙ plain)).0)
-    (λ (old : In d W.disk.tops). joins d old counts plain) i
+effect_joins W (Effects.Decide t) can whole (joins, still) = (
+  λ d i counts plain. ⊎_elim
+      (λ (same : done_of W.disk t ≡ d). subst (λ (z : Done). (s : ℕ) × (disk.has s z.plan.joins ≡ true)) same (whole.core.covered.plain t (conf (ap (λ (z : Done). z.counts) same ∙ counts)) open_yet (ap (λ (z : Done). z.plan.writes) same ∙ plain)).0)
+      (λ (old : In d W.disk.tops). joins d old counts plain) i,
+  λ d i light s. ⊎_elim
+      (λ (same : done_of W.disk t ≡ d). subst (λ (z : Done). z.got s ≡ false) same (whole.core.light.none t s (turn (W.disk.light t) (ap (λ (z : Done). z.counts) same ∙ light))))
+      (λ (old : In d W.disk.tops). still d old light s) i,
+)
   where
     next : Whole (after W (Effects.Decide t))
     next = effect_keeps W (Effects.Decide t) can whole
@@ -34,6 +42,10 @@ effect_joins W (Effects.Decide t) can whole joins = λ d i counts plain. ⊎_eli
         by : (b : Bool) → (b || true) ≡ true
         by true = refl
         by false = refl
+
+    turn : (b : Bool) → not b ≡ false → b ≡ true
+    turn true is = refl
+    turn false is = absurd (cc is)
 effect_joins W (Effects.Begin t p) can whole joins = joins
 effect_joins W (Effects.Take t s) can whole joins = joins
 effect_joins W (Effects.Seal t) can whole joins = joins
@@ -58,15 +70,18 @@ all_join : (W : World) (es : List Effect) → Follows W es → Whole W → Joins
 all_join W [] can whole joins = joins
 all_join W (e ∷ es) can whole joins = all_join (after W e) es can.1 (effect_keeps W e can.0 whole) (effect_joins W e can.0 whole joins)
 
--- from one state of the machine to another
-abbrev pub GoesOn : World → World → Type 0
-GoesOn W V = Goes W V × (Joins W → Joins V)
+-- from one state of the machine to another, by which these may have their commits end
+abbrev pub GoesOn : (ℕ → Bool) → World → World → Type 0
+GoesOn g W V = Goes W V × (Joins W → Joins V) × Ends g W V
 
-pub goes_on_along : (g : ℕ → Bool) (W V : World) → Whole W → Along (record { from = W; noted = only_decides g }) V → GoesOn W V
-goes_on_along g W V whole a = (goes_along g W V whole a, λ joins. subst Joins a.here (all_join W a.effects a.allowed whole joins))
+pub goes_on_along : (g : ℕ → Bool) (W V : World) → Whole W → Along (record { from = W; noted = only_decides g }) V → GoesOn g W V
+goes_on_along g W V whole a = (goes_along g W V whole a, (λ joins. subst Joins a.here (all_join W a.effects a.allowed whole joins)), ends_along g W V whole a)
 
 -- by the changes of a step
-pub goes_on_by : (o : Change) (A B : Office) → Whole A.world → Changes o A B → GoesOn A.world B.world
-goes_on_by Quietly A B whole c = (goes_by Quietly A B whole c, λ joins. subst AreJoiners (sym c.tops) joins)
-goes_on_by (Answering t r) A B whole c = (goes_by (Answering t r) A B whole c, λ joins. subst AreJoiners (sym (let o = c.0 in o.tops)) joins)
-goes_on_by (Deciding t keeps) A B whole c = (goes_by (Deciding t keeps) A B whole c, (goes_on_along (λ z. z == t) A.world B.world whole c.along).1)
+pub goes_on_by : (o : Change) (A B : Office) → Whole A.world → Changes o A B → GoesOn (ends_of o) A.world B.world
+goes_on_by o A B whole c = (goes_by o A B whole c, joins_by o c, ends_by o A B whole c)
+  where
+    joins_by : (q : Change) → Changes q A B → Joins A.world → Joins B.world
+    joins_by Quietly z (joins, still) = (subst AreJoiners (sym z.tops) joins, subst AreStill (sym z.tops) still)
+    joins_by (Answering t r) z (joins, still) = (subst AreJoiners (sym (let q = z.0 in q.tops)) joins, subst AreStill (sym (let q = z.0 in q.tops)) still)
+    joins_by (Deciding t keeps) z (joins, still) = (goes_on_along (λ y. y == t) A.world B.world whole z.along).1 (joins, still)

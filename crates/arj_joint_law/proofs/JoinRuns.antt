@@ -6,9 +6,9 @@ use Rattle.std.specs.Option.{option_map}
 use Rattle.std.proofs.lemmas.Bool.{and_parts}
 use Rattle.arj_base.specs.Path.{first_uid}
 use Rattle.arj_call_law.proofs.Given.{KeepsGiven, keeps_given, kept_both}
-use Rattle.arj_line_law.specs.Book.{Access, Book, book, book_from, new_book, turned, with_access}
+use Rattle.arj_line_law.specs.Book.{Access, Book, book, new_book, turned, with_access}
 use Rattle.arj_line_law.specs.Knows.{AreLined, IsAbout, IsKept, KnowsNode, after, root_in}
-use Rattle.arj_line_law.specs.Right.{AreRight, Right}
+use Rattle.arj_line_law.specs.Right.{Right}
 use Rattle.arj_line_law.proofs.Books.{book_more, quiet_book}
 use Rattle.arj_line_law.proofs.Closed.{Stands, stands_lines, stands_new, stands_turn}
 use Rattle.arj_line_law.proofs.Runs.{act_turns, behind_first, lines_keep, message_turns, rest_goes, tick_turns}
@@ -26,7 +26,7 @@ use Rattle.arj_protocol.specs.Follow.{tick_outs}
 use Rattle.arj_protocol.specs.Node.{Parts, Took, handle, with_coord}
 use Rattle.arj_protocol.specs.Step.{Node, acts, begin_refusal, first_disk, first_node, numbers_to, parent_of, parts_in, restart_outs}
 use Rattle.arj_protocol.specs.Tree.{at_place, is_own, new_tree, next_uid}
-use Rattle.arj_protocol.specs.Words.{Body, Header, Kind, Label, Line, Message, Uid, name}
+use Rattle.arj_protocol.specs.Words.{Body, Header, Kind, Label, Message, Uid, name}
 use Rattle.arj_protocol.specs.Words.body
 use Rattle.arj_protocol.specs.World.{format, is_serial_kind, numbered}
 use Rattle.arj_run_law.specs.Worlds.{IsGood, IsMemory}
@@ -38,6 +38,7 @@ use Rattle.arj_view_law.specs.Walks.{Up, Walks, halted}
 use Rattle.arj_view_law.proofs.Happens.{runs_hold}
 use Rattle.arj_address_law.proofs.BindRuns.{AreBound, binds_keep}
 use Rattle.arj_joint_law.specs.Joins.{HasJoined, IncludesAreNoted, IncludesAreSaid, PlansInclude, RunsSayIncludes}
+use Rattle.arj_joint_law.proofs.Called.{right_behind}
 use Rattle.arj_joint_law.proofs.JoinHeard.{apart_none, NoAccess, none_after}
 use Rattle.arj_joint_law.proofs.JoinLines.{fits_turn}
 use Rattle.arj_joint_law.proofs.JoinMoves.{Own, act_own, message_own, tick_own}
@@ -232,10 +233,6 @@ joins_given hd = record {
   where
     message_lined : (e k : ℕ) (d : Disk) (t : Parts) (M : Seen) (kept : IsKept (up k d t M)) (v : Parts) (from : ℕ) (m : Message) (outs : List Effect) → seen.In (record { from = from; to = k; message = m }) M.sent → handle k d t from m ≡ Took v outs → AreLined k (book M.lines) outs
     message_lined e k d t M kept v from m outs there is = let z = message_turns e k d t M kept.0 kept.1 v from m outs there is in z.lined
-
-    right_behind : (B : Book) (ls ks : List Line) → AreRight B (ls ++ ks) → AreRight (book_from B ls) ks
-    right_behind B [] ks right = right
-    right_behind B (l ∷ ls) ks right = right_behind (turned B l.body) ls ks right.1
 
     lines_right : (e k : ℕ) (d : Disk) (t : Parts) (l : Label) (how : Kind) (parent : Option Label) (M : Seen) → label_at l M.labels ≡ None → MayGive M.labels k how parent → begin_refusal how t.coord parent ≡ None → IsKept (up k d t M) → Right (book M.lines) (began_line l how (next_uid t.coord.tree) parent)
     lines_right e k d t l how parent M new may free kept =

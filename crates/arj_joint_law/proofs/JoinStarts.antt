@@ -1,5 +1,5 @@
 -- As a top's commit begins its plan includes the stores of the includes that survive in it by the journal.
-use Rattle.std.proofs.Common.{◌≡◌, ◌&&◌, ◌||◌, ◌==◌, ◌++◌, ◌∙◌, not, arith, ℕ, List, [], ◌∷◌, length, map, filter, Bool, true, false, cond, Option, Some, None, refl, sym, ap, subst, inl, inr, Contains, if◌then◌else◌, eqb-true, eq-eqb}
+use Rattle.std.proofs.Common.{◌≡◌, ◌&&◌, ◌||◌, ◌==◌, ◌++◌, ◌∙◌, not, arith, ℕ, List, [], ◌∷◌, length, map, Bool, true, false, Option, Some, None, refl, sym, ap, subst, inl, inr, Contains, if◌then◌else◌, eqb-true, eq-eqb}
 use Rattle.std.specs.List.{AllByRecursion, list_all, list_any}
 use Rattle.std.proofs.lemmas.Bool.{and_parts}
 use Rattle.arj_base.proofs.Uids.{uid_is}
@@ -9,6 +9,7 @@ use Rattle.arj_base.specs.Uid.{uid_eq}
 use Rattle.arj_call_law.proofs.CommitPlans.{any_in}
 use Rattle.arj_lock.proofs.Members.{In, in_filter, in_find, in_find_none, in_from, in_map, in_to}
 use Rattle.arj_lock_fact_law.proofs.GrantSteps.{found_any}
+use Rattle.arj_lock_fact_law.proofs.LowGrants.{map_in}
 use Rattle.arj_model.specs.Actions.{Act, chain_in, is_serial, path, top_in, uids}
 use Rattle.arj_model.specs.Last.{is_among}
 use Rattle.arj_part_law.specs.Actions.{paths_of}
@@ -28,6 +29,7 @@ use Rattle.arj_protocol.specs.Words.ending
 use Rattle.arj_protocol.specs.Words.kind
 use Rattle.arj_run_law.proofs.Handled.{good_coord, one_tree}
 use Rattle.arj_serial_law.proofs.Paths.{chain_on, top_on, well}
+use Rattle.arj_serial_law.proofs.Values.{to_filter}
 use Rattle.arj_view_law.specs.Seen.{Seen, up}
 use Rattle.arj_disk_view_law.specs.Plans.{plan_by, used_at}
 use Rattle.arj_line_law.specs.Book.{Access, Book, book, is_top, new_book}
@@ -51,23 +53,8 @@ same_test true b one two = sym (one refl)
 same_test false true one two = two refl
 same_test false false one two = refl
 
-to_filter : {A : Type 0} (p : A → Bool) (x : A) (xs : List A) → In x xs → p x ≡ true → In x (filter p xs)
-to_filter p x [] i e = absurd i
-to_filter {A} p x (y ∷ ys) i e = by (p y) refl i (λ j. to_filter p x ys j e)
-  where
-    by : (b : Bool) → p y ≡ b → In x (y ∷ ys) → (In x ys → In x (filter p ys)) → In x (cond b (y ∷ filter p ys) (filter p ys))
-    by true t (inl same) ih = inl same
-    by true t (inr j) ih = inr (ih j)
-    by false t (inl same) ih = absurd (never (ap p same ∙ e) t)
-    by false t (inr j) ih = ih j
-
 among_in : (n : ℕ) (ns : List ℕ) → In n ns → is_among ns n ≡ true
 among_in n ns i = any_in (λ m. m == n) n ns i (eq-eqb n n refl)
-
-in_map_of : {A B : Type 0} (f : A → B) (x : A) (xs : List A) → In x xs → In (f x) (map f xs)
-in_map_of f x [] i = absurd i
-in_map_of f x (y ∷ ys) (inl same) = inl (ap f same)
-in_map_of f x (y ∷ ys) (inr i) = inr (in_map_of f x ys i)
 
 in_second : {A : Type 0} (x : A) (xs ys : List A) → In x ys → In x (xs ++ ys)
 in_second x [] ys i = i
@@ -284,13 +271,13 @@ module _ (k : ℕ) (d : Disk) (t : Parts) (M : Seen) (kept : IsKept (up k d t M)
                   on_x = at_x ∙ obj
 
                   object : In x (objects_in u r t.coord)
-                  object = let m = found_any (λ y. y == x) (objects_in u r t.coord) (among_set (said_objects ++ joined_objects) x ∙ among_in x (said_objects ++ joined_objects) (in_second x said_objects joined_objects (subst (λ y. In y joined_objects) on_x (in_map_of (λ (z : Joined). z.x) j (joined_in u r t.coord) (to_filter (λ (z : Joined). counts u z.path t.coord) j r.joined j_in (ap (λ e. e || is_retained j.path t.coord) survives_j)))))) in subst (λ y. In y (objects_in u r t.coord)) (eqb-true m.0 x m.2) m.1
+                  object = let m = found_any (λ y. y == x) (objects_in u r t.coord) (among_set (said_objects ++ joined_objects) x ∙ among_in x (said_objects ++ joined_objects) (in_second x said_objects joined_objects (subst (λ y. In y joined_objects) on_x (map_in (λ (z : Joined). z.x) j (joined_in u r t.coord) (to_filter (λ (z : Joined). counts u z.path t.coord) j r.joined j_in (ap (λ e. e || is_retained j.path t.coord) survives_j)))))) in subst (λ y. In y (objects_in u r t.coord)) (eqb-true m.0 x m.2) m.1
 
                   used : (o : Option Used) → used_at x uses ≡ o → is_among (let q = plan_by o None in q.joins) s ≡ true
-                  used None none = absurd (never (eq-eqb x x refl) (in_find_none (λ (v : Used). v.x == x) (used_of u r t.coord x) uses none (in_map_of (used_of u r t.coord) x (objects_in u r t.coord) object)))
+                  used None none = absurd (never (eq-eqb x x refl) (in_find_none (λ (v : Used). v.x == x) (used_of u r t.coord x) uses none (map_in (used_of u r t.coord) x (objects_in u r t.coord) object)))
                   used (Some w) some = ap (λ (v : Used). is_among v.joins s) (sym (its_used x w some))
                       ∙ among_set (map (λ (z : Joined). z.store) (joins_on x u r t.coord)) s
-                      ∙ among_in s (map (λ (z : Joined). z.store) (joins_on x u r t.coord)) (subst (λ y. In y (map (λ (z : Joined). z.store) (joins_on x u r t.coord))) store (in_map_of (λ (z : Joined). z.store) j (joins_on x u r t.coord) (to_filter (λ (z : Joined). (z.x == x) && survives u z.path t.coord) j r.joined j_in (λ e. eq-eqb j.x x on_x e && survives_j e))))
+                      ∙ among_in s (map (λ (z : Joined). z.store) (joins_on x u r t.coord)) (subst (λ y. In y (map (λ (z : Joined). z.store) (joins_on x u r t.coord))) store (map_in (λ (z : Joined). z.store) j (joins_on x u r t.coord) (to_filter (λ (z : Joined). (z.x == x) && survives u z.path t.coord) j r.joined j_in (λ e. eq-eqb j.x x on_x e && survives_j e))))
 
           by : (o : Option Act) → top_in (acts_of (book M.lines) a) ≡ o → lasts_in (is_on (let X = book M.lines in X.committed)) u (acts_of (book M.lines) a) o ≡ true → is_among (joins_at x) s ≡ true
           by None none e = absurd (cc e)

@@ -52,3 +52,4 @@ pub mod JoinFresh
 pub mod JoinStep
 pub mod JoinKeeps
 pub mod JoinOrder
+pub mod IdlePlaces

@@ -1,10 +1,10 @@
 -- Of each decided top the journal says what it excluded and what it included, by the disk machine: each handler keeps it.
-use Rattle.std.proofs.Common.{◌≡◌, ◌⊎◌, ◌||◌, ◌&&◌, ◌++◌, ◌∙◌, ◌+◌, ℕ, Bool, true, false, not, List, [], ◌∷◌, Option, Some, None, ap, inl, inr, refl, subst, sym, ⊎_elim}
+use Rattle.std.proofs.Common.{◌≡◌, ◌⊎◌, ◌||◌, ◌&&◌, ◌∙◌, ◌+◌, ℕ, Bool, true, false, not, List, [], ◌∷◌, Option, Some, None, ap, inl, inr, refl, subst, sym, ⊎_elim}
 use Rattle.std.specs.Prelude.{is_some}
 use Rattle.std.proofs.lemmas.Slice.Eq.{bytes_eq-Decides}
 use Rattle.arj_base.specs.Rows.{is_on}
 use Rattle.arj_lock.proofs.Members as list
-use Rattle.arj_protocol.specs.Words.{Body, Header, Kind, Label, Line, Uid, first_uid, name, uids_of}
+use Rattle.arj_protocol.specs.Words.{Body, Header, Kind, Label, Uid, first_uid, name, uids_of}
 use Rattle.arj_protocol.specs.Words.body
 use Rattle.arj_protocol.specs.Asking.{again_all, begin_action}
 use Rattle.arj_protocol.specs.Commit.{Confirming, Machine, Preparing, is_marked}
@@ -44,7 +44,7 @@ use Rattle.arj_names_view_law.specs.Handlers.{Change, Changes, Quietly, change_b
 use Rattle.arj_disk_run_law.specs.Part.{KeepsPart, are_recorded}
 use Rattle.arj_disk_run_law.proofs.RecordWalks.{restart_plain}
 use Rattle.arj_disk_line_law.proofs.Steps.{IsNear, IsStep, near_same, nothing_more, step_halted, step_walk}
-use Rattle.arj_line_law.specs.Book.{Book, book, book_from, new_book, turned}
+use Rattle.arj_line_law.specs.Book.{Book, book, new_book}
 use Rattle.arj_line_law.specs.Knows.{IsKept}
 use Rattle.arj_line_law.specs.Right.{AreRight}
 use Rattle.arj_line_law.proofs.Books.{book_more, later_from}
@@ -58,6 +58,8 @@ use Rattle.arj_joint_law.specs.Joined.{IsRecordedAt}
 use Rattle.arj_joint_law.specs.Joins.{AreRising, FitsIncludes, IncludesAreSaid, has_included}
 use Rattle.arj_joint_law.specs.Marked.{MarksAreSaid, excludes, was_marked}
 use Rattle.arj_joint_law.specs.MarkedTops.{AreMarkedSo, IsMarkedSo}
+use Rattle.arj_joint_law.proofs.Called.{right_behind, right_front}
+use Rattle.arj_joint_law.proofs.Ending.{ends_of, message_ends, record_of}
 use Rattle.arj_joint_law.proofs.JoinCounts.{GoesOn, goes_on_along, goes_on_by}
 use Rattle.arj_joint_law.proofs.JoinLines.{included_from}
 use Rattle.arj_joint_law.proofs.MarkMoves.{IsMarking, NoMark, acts_stay, apart_none, said_in, unmarked_said}
@@ -65,14 +67,6 @@ use Rattle.arj_joint_law.proofs.MarkRuns.{IsNamed, act_moved, marked_more, messa
 use Rattle.arj_joint_law.proofs.Recording.{AreRecordedBy, IsConfirming, acts_put, anyone, are_theirs, here_then, message_puts, others_then, plainly, recorded_at, records_walk, tick_puts}
 
 -- ---- lines
-
-right_behind : (B : Book) (ls ks : List Line) → AreRight B (ls ++ ks) → AreRight (book_from B ls) ks
-right_behind B [] ks right = right
-right_behind B (l ∷ ls) ks right = right_behind (turned B l.body) ls ks right.1
-
-right_front : (B : Book) (ls ks : List Line) → AreRight B (ls ++ ks) → AreRight B ls
-right_front B [] ks right = tt
-right_front B (l ∷ ls) ks right = (right.0, right_front (turned B l.body) ls ks right.1)
 
 -- what was said of marks stays, but by these names
 abbrev MarkedFrom : (List ℕ → Type 0) → Seen → Seen → Type 0
@@ -119,15 +113,21 @@ marked_later x W V M N later step right u p same = record {
 
 -- ---- a step
 
-module _ (x : ℕ) (C : Uid → Type 0) (who : List ℕ → Type 0) (W : World) (M : Seen) (before : AreMarkedSo x W M) (waiting : (u : Uid) → C u → IsMarkedSo x W M u) (apart : (u : Uid) (p : IsMarkedSo x W M u) → who p.act.label → ⊥) where
-  marked_then : (tops : Kinds) (V : World) (N : Seen) → GoesOn W V → SeesDisks x tops V N → AreRecordedBy C M N → IsStep M N → MarkedFrom who M N → AreRight new_book N.lines → AreMarkedSo x V N
-  marked_then tops V N goes sees recs step from right = record { decisions = decisions; records = records; joiners = goes.1 before.joiners }
+module _ (x : ℕ) (C : Uid → Type 0) (g : ℕ → Bool) (who : List ℕ → Type 0) (W : World) (M : Seen) (whose : (u : Uid) → g (uid_number u) ≡ true → IsRecordedAt M u ⊎ C u) (before : AreMarkedSo x W M) (waiting : (u : Uid) → C u → IsMarkedSo x W M u) (apart : (u : Uid) (p : IsMarkedSo x W M u) → who p.act.label → ⊥) where
+  marked_then : (tops : Kinds) (V : World) (N : Seen) → GoesOn g W V → SeesDisks x tops V N → AreRecordedBy C M N → IsStep M N → MarkedFrom who M N → AreRight new_book N.lines → AreMarkedSo x V N
+  marked_then tops V N goes sees recs step from right = let kept = goes.1 (before.joiners, before.still) in record { decisions = decisions; records = records; bares = bares; joiners = kept.0; still = kept.1 }
     where
       later : (u : Uid) → IsMarkedSo x W M u → IsMarkedSo x V N u
       later u p = marked_later x W V M N goes.0.1 step right u p (λ s. ⊎_elim (λ same. same) (λ its. absurd (apart u p its)) (from p.act.label x s))
 
       records : (u : Uid) → IsRecordedAt N u → IsMarkedSo x V N u
       records u r = later u (⊎_elim (λ (old : IsRecordedAt M u). before.records u old) (λ (new : C u). waiting u new) (recs u r))
+
+      bares : (u : Uid) → V.disk.bare (uid_number u) ≡ true → IsMarkedSo x V N u
+      bares u on = later u (⊎_elim
+          (λ (old : W.disk.bare (uid_number u) ≡ true). before.bares u old)
+          (λ (new : (g (uid_number u) ≡ true) × ((let p = V.disk.plan (uid_number u) in p.writes) ≡ None)). ⊎_elim (λ (r : IsRecordedAt M u). before.records u r) (λ (c : C u). waiting u c) (whose u new.0))
+          (goes.2 (uid_number u) on))
 
       decisions : (u : Uid) (n : Node) → N.nodes u.node ≡ Some n → decided V.disk (uid_number u) ≡ true → IsMarkedSo x V N u
       decisions u n here d = ⊎_elim
@@ -234,9 +234,9 @@ module _ (hd : Header) (x : ℕ) (K L : Seen → Type 0) (P : Kinds → Office �
   lines : Keeps hd IsKept
   lines = lines_keep hd
 
-  module _ (tops : Kinds) (D : Office → Type 0) (C : Uid → Type 0) (who : List ℕ → Type 0) (W : World) (M : Seen) (goes : (B : Office) → D B → GoesOn W B.world) (before : AreMarkedSo x W M) (waiting : (u : Uid) → C u → IsMarkedSo x W M u) (apart : (u : Uid) (p : IsMarkedSo x W M u) → who p.act.label → ⊥) where
+  module _ (tops : Kinds) (D : Office → Type 0) (C : Uid → Type 0) (g : ℕ → Bool) (who : List ℕ → Type 0) (W : World) (M : Seen) (goes : (B : Office) → D B → GoesOn g W B.world) (whose : (u : Uid) → g (uid_number u) ≡ true → IsRecordedAt M u ⊎ C u) (before : AreMarkedSo x W M) (waiting : (u : Uid) → C u → IsMarkedSo x W M u) (apart : (u : Uid) (p : IsMarkedSo x W M u) → who p.act.label → ⊥) where
     marks_next : (Z : Seen) → IsKept Z → AreRecordedBy C M Z → IsStep M Z → MarkedFrom who M Z → (B : Office) → D B → SeesBoth x tops B Z → AreMarkedSo x B.world Z
-    marks_next Z kept recs step from B c seen = marked_then x C who W M before waiting apart tops B.world Z (goes B c) seen.disks recs step from (let w = kept.1 in w.right)
+    marks_next Z kept recs step from B c seen = marked_then x C g who W M whose before waiting apart tops B.world Z (goes B c) seen.disks recs step from (let w = kept.1 in w.right)
 
     along : (e k : ℕ) (outs : List Effect) (v : Parts) (d : Disk) (N : Seen) → Walks (OfEach tops D P) e k outs (Up (OfEach tops D P) k v) d N → Walks IsKept e k outs (Up IsKept k v) d N
         → Walks (AreRecordedBy C M) e k outs (Up (AreRecordedBy C M) k v) d N → Walks (IsStep M) e k outs (Up (IsStep M) k v) d N → Walks (MarkedFrom who M) e k outs (Up (MarkedFrom who M) k v) d N → Walks (OfEach tops D Q) e k outs (Up (OfEach tops D Q) k v) d N
@@ -254,8 +254,14 @@ module _ (hd : Header) (x : ℕ) (K L : Seen → Type 0) (P : Kinds → Office �
   abbrev nobody : List ℕ → Type 0
   nobody l = ⊥
 
-  goes_from : (o : Change) (A B : Office) → OnlyAnswers A B → machine.Whole A.world → (Z : Office) → Changes o B Z → GoesOn A.world Z.world
-  goes_from o A B only whole Z c = (let same = only.world in subst (λ W. GoesOn W Z.world) same (goes_on_by o B Z (subst machine.Whole (sym same) whole) c))
+  abbrev no_top : ℕ → Bool
+  no_top t = false
+
+  no_one : (C : Uid → Type 0) (M : Seen) (u : Uid) → false ≡ true → IsRecordedAt M u ⊎ C u
+  no_one C M u is = absurd (never is refl)
+
+  goes_from : (o : Change) (A B : Office) → OnlyAnswers A B → machine.Whole A.world → (Z : Office) → Changes o B Z → GoesOn (ends_of o) A.world Z.world
+  goes_from o A B only whole Z c = (let same = only.world in subst (λ W. GoesOn (ends_of o) W Z.world) same (goes_on_by o B Z (subst machine.Whole (sym same) whole) c))
 
   moved_base : (c : Coord) (outs : List Effect) (M : Seen) → ((l : List ℕ) (y s : ℕ) → (said_in outs l y s ≡ false) ⊎ IsMarking c l) → (l : List ℕ) (y s : ℕ) → ((was_marked M.lines l y s ≡ was_marked M.lines l y s) × (said_in outs l y s ≡ false)) ⊎ IsMarking c l
   moved_base c outs M whose l y s = ⊎_elim (λ off. inl (refl, off)) (λ on. inr on) (whose l y s)
@@ -264,12 +270,12 @@ module _ (hd : Header) (x : ℕ) (K L : Seen → Type 0) (P : Kinds → Office �
   marks_part = record {
     quiet = λ tops e bs M A walk quiet r both (part, marks) B changed seen. (
       parts.quiet tops e bs M A walk quiet (to M r) both part B changed seen,
-      marks_next tops (Changes Quietly A) none nobody A.world M (λ Z c. goes_on_by Quietly A Z (let z = both.disks in z.whole) c) marks (λ u off. absurd off) (λ u p off. off) (said e bs M) (lines.quiet e bs M quiet (known M r).0)
+      marks_next tops (Changes Quietly A) none no_top nobody A.world M (λ Z c. goes_on_by Quietly A Z (let z = both.disks in z.whole) c) (no_one none M) marks (λ u off. absurd off) (λ u p off. off) (said e bs M) (lines.quiet e bs M quiet (known M r).0)
           (λ u c. inl (record { place = c.place; node = c.node; intent = c.intent; here = c.here; there = c.there })) (quiet_step e bs M) (λ l y s. inl (same_marked e bs M.lines quiet l y s)) B changed seen,
     );
     stop = λ tops e k d live M A walk r both (part, marks) B changed seen. (
       parts.stop tops e k d live M A walk (to (at k d live M) r) both part B changed seen,
-      marks_next tops (Changes Quietly A) none nobody A.world (at k d live M) (λ Z c. goes_on_by Quietly A Z (let z = both.disks in z.whole) c) marks (λ u off. absurd off) (λ u p off. off) (halted e k d M) (lines.stop e k d live M (known (at k d live M) r).0)
+      marks_next tops (Changes Quietly A) none no_top nobody A.world (at k d live M) (λ Z c. goes_on_by Quietly A Z (let z = both.disks in z.whole) c) (no_one none (at k d live M)) marks (λ u off. absurd off) (λ u p off. off) (halted e k d M) (lines.stop e k d live M (known (at k d live M) r).0)
           (recorded_at none (at k d live M) k d None M (halted e k d M) (λ i. refl) (others_then none k d live M) (here_then none k d live M)) (step_halted k d live M e d M (near_same M) (λ down. refl))
           (λ l y s. inl (marked_more M.lines (numbered e (body.Halted k ∷ [])) l y s ∙ or_false (was_marked M.lines l y s))) B changed seen,
     );
@@ -283,7 +289,7 @@ module _ (hd : Header) (x : ℕ) (K L : Seen → Type 0) (P : Kinds → Office �
             office = h.office;
             only = h.only;
             both = h.both;
-            along = along tops (Changes o h.office) C (IsMarking t.coord) A.world (up k d t M) (goes_from o A h.office h.only (let z = both.disks in z.whole)) marks (marked_here x k d t M tops A n both g.0 g.1 g.2) (apart_here x k d t M tops A n both g.0) e k outs v d M h.along
+            along = along tops (Changes o h.office) C (ends_of o) (IsMarking t.coord) A.world (up k d t M) (goes_from o A h.office h.only (let z = both.disks in z.whole)) (λ u on. inr (message_ends x d t u m on)) marks (marked_here x k d t M tops A n both g.0 g.1 g.2) (apart_here x k d t M tops A n both g.0) e k outs v d M h.along
                 (lines.message e k d t v from m outs M g.0 sent meant is) (records_walk C (up k d t M) k anyone e v outs d M (others_then C k d (Some t) M) (message_puts anyone k d t (are_theirs tops k d t M n) from m v outs is (λ u same. tt)) (here_then C k d (Some t) M)) (step_walk k d (Some t) M e v outs d M (near_same M) (was_up t) (was_up t))
                 (from_walk (IsMarking t.coord) (up k d t M) e k v outs d M (moved_base t.coord outs M (let w = message_moved e k d t M g.0 g.1 v from m outs is in w.whose)));
           },
@@ -300,7 +306,7 @@ module _ (hd : Header) (x : ℕ) (K L : Seen → Type 0) (P : Kinds → Office �
             office = h.office;
             only = h.only;
             both = h.both;
-            along = along tops (Changes Quietly h.office) C (IsMarking t.coord) A.world (up k d t M) (goes_from Quietly A h.office h.only (let z = both.disks in z.whole)) marks (marked_here x k d t M tops A n both g.0 g.1 g.2) (apart_here x k d t M tops A n both g.0) e k did.outs (with_coord t did.part) d M h.along
+            along = along tops (Changes Quietly h.office) C no_top (IsMarking t.coord) A.world (up k d t M) (goes_from Quietly A h.office h.only (let z = both.disks in z.whole)) (no_one C (up k d t M)) marks (marked_here x k d t M tops A n both g.0 g.1 g.2) (apart_here x k d t M tops A n both g.0) e k did.outs (with_coord t did.part) d M h.along
                 (lines.act e k d t i M is free g.0) (records_walk C (up k d t M) k anyone e (with_coord t did.part) did.outs d M (others_then C k d (Some t) M) (acts_put anyone t.coord (are_theirs tops k d t M n) d.intents i) (here_then C k d (Some t) M)) (step_walk k d (Some t) M e (with_coord t did.part) did.outs d M (near_same M) (was_up t) (was_up t))
                 (from_walk (IsMarking t.coord) (up k d t M) e k (with_coord t did.part) did.outs d M (moved_base t.coord did.outs M (let w = act_moved e k d t M g.0 g.1 hd i is free in w.whose)));
           },
@@ -309,7 +315,7 @@ module _ (hd : Header) (x : ℕ) (K L : Seen → Type 0) (P : Kinds → Office �
     begin = λ tops e k d t l how parent M A walk n r new may free kind both (part, marks).
         let did = begin_action l how parent (parent_of parent t.coord) t.coord in
         let N : Seen = given l (record { node = k; serial = is_serial_kind how }) M in
-        along tops (Changes Quietly A) none nobody A.world (up k d t M) (λ B c. goes_on_by Quietly A B (let z = both.disks in z.whole) c) marks (λ u off. absurd off) (λ u p off. off) e k did.outs (with_coord t did.part) d N
+        along tops (Changes Quietly A) none no_top nobody A.world (up k d t M) (λ B c. goes_on_by Quietly A B (let z = both.disks in z.whole) c) (no_one none (up k d t M)) marks (λ u off. absurd off) (λ u p off. off) e k did.outs (with_coord t did.part) d N
         (parts.begin tops e k d t l how parent M A walk n (to (up k d t M) r) new may free kind both part) (lines.begin e k d t l how parent M new may free (known (up k d t M) r).0)
         (records_walk none (up k d t M) k anyone e (with_coord t did.part) did.outs d N (others_then none k d (Some t) M) (tt, tt) (here_then none k d (Some t) M)) (step_walk k d (Some t) M e (with_coord t did.part) did.outs d N (given_near l how k M) (was_up t) (was_up t))
         (from_walk nobody (up k d t M) e k (with_coord t did.part) did.outs d N (λ y z s. inl (refl, refl)));
@@ -318,18 +324,19 @@ module _ (hd : Header) (x : ℕ) (K L : Seen → Type 0) (P : Kinds → Office �
         let v = with_coord t (let z = again_all t.coord.doings t.coord in z.part) in
         let g = known (up k d t M) r in
         let C : Uid → Type 0 = λ u. IsConfirming t.coord u in
-        along tops (Changes Quietly A) C nobody A.world (up k d t M) (λ B c. goes_on_by Quietly A B (let z = both.disks in z.whole) c) marks (marked_here x k d t M tops A n both g.0 g.1 g.2) (λ u p off. off) e k outs v d M
+        along tops (Changes Quietly A) C no_top nobody A.world (up k d t M) (λ B c. goes_on_by Quietly A B (let z = both.disks in z.whole) c) (no_one C (up k d t M)) marks (marked_here x k d t M tops A n both g.0 g.1 g.2) (λ u p off. off) e k outs v d M
         (parts.tick tops e k d t M A walk n (to (up k d t M) r) both part) (lines.tick e k d t M g.0)
         (records_walk C (up k d t M) k anyone e v outs d M (others_then C k d (Some t) M) (tick_puts anyone k d t (are_theirs tops k d t M n)) (here_then C k d (Some t) M)) (step_walk k d (Some t) M e v outs d M (near_same M) (was_up t) (was_up t))
         (from_walk nobody (up k d t M) e k v outs d M (λ l y s. inl (refl, unmarked_said outs (tick_fine NoMark apart_none (record { number = k; disk = d; live = Some t }) t) l y s)));
     restart = λ tops e k d M A walk r both (part, marks).
         let outs = restart_outs hd k (d.inc + 1) d in
         let v = parts_in k (d.inc + 1) d in
-        along tops (OnlyFound (are_recorded d.intents) A) none nobody A.world (down k d M) (λ B c. goes_on_along (are_recorded d.intents) A.world B.world (let z = both.disks in z.whole) c.along) marks (λ u off. absurd off) (λ u p off. off) e k outs v d M
+        along tops (OnlyFound (are_recorded d.intents) A) none (are_recorded d.intents) nobody A.world (down k d M) (λ B c. goes_on_along (are_recorded d.intents) A.world B.world (let z = both.disks in z.whole) c.along)
+        (λ u on. let r = record_of u d.intents on in inl (record { place = k; node = record { number = k; disk = d; live = None }; intent = r.0; here = node_here M k (record { number = k; disk = d; live = None }); there = r.1 })) marks (λ u off. absurd off) (λ u p off. off) e k outs v d M
         (parts.restart tops e k d M A walk (to (down k d M) r) both part) (lines.restart e k d M (known (down k d M) r).0)
         (records_walk none (down k d M) k anyone e v outs d M (others_then none k d None M) (plainly none anyone outs (restart_plain [] hd k d)) (here_then none k d None M)) (step_walk k d None M e v outs d M (near_same M) (λ down. restart_plain [] hd k d) (λ down. refl))
         (from_walk nobody (down k d M) e k v outs d M (λ l y s. inl (refl, unmarked_said outs (restart_fine NoMark apart_none hd k (d.inc + 1) d) l y s)));
-    first = λ tops walk kinds. let f = parts.first tops walk kinds in (f.0, f.1, (f.2, nothing_yet f.0 f.3), f.3, f.4);
+    first = λ tops walk kinds. let f = parts.first tops walk kinds in (f.0, f.1, (f.2, nothing_yet f.0 f.3 f.4), f.3, f.4);
   }
     where
       quiet_step : (e : ℕ) (bs : List Body) (M : Seen) → IsStep M (said e bs M)
@@ -341,9 +348,11 @@ module _ (hd : Header) (x : ℕ) (K L : Seen → Type 0) (P : Kinds → Office �
       was_up : {X : Type 0} (t : Parts) → Some t ≡ None → X
       was_up t is = absurd (let no_way : ◌≡◌ {A = Option Parts} (Some t) None = is in cc no_way)
 
-      nothing_yet : (A : Office) → (let W = A.world in let D = W.disk in D.tops) ≡ [] → AreMarkedSo x A.world (see [] (format hd))
-      nothing_yet A empty = record {
+      nothing_yet : (A : Office) → (let W = A.world in let D = W.disk in D.tops) ≡ [] → ((t : ℕ) → A.world.disk.bare t ≡ false) → AreMarkedSo x A.world (see [] (format hd))
+      nothing_yet A empty none_bare = record {
         decisions = λ u n here d. absurd (never d (ap (λ ds. decided_in ds (uid_number u)) empty));
+        bares = λ u on. absurd (never on (none_bare (uid_number u)));
         joiners = λ d i. absurd (subst (disk_list.In d) empty i);
+        still = λ d i. absurd (subst (disk_list.In d) empty i);
         records = λ u r. absurd (subst (λ (n : Node). list.In {X = Uid × Intent} (u, r.intent) (let c = n.disk in c.intents)) (sym (first_at hd r.place r.node r.here)) r.there);
       }

@@ -1,5 +1,5 @@
 -- The order in which an object's machine decides tops, in every run.
-use Rattle.std.proofs.Common.{◌≡◌, ◌⊎◌, ℕ, List, [], ◌∷◌, true, ◌∙◌, ap, subst, inl, inr, is_some, length, not, sym, ◌&&◌, ◌||◌, Bool, false, filter, None, refl}
+use Rattle.std.proofs.Common.{◌≡◌, ◌⊎◌, ℕ, List, [], ◌∷◌, true, ◌∙◌, ap, subst, inl, inr, is_some, length, not, sym, ◌&&◌, ◌||◌, Bool, false, filter, None}
 use Rattle.std.specs.Prelude.{◌≤◌, Contains}
 use Rattle.arj_journal.specs.ScriptForm.{HeaderInForm}
 use Rattle.arj_lock.proofs.Members.{In, in_from, in_to}
@@ -11,7 +11,7 @@ use Rattle.arj_disk_law.specs.Effects as machine
 use Rattle.arj_disk_law.specs.Names.{Office}
 use Rattle.arj_disk_law.specs.State.{Done, Plan, decided_in, target}
 use Rattle.arj_disk_law.specs.Words as disk_list
-use Rattle.arj_disk_law.proofs.Base.{never}
+use Rattle.arj_disk_law.proofs.Base.{never, or_right}
 use Rattle.arj_disk_law.proofs.History.{in_decided}
 use Rattle.arj_view_law.specs.Keeps.{Holds, Keeps}
 use Rattle.arj_view_law.specs.Seen.{Seen, Post, see}
@@ -40,7 +40,7 @@ use Rattle.arj_disk_line_law.proofs.Tying.{both_too, journalled_beside, one_act,
 use Rattle.arj_serial_law.specs.Cleaned.{BeginsSo}
 use Rattle.arj_disk_run_law.specs.Decided.{AreCalled, AreOnce}
 use Rattle.arj_joint_law.specs.Includers.{IncludersTakeTurns, RunsTakeTurns, TakesTurnsSo}
-use Rattle.arj_joint_law.specs.Ordered.{AreCountedOf, AreJoinedOf, AreLeftOf, AreRootedSo, AreTurns, AreTurnsOf, IsCalledFirst, IsOrderedSo, RunsAreOrdered, RunsAreOrderedBeside}
+use Rattle.arj_joint_law.specs.Ordered.{AreCountedOf, AreJoinedOf, AreLeftOf, AreRootedSo, AreStill, AreTurns, AreTurnsOf, AreUntouched, IsCalledFirst, IsOrderedSo, RunsAreOrdered, RunsAreOrderedBeside}
 use Rattle.arj_joint_law.proofs.Beginning.{WithFirst, first_begins, first_part}
 use Rattle.arj_joint_law.proofs.Firsts.{line_there}
 use Rattle.arj_joint_law.proofs.Ordering.{ordered_part}
@@ -87,7 +87,18 @@ module _ (hd : Header) (x : ℕ) (es : List Asked) (sent : List Post) (W : machi
   abbrev lines : List Line
   lines = (run_all es (format hd)).lines
 
-  -- one of them, by the machine and by the journal
+  -- an action whose marks are known, by the machine and by the journal
+  module _ (a : Act) (there : Contains (acts_of lines) a) (m : IsMarkedSo x W (see sent (run_all es (format hd))) a.uid) where
+    its_act : m.act ≡ a
+    its_act = one_act (acts_of lines) (let z : IsSound lines = is_sound lines right in z.distinct) m.act a (subst (In m.act) (its_acts lines right) (named_in (book lines).acts (let b = m.act in b.label) m.act m.named)) (in_from a (acts_of lines) there) m.uid
+
+    leaves_so : (s : ℕ) → (target (W.disk.plan (uid_number a.uid)) s && not (W.disk.got (uid_number a.uid) s)) ≡ is_among (leaves_of lines a.id x) s
+    leaves_so s = sym (m.marks s) ∙ ap (λ (y : Act). was_marked lines y.label x s) its_act ∙ left lines right x a (in_from a (acts_of lines) there) s
+
+    joins_so : (s : ℕ) → is_among (let p = W.disk.plan (uid_number a.uid) in p.joins) s ≡ is_among (joins_of lines a.id x) s
+    joins_so s = m.joins s ∙ joined lines right x a (in_from a (acts_of lines) there) s
+
+  -- one of them
   module _ (d : Done) (a : Act) (i : disk_list.In d W.disk.tops) (there : Contains (acts_of lines) a) (number : uid_number a.uid ≡ d.top) where
     marked : IsMarkedSo x W (see sent (run_all es (format hd))) a.uid
     marked = let node = have_nodes hd es a there in marks.decisions a.uid node.node node.there (ap (decided_in W.disk.tops) number ∙ in_decided W.disk.tops d i)
@@ -98,22 +109,15 @@ module _ (hd : Header) (x : ℕ) (es : List Asked) (sent : List Post) (W : machi
     its_got : d.got ≡ W.disk.got (uid_number a.uid)
     its_got = (let c = whole.core in let j = c.journal in j.got d i) ∙ ap W.disk.got (sym number)
 
-    same_act : marked.act ≡ a
-    same_act = one_act (acts_of lines) (let z : IsSound lines = is_sound lines right in z.distinct) marked.act a (subst (In marked.act) (its_acts lines right) (named_in (book lines).acts (let b = marked.act in b.label) marked.act marked.named)) (in_from a (acts_of lines) there) marked.uid
-
     leaves_here : (s : ℕ) → (target d.plan s && not (d.got s)) ≡ is_among (leaves_of lines a.id x) s
-    leaves_here s = (λ j. target (its_plan j) s && not (its_got j s)) ∙ sym (marked.marks s) ∙ ap (λ (y : Act). was_marked lines y.label x s) same_act ∙ left lines right x a (in_from a (acts_of lines) there) s
+    leaves_here s = (λ j. target (its_plan j) s && not (its_got j s)) ∙ leaves_so a there marked s
 
     same_joins : (s : ℕ) → is_among (let p = d.plan in p.joins) s ≡ is_among (joins_of lines a.id x) s
-    same_joins s = ap (λ (p : Plan). is_among p.joins s) its_plan ∙ marked.joins s ∙ joined lines right x a (in_from a (acts_of lines) there) s
+    same_joins s = ap (λ (p : Plan). is_among p.joins s) its_plan ∙ joins_so a there marked s
 
     got_so : (s : ℕ) → is_among (let p = d.plan in p.joins) s ≡ true → d.got s ≡ not (is_among (leaves_of lines a.id x) s)
     got_so s on = by (target d.plan s) (d.got s) (or_right _ (disk_list.has s (let p = d.plan in p.joins)) (has_is s (let p = d.plan in p.joins) ∙ on)) (leaves_here s)
       where
-        or_right : (b c : Bool) → c ≡ true → (b || c) ≡ true
-        or_right true c is = refl
-        or_right false c is = is
-
         by : (b c : Bool) → b ≡ true → (b && not c) ≡ is_among (leaves_of lines a.id x) s → c ≡ not (is_among (leaves_of lines a.id x) s)
         by true true on is = ap not is
         by true false on is = ap not is
@@ -127,10 +131,20 @@ module _ (hd : Header) (x : ℕ) (es : List Asked) (sent : List Post) (W : machi
         let j = marks.joiners d i counts plain in
         (j.0, in_to j.0 (joins_of lines a.id x) (in_among (joins_of lines a.id x) j.0 (sym (same_joins j.0) ∙ sym (has_is j.0 (let p = d.plan in p.joins)) ∙ j.1)))
 
+  untouched_all : AreUntouched lines x W.disk.bare
+  untouched_all a there on s =
+      let m = marks.bares a.uid on in
+      let none = (let c = whole.core in let b = c.bare in b.untouched (uid_number a.uid) on s) in
+      (sym (leaves_so a there m s) ∙ ap (λ b. b && not (W.disk.got (uid_number a.uid) s)) none, sym (joins_so a there m s) ∙ sym (has_is s (let p = W.disk.plan (uid_number a.uid) in p.joins)) ∙ by (is_some (let p = W.disk.plan (uid_number a.uid) in p.writes) && disk_list.has s (let p = W.disk.plan (uid_number a.uid) in p.list)) (disk_list.has s (let p = W.disk.plan (uid_number a.uid) in p.joins)) none)
+    where
+      by : (b c : Bool) → (b || c) ≡ false → c ≡ false
+      by true c off = absurd (cc off)
+      by false c off = off
+
   roots_all : AreRootedSo lines W.disk.root W.disk.tops
   roots_all d a i there number =
       let its = marked d a i there number in
-      ap W.disk.root (sym number) ∙ its.root ∙ ap (λ (us : List Act). uid_number (first_uid (uids (path us its.act.label)))) (its_acts lines right) ∙ ap (λ (y : Act). uid_number (first_uid (uids (path (acts_of lines) y.label)))) (same_act d a i there number)
+      ap W.disk.root (sym number) ∙ its.root ∙ ap (λ (us : List Act). uid_number (first_uid (uids (path us its.act.label)))) (its_acts lines right) ∙ ap (λ (y : Act). uid_number (first_uid (uids (path (acts_of lines) y.label)))) (its_act a there its)
 
   leaves_all : AreLeftOf lines x W.disk.tops
   leaves_all d a i there number s = leaves_here d a i there number s
@@ -173,6 +187,8 @@ ordered_beside hd x R P form there kept parts es short =
           leaves = (let j = b.0 in leaves_all hd x es h.sent j.machine right (let s = j.sees in s.whole) (subst (λ (W : machine.World). AreMarkedSo x W (see h.sent (run_all es (format hd)))) b.2 more.1));
           joins = (let j = b.0 in joins_all hd x es h.sent j.machine right (let s = j.sees in s.whole) (subst (λ (W : machine.World). AreMarkedSo x W (see h.sent (run_all es (format hd)))) b.2 more.1));
           counted = (let j = b.0 in counted_all hd x es h.sent j.machine right (let s = j.sees in s.whole) (subst (λ (W : machine.World). AreMarkedSo x W (see h.sent (run_all es (format hd)))) b.2 more.1));
+          still = subst (λ (W : machine.World). AreStill W.disk.tops) b.2 (let q = more.1 in q.still);
+          untouched = (let j = b.0 in untouched_all hd x es h.sent j.machine right (let s = j.sees in s.whole) (subst (λ (W : machine.World). AreMarkedSo x W (see h.sent (run_all es (format hd)))) b.2 more.1));
         },
         (let j = b.0 in j.tops),
         b.1,
@@ -202,7 +218,7 @@ runs_are_ordered_beside hd x part form there parts es short = ordered hd x (λ t
 pub runs_take_turns : RunsTakeTurns
 runs_take_turns hd x test form there rest es short =
     let h = ordered_beside hd x (IsCountedWith test) (WithTurns x (SeesCarried x)) form there (counted_with hd x test rest)
-        (turns_part hd x (λ W M. IsKnownWith test M) (SeesCarried x) (λ W M q. q.0.0.1) (λ tops A M p. p.0) (λ tops A M p. p.1) (heard_part hd x test (line_there hd x form there).0 rest)) es short in
+    (turns_part hd x (λ W M. IsKnownWith test M) (SeesCarried x) (λ W M q. q.0.0.1) (λ tops A M p. p.0) (λ tops A M p. p.1) (heard_part hd x test (line_there hd x form there).0 rest)) es short in
     record { sent = h.sent; stands = h.stands; holds = turned (see h.sent (run_all es (format hd))) h.holds }
   where
     turned : (M : Seen) → IsOrderedBeside (WithTurns x (SeesCarried x)) hd x M → TakesTurnsSo hd x M

@@ -1,15 +1,15 @@
 -- Runs whose files are clean, by both machines of each object, with what these are still asked for.
-use Rattle.std.specs.Prelude.{⊤, ◌≡◌, ◌≤◌, ◌++◌, ◌==◌, ℕ, Bool, true, List, [], ◌∷◌, None, Some, filter, is_some, length, Contains}
+use Rattle.std.specs.Prelude.{⊤, ◌≡◌, ◌≤◌, ◌++◌, ◌==◌, ◌||◌, ℕ, Bool, true, false, List, [], ◌∷◌, None, Some, filter, is_some, length, Contains}
 use Rattle.std.specs.List.{list_any}
 use Rattle.arj_journal.specs.ScriptForm.{HeaderInForm}
 use Rattle.arj_model.specs.Actions.{acts}
 use Rattle.arj_model.specs.Calls.{Top, tops}
 use Rattle.arj_model.specs.Clean.{Clean, Disks}
-use Rattle.arj_model.specs.Last.{first_values, object_line, serial_tops, uid_of_id}
+use Rattle.arj_model.specs.Last.{first_values, is_among, leaves_of, listed_after, object_line, serial_tops, uid_of_id}
 use Rattle.arj_protocol.specs.Order.{uid_number}
 use Rattle.arj_protocol.specs.Words.{Header, Line}
 use Rattle.arj_protocol.specs.World.{Asked, format, journal, run_all}
-use Rattle.arj_law.specs.Growth.{IdleInPlace, first_stores}
+use Rattle.arj_law.specs.Growth.{first_stores}
 use Rattle.arj_disk_law.specs.Order.{counts_of}
 use Rattle.arj_disk_law.specs.State.{Done, Packed, State, entry_in, last_entry}
 use Rattle.arj_disk_law.specs.Words.{In}
@@ -44,20 +44,26 @@ AreNamed lines [] [] = ⊤
 AreNamed lines (d ∷ ds) (t ∷ ts) = IsNamed lines d t × AreNamed lines ds ts
 AreNamed lines ds ts = ⊥
 
+-- a top that doesn't count excludes, at its place in the serial order, no store that is listed
+abbrev pub ExcludesNoListed : List Line → ℕ → (Top → Bool) → List ℕ → List Top → Type 0
+ExcludesNoListed lines x counts stores [] = ⊤
+ExcludesNoListed lines x counts stores (t ∷ ts) = (counts t ≡ false → (s : ℕ) → is_among stores s ≡ true → is_among (leaves_of lines t.id x) s ≡ false) × ExcludesNoListed lines x counts (listed_after lines x stores t) ts
+
 -- The decided tops of the disk machine that count are these tops of the journal. As `DecideChanges` of `arj_serial_law`, but what they wrote,
--- included and excluded isn't asked, nor in which order their commits were called; and not that each top which wrote it is one of these.
+-- included and excluded isn't asked, nor in which order their commits were called; and not that each top which wrote it is one of these, nor
+-- what the others add to the list.
 pub record DecideThose (header : Header) (lines : List Line) (x : ℕ) (S : State) (ds : List Done) : Type 0 where
   pub those : List Top
   pub each : AreNamed lines (filter counts_of ds) those
-  pub idle : IdleInPlace lines x (is_one_of those) (first_stores header x) (serial_tops lines)
+  pub idle : ExcludesNoListed lines x (λ t. is_one_of those t || S.bare (number_of lines t)) (first_stores header x) (serial_tops lines)
 
 -- So it is of all but the newest ones: those that the journal doesn't have since their nodes are late to say so, and whoever was decided
--- between them and didn't write the object, as `AreDecidedOrLate` of `arj_serial_law` has it.
+-- between them, didn't write the object and adds no store, as `AreDecidedOrLate` of `arj_serial_law` has it.
 pub record DecideThoseOrLate (header : Header) (lines : List Line) (x : ℕ) (S : State) : Type 0 where
   pub late : List Done
   pub others : List Done
   pub are : S.tops ≡ late ++ others
-  pub silent : (d : Done) (t : Top) → In d late → Contains (tops lines) t → d.top ≡ number_of lines t → Wrote lines x t → ⊥
+  pub silent : (d : Done) (t : Top) → In d late → Contains (tops lines) t → d.top ≡ number_of lines t → (Wrote lines x t → ⊥) × (filter d.got (let p = d.plan in p.joins) ≡ [])
   pub decide : DecideThose header lines x S others
   pub unmoved : (d : Done) (w : Packed) (s : ℕ) → In d late → (let p = d.plan in p.writes) ≡ Some w → S.held s ≡ Some w → ⊥
   pub unlisted : S.entry_pend ≡ None → last_entry S ≡ entry_in S.first_entry others

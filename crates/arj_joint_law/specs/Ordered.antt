@@ -70,8 +70,16 @@ AreJoinedOf lines x ds = (d : Done) (a : Act) → In d ds → Contains (acts lin
 abbrev pub AreCountedOf : List Line → ℕ → List Done → Type 0
 AreCountedOf lines x ds = (d : Done) (a : Act) → In d ds → Contains (acts lines) a → uid_number a.uid ≡ d.top → d.counts ≡ true → (let p = d.plan in p.writes) ≡ None → (s : ℕ) × Contains (joins_of lines a.id x) s
 
+-- who of them doesn't count has taken no store's Yes
+abbrev pub AreStill : List Done → Type 0
+AreStill ds = (d : Done) → In d ds → d.counts ≡ false → (s : ℕ) → d.got s ≡ false
+
+-- an action of these, whose commit ended without a record, excluded no store by the journal, and none of its includes survives
+abbrev pub AreUntouched : List Line → ℕ → (ℕ → Bool) → Type 0
+AreUntouched lines x bare = (a : Act) → Contains (acts lines) a → bare (uid_number a.uid) ≡ true → (s : ℕ) → (is_among (leaves_of lines a.id x) s ≡ false) × (is_among (joins_of lines a.id x) s ≡ false)
+
 -- The machine began as the header says and decided as the journal says, in this order, excluded and included what the journal says, and has its
--- roots.
+-- roots; and who didn't count, or ended without a record, changed as little as that.
 pub record IsOrderedSo (hd : Header) (x : ℕ) (M : Seen) : Type 0 where
   pub begun : IsBegunSo hd x M
   pub once : AreOnce (let j = (let b = begun in b.journalled) in let W = j.machine in let S = W.disk in S.tops)
@@ -81,6 +89,8 @@ pub record IsOrderedSo (hd : Header) (x : ℕ) (M : Seen) : Type 0 where
   pub roots : let j = (let b = begun in b.journalled) in let W = j.machine in let S = W.disk in AreRootedSo M.lines S.root S.tops
   pub joins : AreJoinedOf M.lines x (let j = (let b = begun in b.journalled) in let W = j.machine in let S = W.disk in S.tops)
   pub counted : AreCountedOf M.lines x (let j = (let b = begun in b.journalled) in let W = j.machine in let S = W.disk in S.tops)
+  pub still : AreStill (let j = (let b = begun in b.journalled) in let W = j.machine in let S = W.disk in S.tops)
+  pub untouched : AreUntouched M.lines x (let j = (let b = begun in b.journalled) in let W = j.machine in let S = W.disk in S.bare)
 
 -- So it is in the run of every script, of each object of the header, with what is still taken of what coordinators have of naming's
 -- answers; and beside any relation that is kept with the machine's state.
