@@ -48,7 +48,9 @@ use Rattle.arj_lock_run_law.specs.Kept.{case_of}
 use Rattle.arj_lock_run_law.specs.Sees.{HasConfirm, IsPast, SeesDown, SeesMemory, SeesUp}
 use Rattle.arj_serial_law.proofs.Ties.{as_said}
 use Rattle.arj_lock_whole_law.specs.Aborts.{AbortsAreKnown, IsAbortTold, IsBegunAt, IsPartAsked}
+use Rattle.arj_lock_whole_law.specs.Acks.{AcksAreKnown}
 use Rattle.arj_lock_whole_law.proofs.AbortRuns.{root_own}
+use Rattle.arj_lock_whole_law.proofs.AckSteps.{voter_part}
 
 some_is : {A : Type 0} {a b : A} → Some a ≡ Some b → a ≡ b
 some_is {A} {a} {b} is = let k : ◌≡◌ {A = Option A} (Some a) (Some b) = is in cc
@@ -209,8 +211,8 @@ module _ (f : Fixed) (x : ℕ) (begun : List Action) (S : State) (s : Spot) (see
         by (Some t) live m = up_now t live m
 
   -- the server didn't vote for it
-  pub unvoted : (u : Uid) → IsToldAbort s u → IsCommittedTop (case_of f x begun S) u → (IsUnitOver (case_of f x begun S) u → ⊥) → is_on (let v = server_at s in v.voted) u ≡ false
-  unvoted u told top_u open_unit = false_from_ne_true (is_on (let v = server_at s in v.voted) u) (λ on. nobody_asked u told top_u open_unit (knows.voted s.node (record { number = s.node; disk = s.disk; live = Some s.parts }) s.parts u here refl on))
+  pub unvoted : AcksAreKnown true begun (world_at s) → (u : Uid) → IsToldAbort s u → IsCommittedTop (case_of f x begun S) u → (IsUnitOver (case_of f x begun S) u → ⊥) → is_on (let v = server_at s in v.voted) u ≡ false
+  unvoted acks u told top_u open_unit = false_from_ne_true (is_on (let v = server_at s in v.voted) u) (λ on. let k = acks.nodes s.node (record { number = s.node; disk = s.disk; live = Some s.parts }) here s.parts refl in nobody_asked u told top_u open_unit (voter_part M.sent u s.node (let v = server_at s in v.inc) (k.voted u on)))
 
   -- nor did naming confirm it
   pub unconfirmed : (n : Naming) (u : Uid) → (let t = s.parts in t.naming) ≡ Some n → IsToldAbort s u → is_on n.told u ≡ false → IsCommittedTop (case_of f x begun S) u → (IsUnitOver (case_of f x begun S) u → ⊥) → IsConfirmedNow (case_of f x begun S) u → ⊥

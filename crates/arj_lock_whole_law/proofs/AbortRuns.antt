@@ -1,6 +1,6 @@
 -- What is known of aborts that are told is kept by each handler, where the journal, who takes part in commits, questions and records are known.
-use Rattle.std.proofs.Common.{◌≡◌, ◌≢◌, ◌⊎◌, ◌<◌, ◌∙◌, ◌+◌, ◌==◌, ◌++◌, arith, ℕ, zero, suc, Bool, true, false, cond, List, [], ◌∷◌, map, length, refl, sym, ap, subst, inl, inr, ⊎_elim, Option, Some, None, Contains}
-use Rattle.std.specs.Prelude.{is_some, slice_get}
+use Rattle.std.proofs.Common.{◌≡◌, ◌≢◌, ◌⊎◌, ◌<◌, ◌∙◌, ◌+◌, ◌==◌, ◌++◌, arith, ℕ, Bool, true, false, cond, List, [], ◌∷◌, map, length, refl, sym, ap, subst, inl, inr, ⊎_elim, Option, Some, None, Contains}
+use Rattle.std.specs.Prelude.{is_some}
 use Rattle.std.proofs.lemmas.Bool.{and_parts, eqb-true}
 use Rattle.arj_lock.proofs.Members.{in_from, in_to}
 use Rattle.arj_protocol.specs.Words.{Ask, End, Head, Header, Kind, Label, Message, Uid, asks, first_uid, is_on, uids_of}
@@ -19,7 +19,7 @@ use Rattle.arj_protocol.specs.Order.{at_uid}
 use Rattle.arj_protocol.specs.Says.{AreAll}
 use Rattle.arj_protocol.specs.Step.{Input, Node, acts, first_disk, first_node, numbers_to, parent_of, parts_in, refusal_up, restart_outs, tolds_again}
 use Rattle.arj_protocol.specs.Step as input
-use Rattle.arj_protocol.specs.Tree.{Tree, at_place, branch_of, is_own, root_of}
+use Rattle.arj_protocol.specs.Tree.{Tree, branch_of, is_own, root_of}
 use Rattle.arj_protocol.specs.World.{format, is_serial_kind}
 use Rattle.arj_part_law.specs.Actions.{Action, AreBegun, Stands, action_of, act_of, paths_of}
 use Rattle.arj_part_law.specs.Coords.{IsCommitting, IsGoodCoord, IsOver}
@@ -54,13 +54,12 @@ use Rattle.arj_lock_fact_law.proofs.PartWalks.{handled}
 use Rattle.arj_lock_run_law.specs.Beside.{told_in}
 use Rattle.arj_lock_run_law.proofs.LeftSteps.{AreSentTo, IsSentTo}
 use Rattle.arj_lock_run_law.proofs.WalkSteps.{leaves}
-use Rattle.arj_lock_whole_law.specs.Aborts.{AbortsAreKnown, IsPartAsked, KnowsAborts}
+use Rattle.arj_lock_whole_law.specs.Aborts.{AbortsAreKnown, KnowsAborts}
 use Rattle.arj_lock_whole_law.specs.Tops.{TopsAreKnown}
 use Rattle.arj_lock_whole_law.proofs.Aborting.{AllTell, IsFirm, Runs, acked_tells, acts_run, heard_runs, plain_runs, query_earlier, query_tells, tell_again, tell_both}
 use Rattle.arj_lock_whole_law.proofs.AbortWalks.{Around, Before, Here, IsAsker, IsHome, around, decided_keeps, down_so, mute_queries, mute_records, mute_restart, mute_seeks, mute_tells, quietly, runs_walk, start_walk, walk}
 use Rattle.arj_lock_whole_law.proofs.CoordCases.{Acks, Asks, CoordCase, Heard, OfParts, coord_case}
 use Rattle.arj_lock_whole_law.proofs.Of.{walk_end}
-use Rattle.arj_lock_whole_law.proofs.Voters.{votes_asked}
 
 some_is : {A : Type 0} {a b : A} → Some a ≡ Some b → a ≡ b
 some_is {A} {a} {b} is = let k : ◌≡◌ {A = Option A} (Some a) (Some b) = is in cc
@@ -184,8 +183,8 @@ module _ (begun : List Action) (e k : ℕ) (d : Disk) (t : Parts) (M : Seen) (go
           subst (IsEnd (book M.lines) u (let b = gone.0 in b.kind)) gone.2 s.end
 
   -- what it has is so of the coordinator behind a step
-  here_of : (v : Parts) → StaysPart t.coord v.coord → ((u : Uid) → is_own u v.coord.tree ≡ is_own u t.coord.tree) → Decides t.coord.tree v.coord.tree → ((u : Uid) → is_on v.server.voted u ≡ true → IsPartAsked M.sent u k) → Here begun k v M.sent
-  here_of v stays own on voted = record { asker = asker; aborts = aborts_on; voted = voted }
+  here_of : (v : Parts) → StaysPart t.coord v.coord → ((u : Uid) → is_own u v.coord.tree ≡ is_own u t.coord.tree) → Decides t.coord.tree v.coord.tree → Here begun k v M.sent
+  here_of v stays own on = record { asker = asker; aborts = aborts_on }
     where
       asker : IsAsker begun M.sent v.coord
       asker p h a there is part its = by (stays (actor h.path) p.to a (parts p h a there is part (sym (own (actor h.path)) ∙ its)))
@@ -199,9 +198,6 @@ module _ (begun : List Action) (e k : ℕ) (d : Disk) (t : Parts) (M : Seen) (go
           let z = aborts u to p (sym (own u) ∙ its) in
           (over_on t.coord.tree v.coord.tree on u z.0, λ q. ⊎_elim (λ gone. inl (on u ending.Abort gone)) (λ over. inr (over.0, over.1, over.2, over_on t.coord.tree v.coord.tree on (root_of (let a = over.0 in a.path)) over.3)) (z.1 q))
 
-  voted_same : (u : Uid) → is_on t.server.voted u ≡ true → IsPartAsked M.sent u k
-  voted_same u on = all.voted k its_node t u here refl on
-
   firm_of : (v : Parts) → IsHome begun k v.coord × IsSure v.coord → IsFirm begun good.begun (paths_of begun) tree v.coord
   firm_of v h = (let z = h.0 in z.good, h.1)
 
@@ -211,7 +207,7 @@ module _ (begun : List Action) (e k : ℕ) (d : Disk) (t : Parts) (M : Seen) (go
   -- ---- messages
 
   message_walk : (from : ℕ) (m : Message) (v : Parts) (outs : List Effect) → In (record { from = from; to = k; message = m }) M.sent → handle k d t from m ≡ Took v outs → Walks (AbortsAreKnown begun) e k outs (Up (AbortsAreKnown begun) k v) d M
-  message_walk from m v outs there is = runs_walk begun k v end.0 t.coord e outs d M (runs (coord_case k d t v from m outs is)) h.1 before o (here_of v h.0 (let g = truly.0 in g.own) surely.1 voted) (let w = written in w.found)
+  message_walk from m v outs there is = runs_walk begun k v end.0 t.coord e outs d M (runs (coord_case k d t v from m outs is)) h.1 before o (here_of v h.0 (let g = truly.0 in g.own) surely.1) (let w = written in w.found)
     where
       end : IsHome begun k v.coord × IsSure v.coord
       end = home_end begun e k v outs d M (message_good e k d t M (begun, good) v from m outs there is)
@@ -226,9 +222,6 @@ module _ (begun : List Action) (e k : ℕ) (d : Disk) (t : Parts) (M : Seen) (go
       h = handled (λ c. StaysPart t.coord c) k d t from m (λ u to a is. is)
           (λ a r at. (part_heard begun (paths_of begun) tree t.coord coord from a r d.intents, heard_seeks begun (paths_of begun) tree t.coord coord works from a r d.intents))
           (λ w. (part_acked from w d.intents t.coord, acked_seeks from w d.intents t.coord)) v outs is
-
-      voted : (u : Uid) → is_on v.server.voted u ≡ true → IsPartAsked M.sent u k
-      voted u on = ⊎_elim (λ old. voted_same u old) (λ q. record { post = record { from = from; to = k; message = m }; head = (q.0).0; ask = (q.0).1; there = there; to_it = refl; is = q.1; part = q.2; by = q.3 }) (votes_asked k d t from u m v outs is on)
 
       -- the root of a record's action is its own
       roots : (u : Uid) (i : Intent) → at_uid u d.intents ≡ Some i → (a : Action) × Contains begun a × (act_of a ≡ i.root) × (root_of a.path ≡ i.root)
@@ -270,7 +263,7 @@ module _ (begun : List Action) (e k : ℕ) (d : Disk) (t : Parts) (M : Seen) (go
       let g = (well_acts begun (paths_of begun) tree d.intents t.coord coord works hd i free other).0 in
       runs_walk begun k v end.0 t.coord e r.outs d M (acts_run begun good.begun (paths_of begun) tree d.intents t.coord coord works hd i free (firm_of v end))
       (acts_seeks begun (paths_of begun) tree t.coord coord works i d.intents other) before o
-      (here_of v (part_acts begun (paths_of begun) tree t.coord coord hd i d.intents free other) g.own (stand_acts begun (paths_of begun) tree d.intents t.coord coord hd i free).ends voted_same) (let w = written in w.found)
+      (here_of v (part_acts begun (paths_of begun) tree t.coord coord hd i d.intents free other) g.own (stand_acts begun (paths_of begun) tree d.intents t.coord coord hd i free).ends) (let w = written in w.found)
     where
       other : (l : Label) (how : Kind) (parent : Option Label) → i ≢ input.Begin l how parent
       other l how parent same = let no_way : false ≡ true = sym (ap is_act same) ∙ is in absurd (cc no_way)
@@ -286,7 +279,7 @@ module _ (begun : List Action) (e k : ℕ) (d : Disk) (t : Parts) (M : Seen) (go
       walk begun k v end.0 e (tick_outs (record { number = k; disk = d; live = Some t }) t) d M
       (tell_both begun r.part (r.outs ++ tolds) queries (tell_both begun r.part r.outs tolds (tell_again begun r.part t.coord.doings t.coord) (mute_tells begun r.part tolds (mute_records t.coord.telling))) (mute_tells begun r.part queries (mute_queries (holders d t))))
       (seek_both r.part (r.outs ++ tolds) queries (seek_both r.part r.outs tolds (again_seeks begun (paths_of begun) tree t.coord coord works x.numbered) (mute_seeks r.part tolds (mute_records t.coord.telling))) (mute_seeks r.part queries (mute_queries (holders d t))))
-      o (here_of v (part_again t.coord.doings t.coord) g.own (stand_again begun (paths_of begun) tree t.coord.doings t.coord).ends voted_same) (inr (let w = written in w.found))
+      o (here_of v (part_again t.coord.doings t.coord) g.own (stand_again begun (paths_of begun) tree t.coord.doings t.coord).ends) (inr (let w = written in w.found))
 
 -- ---- an action begins
 
@@ -303,7 +296,6 @@ module _ (a : Action) (begun : List Action) where
     told = λ u to p. let b = o.told u to p in let z = b.0 in ((z.0, known_more z.0 z.1, z.2), b.1);
     confirms = o.confirms;
     up = λ j n t apart is up_it. aborts_more M.sent t.coord.tree (o.up j n t apart is up_it);
-    voted = o.voted;
     down = λ j n apart is down_it w i at other open_still u to node told part b known of root. ⊎_elim
         (λ same. absurd (let z = (o.told u to told).0 in never (subst (λ y. is_on (uids_of (let x = z.0 in x.path)) y ≡ true) (z.2 ∙ sym of ∙ ap act_of (sym same)) (on_own (let x = z.0 in x.path))) (started.0.new z.0 z.1)))
         (λ old. o.down j n apart is down_it w i at other open_still u to node told part b (in_to b begun old) of root) (in_from b (a ∷ begun) known);
@@ -322,16 +314,16 @@ begin_walk begun e k d t l how parent M goes good need all =
     let end = home_end (a ∷ begun) e k v did.outs d N goes in
     let w = walk_end (IsGoodOf (a ∷ begun)) e k (Up (IsGoodOf (a ∷ begun)) k v) did.outs d N goes in
     let started = (let g = w.2 in g.begun) in
-    let h = here_of begun e k d t M good need all v (part_begins l how parent t.coord) (λ u. refl) (stand_begins how _ t.coord.tree).ends (voted_same begun e k d t M good need all) in
+    let h = here_of begun e k d t M good need all v (part_begins l how parent t.coord) (λ u. refl) (stand_begins how _ t.coord.tree).ends in
     let r = around_more a begun k M started (o begun e k d t M good need all) in
     walk (a ∷ begun) k v end.0 e did.outs d N (tt, tt) (tt, tt)
-    (record { told = r.told; confirms = r.confirms; up = r.up; voted = r.voted; down = r.down; homes = r.homes })
-    (record { asker = h.asker; aborts = aborts_more a begun M.sent did.part.tree h.aborts; voted = h.voted }) (inr (let z = written begun e k d t M good need all in z.found))
+    (record { told = r.told; confirms = r.confirms; up = r.up; down = r.down; homes = r.homes })
+    (record { asker = h.asker; aborts = aborts_more a begun M.sent did.part.tree h.aborts }) (inr (let z = written begun e k d t M good need all in z.found))
 
 -- ---- restarts
 
 restart_walk : (hd : Header) (begun : List Action) (e k : ℕ) (d : Disk) (M : Seen) → IsGoodOf begun (down k d M) → AbortsAreKnown begun (down k d M) → Walks (AbortsAreKnown begun) e k (restart_outs hd k (d.inc + 1) d) (Up (AbortsAreKnown begun) k (parts_in k (d.inc + 1) d)) d M
-restart_walk hd begun e k d M good all = start_walk begun k (parts_in k (d.inc + 1) d) bare (λ u on. absurd (cc on)) e (restart_outs hd k (d.inc + 1) d) d M (mute_restart hd k (d.inc + 1) d) (around begun k d None M good all)
+restart_walk hd begun e k d M good all = start_walk begun k (parts_in k (d.inc + 1) d) bare e (restart_outs hd k (d.inc + 1) d) d M (mute_restart hd k (d.inc + 1) d) (around begun k d None M good all)
     (all.down k (record { number = k; disk = d; live = None }) here refl)
   where
     here : (let S = down k d M in S.nodes k) ≡ Some (record { number = k; disk = d; live = None })
@@ -355,21 +347,8 @@ aborts_first hd = record {
   told = λ u to p. absurd p.1;
   confirms = λ p h a there. absurd there;
   up = λ j n t is up_it u to p. absurd p.1;
-  voted = voted;
   down = λ j n is down_it w i at other open_still u to node told. absurd told.1;
 }
-  where
-    got : (ms : List ℕ) (i : ℕ) (n : Node) → slice_get (map (first_node hd) ms) i ≡ Some n → (m : ℕ) × (first_node hd m ≡ n)
-    got [] i n is = none_at refl is
-    got (m ∷ ms) zero n is = (m, some_is is)
-    got (m ∷ ms) (suc i) n is = got ms i n is
-
-    voted : (j : ℕ) (n : Node) (t : Parts) (u : Uid) → at_place j (map (first_node hd) (numbers_to hd.nodes)) ≡ Some n → n.live ≡ Some t → is_on t.server.voted u ≡ true → IsPartAsked [] u j
-    voted zero n t u is live on = none_at refl is
-    voted (suc j) n t u is live on =
-        let f = got (numbers_to hd.nodes) j n is in
-        let same : parts_in f.0 1 (first_disk hd f.0) ≡ t = some_is (ap (λ (z : Node). z.live) f.1 ∙ live) in
-        let no_way : false ≡ true = ap (λ (z : Parts). is_on z.server.voted u) same ∙ on in absurd (cc no_way)
 
 pub aborts_of : (hd : Header) → KeepsOf hd AbortsNeed AbortsAreKnown
 aborts_of hd = record {

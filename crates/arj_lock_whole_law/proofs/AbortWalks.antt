@@ -89,7 +89,6 @@ module _ (begun : List Action) where
     pub told : (u : Uid) (to : ℕ) → IsAbortTold M.sent u to → ((a : Action) × Contains begun a × (act_of a ≡ u)) × ((u.node ≡ k) ⊎ ((n : Node) × (M.nodes u.node ≡ Some n)))
     pub confirms : (p : Post) (h : Head) (a : Ask) → In p M.sent → asks p.message ≡ Some (h, a) → is_confirm a ≡ true → p.to ≡ 1
     pub up : (j : ℕ) (n : Node) (t : Parts) → (j ≡ k → ⊥) → M.nodes j ≡ Some n → n.live ≡ Some t → KnowsAborts begun M.sent t.coord.tree
-    pub voted : (j : ℕ) (n : Node) (t : Parts) (u : Uid) → (j ≡ k → ⊥) → M.nodes j ≡ Some n → n.live ≡ Some t → is_on t.server.voted u ≡ true → IsPartAsked M.sent u j
     pub down : (j : ℕ) (n : Node) → (j ≡ k → ⊥) → M.nodes j ≡ Some n → n.live ≡ None → KeepsAborts begun M.sent (book M.lines) j (let d = n.disk in d.intents)
     pub homes : (j : ℕ) (n : Node) (t : Parts) → (j ≡ k → ⊥) → M.nodes j ≡ Some n → n.live ≡ Some t → t.coord.tree.node ≡ j
 
@@ -98,7 +97,6 @@ module _ (begun : List Action) where
     told = λ u to p. let b = all.told u to p in (b.0, by u (u.node == k) refl b.1);
     confirms = all.confirms;
     up = λ j n t apart is up_it. all.up j n t (elsewhere j apart ∙ is) up_it;
-    voted = λ j n t u apart is up_it. all.voted j n t u (elsewhere j apart ∙ is) up_it;
     down = λ j n apart is down_it. all.down j n (elsewhere j apart ∙ is) down_it;
     homes = λ j n t apart is up_it. let p = good.places j n (elsewhere j apart ∙ is) in let u = subst (IsMemory begun M.sent M.labels j n.disk.inc) up_it p.memory in u.node;
   }
@@ -115,14 +113,13 @@ module _ (begun : List Action) where
 
   -- the node again, up or down
   abbrev IsAt : ℕ → Disk → Option Parts → Seen → Type 0
-  IsAt k d live M = ((t : Parts) → live ≡ Some t → KnowsAborts begun M.sent t.coord.tree × ((u : Uid) → is_on t.server.voted u ≡ true → IsPartAsked M.sent u k)) × (live ≡ None → KeepsAborts begun M.sent (book M.lines) k d.intents)
+  IsAt k d live M = ((t : Parts) → live ≡ Some t → KnowsAborts begun M.sent t.coord.tree) × (live ≡ None → KeepsAborts begun M.sent (book M.lines) k d.intents)
 
   back : (k : ℕ) (d : Disk) (live : Option Parts) (M : Seen) → IsAt k d live M → Around k M → AbortsAreKnown begun (at k d live M)
   back k d live M its o = record {
     told = λ u to p. let b = o.told u to p in (b.0, found u (u.node == k) refl b.1);
     confirms = o.confirms;
     up = λ j n t is up_it. ups j n t (j == k) refl is up_it;
-    voted = λ j n t u is up_it. votes j n t u (j == k) refl is up_it;
     down = λ j n is down_it. downs j n (j == k) refl is down_it;
   }
     where
@@ -138,22 +135,18 @@ module _ (begun : List Action) where
       found u false apart (inr n) = (n.0, (λ i. cond (apart i) (Some x) (M.nodes u.node)) ∙ n.1)
 
       ups : (j : ℕ) (n : Node) (t : Parts) (b : Bool) → (j == k) ≡ b → cond b (Some x) (M.nodes j) ≡ Some n → n.live ≡ Some t → KnowsAborts begun M.sent t.coord.tree
-      ups j n t true same is up_it = (its.0 t (ap (λ (z : Node). z.live) (some_is is) ∙ up_it)).0
+      ups j n t true same is up_it = its.0 t (ap (λ (z : Node). z.live) (some_is is) ∙ up_it)
       ups j n t false apart is up_it = o.up j n t (off j apart) is up_it
-
-      votes : (j : ℕ) (n : Node) (t : Parts) (u : Uid) (b : Bool) → (j == k) ≡ b → cond b (Some x) (M.nodes j) ≡ Some n → n.live ≡ Some t → is_on t.server.voted u ≡ true → IsPartAsked M.sent u j
-      votes j n t u true same is up_it on = subst (IsPartAsked M.sent u) (sym (eqb-true j k same)) ((its.0 t (ap (λ (z : Node). z.live) (some_is is) ∙ up_it)).1 u on)
-      votes j n t u false apart is up_it on = o.voted j n t u (off j apart) is up_it on
 
       downs : (j : ℕ) (n : Node) (b : Bool) → (j == k) ≡ b → cond b (Some x) (M.nodes j) ≡ Some n → n.live ≡ None → KeepsAborts begun M.sent (book M.lines) j (let y = n.disk in y.intents)
       downs j n true same is down_it = subst (λ (z : Node). KeepsAborts begun M.sent (book M.lines) j (let y = z.disk in y.intents)) (some_is is) (subst (λ z. KeepsAborts begun M.sent (book M.lines) z d.intents) (sym (eqb-true j k same)) (its.1 (ap (λ (z : Node). z.live) (some_is is) ∙ down_it)))
       downs j n false apart is down_it = o.down j n (off j apart) is down_it
 
   around_said : (k e : ℕ) (bs : List Body) (M : Seen) → Around k M → Around k (said e bs M)
-  around_said k e bs M o = record { told = o.told; confirms = o.confirms; up = o.up; voted = o.voted; down = λ j n apart is down_it. keeps_later begun M.sent (book M.lines) (book (let N = said e bs M in N.lines)) j (let d = n.disk in d.intents) (later_said e bs M) (o.down j n apart is down_it); homes = o.homes }
+  around_said k e bs M o = record { told = o.told; confirms = o.confirms; up = o.up; down = λ j n apart is down_it. keeps_later begun M.sent (book M.lines) (book (let N = said e bs M in N.lines)) j (let d = n.disk in d.intents) (later_said e bs M) (o.down j n apart is down_it); homes = o.homes }
 
   pub quietly : (e : ℕ) (bs : List Body) (M : Seen) → AbortsAreKnown begun M → AbortsAreKnown begun (said e bs M)
-  quietly e bs M all = record { told = all.told; confirms = all.confirms; up = all.up; voted = all.voted; down = λ j n is down_it. keeps_later begun M.sent (book M.lines) (book (let N = said e bs M in N.lines)) j (let d = n.disk in d.intents) (later_said e bs M) (all.down j n is down_it) }
+  quietly e bs M all = record { told = all.told; confirms = all.confirms; up = all.up; down = λ j n is down_it. keeps_later begun M.sent (book M.lines) (book (let N = said e bs M in N.lines)) j (let d = n.disk in d.intents) (later_said e bs M) (all.down j n is down_it) }
 
   -- it has stopped
   pub down_so : (e k : ℕ) (d : Disk) (M : Seen) → KeepsAborts begun M.sent (book M.lines) k d.intents → Around k M → AbortsAreKnown begun (halted e k d M)
@@ -165,7 +158,6 @@ module _ (begun : List Action) where
     told = λ u n p. ⊎_elim (λ same. (started u (subst (λ (z : Post). Contains {X = Uid × End} (told_in z.message) (u, ending.Abort)) (sym same) p.3), inl (own.tells u (subst (λ (z : Post). Contains {X = Uid × End} (told_in z.message) (u, ending.Abort)) (sym same) p.3)))) (λ old. o.told u n (p.0, old, p.2, p.3)) p.1;
     confirms = λ p h a there is it. ⊎_elim (λ same. ap (λ (z : Post). z.to) (sym same) ∙ confirm h a (ap (λ (z : Post). asks z.message) same ∙ is) it) (λ old. o.confirms p h a old is it) there;
     up = λ j n t apart is up_it u n2 p its. ups j n t apart is up_it u n2 p its;
-    voted = λ j n t u apart is up_it on. part_more r M.sent u j (o.voted j n t u apart is up_it on);
     down = λ j n apart is down_it w i at other open_still u n2 node told part. o.down j n apart is down_it w i at other open_still u n2 node (told_less k r M.sent own u (λ same. apart (sym node ∙ same)) n2 told) (part_less k r M.sent own u (λ same. apart (sym node ∙ same)) n2 part);
     homes = o.homes;
   }
@@ -195,7 +187,6 @@ module _ (begun : List Action) where
   pub record Here (k : ℕ) (v : Parts) (sent : List Post) : Type 0 where
     pub asker : IsAsker sent v.coord
     pub aborts : KnowsAborts begun sent v.coord.tree
-    pub voted : (u : Uid) → is_on v.server.voted u ≡ true → IsPartAsked sent u k
 
   -- a coordinator of this node that is good
   pub record IsHome (k : ℕ) (c : Coord) : Type 0 where
@@ -260,7 +251,7 @@ module _ (begun : List Action) where
         by (Confirming p) asked left_it = sym (eqb-true 1 to (⊎_elim (λ x. x) (λ bad. absurd (cc bad)) (or_cases (1 == to) false left_it)))
 
     here_more : (to : ℕ) (m : Message) (sent : List Post) → TellsSo begun v.coord (Send to m) → SeeksSo v.coord (Send to m) → Here k v sent → Here k v (record { from = k; to = to; message = m } ∷ sent)
-    here_more to m sent tells seeks h = record { asker = asker; aborts = aborts; voted = λ u on. part_more r sent u k (h.voted u on) }
+    here_more to m sent tells seeks h = record { asker = asker; aborts = aborts }
       where
         r : Post
         r = record { from = k; to = to; message = m }
@@ -320,7 +311,7 @@ module _ (begun : List Action) where
         by (effect.InPart which) (effect.RemoveIntent u) none = all
 
     pub walk : (e : ℕ) (outs : List Effect) (d : Disk) (M : Seen) → AllTell begun v.coord outs → AllSeek v.coord outs → Around k M → Here k v M.sent → MayStop outs (book M.lines) d.intents → Walks (AbortsAreKnown begun) e k outs (Up (AbortsAreKnown begun) k v) d M
-    walk e [] d M tells seeks o h may = back k d (Some v) M ((λ t is. subst (λ (z : Parts). KnowsAborts begun M.sent z.coord.tree × ((u : Uid) → is_on z.server.voted u ≡ true → IsPartAsked M.sent u k)) (some_is is) (h.aborts, h.voted)), λ is. none_at is refl) o
+    walk e [] d M tells seeks o h may = back k d (Some v) M ((λ t is. subst (λ (z : Parts). KnowsAborts begun M.sent z.coord.tree) (some_is is) h.aborts), λ is. none_at is refl) o
     walk e (Say b ∷ es) d M tells seeks o h may = walk e es d (said e (b ∷ []) M) tells.1 seeks.1 (around_said k e (b ∷ []) M o) h (later may)
       where
         later : MayStop (Say b ∷ es) (book M.lines) d.intents → MayStop es (book (let N = said e (b ∷ []) M in N.lines)) d.intents
@@ -501,9 +492,9 @@ mute_restart hd k inc d = mute_both four hellos (mute_both three asking (mute_bo
     hellos = map (hello_to k inc) (without_number k (numbers_to hd.nodes))
 
 -- a node that starts: until it is up its disk has the same records
-module _ (begun : List Action) (k : ℕ) (v : Parts) (bare : (u : Uid) → is_own u v.coord.tree ≡ true → ((a : Action) × Contains begun a × (act_of a ≡ u)) → ⊥) (none : (u : Uid) → is_on v.server.voted u ≡ true → ⊥) where
+module _ (begun : List Action) (k : ℕ) (v : Parts) (bare : (u : Uid) → is_own u v.coord.tree ≡ true → ((a : Action) × Contains begun a × (act_of a ≡ u)) → ⊥) where
   pub start_walk : (e : ℕ) (outs : List Effect) (d : Disk) (M : Seen) → AllMute outs → Around begun k M → KeepsAborts begun M.sent (book M.lines) k d.intents → Walks (AbortsAreKnown begun) e k outs (Up (AbortsAreKnown begun) k v) d M
-  start_walk e [] d M all o keeps = back begun k d (Some v) M ((λ t is. subst (λ (z : Parts). KnowsAborts begun M.sent z.coord.tree × ((u : Uid) → is_on z.server.voted u ≡ true → IsPartAsked M.sent u k)) (some_is is) ((λ u to p own. absurd (bare u own (o.told u to p).0)), λ u on. absurd (none u on))), λ is. none_at is refl) o
+  start_walk e [] d M all o keeps = back begun k d (Some v) M ((λ t is. subst (λ (z : Parts). KnowsAborts begun M.sent z.coord.tree) (some_is is) (λ u to p own. absurd (bare u own (o.told u to p).0))), λ is. none_at is refl) o
   start_walk e (Say b ∷ es) d M all o keeps = start_walk e es d (said e (b ∷ []) M) all.1 (around_said begun k e (b ∷ []) M o) (keeps_later begun M.sent (book M.lines) (book (let N = said e (b ∷ []) M in N.lines)) k d.intents (later_said e (b ∷ []) M) keeps)
   start_walk e (Do Look ∷ es) d M all o keeps = ((λ how. down_so begun e k (stopped how Look d) M (same how) o), start_walk e es d M all.1 o keeps)
     where

@@ -380,7 +380,7 @@ module _ (hd : Header) (x : ℕ) (has : HasObject hd x) (E : List Action → See
         server = record {
           listed = listed;
           left = λ u told new over never. none_left f x begun S s seen whole.aborts whole.acks (λ t c n its asked three called writes survives same. rest.recorded begun S (world_at s) t c n k (let v = server_at s in v.inc) (knows, more) seen its asked three called writes survives same) u told never;
-          unvoted = λ u told new top open_unit. unvoted f x begun S s seen whole.parted whole.records whole.aborts begins u told top open_unit;
+          unvoted = λ u told new top open_unit. unvoted f x begun S s seen whole.parted whole.records whole.aborts begins whole.acks u told top open_unit;
         };
         naming = λ n is. record {
           holds = holds n is;

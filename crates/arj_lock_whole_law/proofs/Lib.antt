@@ -5,7 +5,6 @@ pub mod TopWalks
 pub mod Avoids
 pub mod CoordCases
 pub mod Aborting
-pub mod Voters
 pub mod AbortWalks
 pub mod AbortRuns
 pub mod AbortGives

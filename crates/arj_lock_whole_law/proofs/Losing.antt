@@ -1,5 +1,5 @@
 -- Whoever loses a row at naming with another action stands below that.
-use Rattle.std.proofs.Common.{Contains, ◌≡◌, ◌⊎◌, ◌∙◌, ◌||◌, ℕ, List, [], ◌∷◌, Bool, true, false, refl, sym, ap, subst, inl, inr, ⊎_elim}
+use Rattle.std.proofs.Common.{Contains, ◌≡◌, ◌∙◌, ◌||◌, ℕ, List, [], ◌∷◌, Bool, true, false, refl, sym, ap, subst, inl, inr, ⊎_elim}
 use Rattle.std.specs.List.{AllByRecursion, list_any}
 use Rattle.std.proofs.lemmas.Bool.{and_parts, or_cases}
 use Rattle.arj_base.proofs.Uids.{uid_is}

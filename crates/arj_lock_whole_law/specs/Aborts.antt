@@ -57,10 +57,9 @@ KeepsAborts begun sent B k intents = (w : Uid) (i : Intent) → at_uid w intents
 abbrev pub IsBegunAt : List Action → (ℕ → Option Node) → Uid → Type 0
 IsBegunAt begun found u = ((a : Action) × Contains begun a × (act_of a ≡ u)) × ((n : Node) × (found u.node ≡ Some n))
 
--- So it is at each node; aborts are told of actions that were begun, Confirms go to node 1, and servers voted for whom they were asked.
+-- So it is at each node; aborts are told of actions that were begun, and Confirms go to node 1.
 pub record AbortsAreKnown (begun : List Action) (M : Seen) : Type 0 where
   pub told : (u : Uid) (to : ℕ) → IsAbortTold M.sent u to → IsBegunAt begun M.nodes u
   pub confirms : (p : Post) (h : Head) (a : Ask) → In p M.sent → asks p.message ≡ Some (h, a) → is_confirm a ≡ true → p.to ≡ 1
   pub up : (j : ℕ) (n : Node) (t : Parts) → M.nodes j ≡ Some n → n.live ≡ Some t → KnowsAborts begun M.sent t.coord.tree
-  pub voted : (j : ℕ) (n : Node) (t : Parts) (u : Uid) → M.nodes j ≡ Some n → n.live ≡ Some t → is_on t.server.voted u ≡ true → IsPartAsked M.sent u j
   pub down : (j : ℕ) (n : Node) → M.nodes j ≡ Some n → n.live ≡ None → KeepsAborts begun M.sent (book M.lines) j (let d = n.disk in d.intents)
