@@ -34,7 +34,7 @@ includers_left lines p (d ∷ ds) turns = by (p d) (includers_left lines p ds tu
     by true ih = (λ e k. turns.0 e (there_before p e ds k), ih)
     by false ih = ih
 
-counts_there : (d : Done) (ds : List Done) → disk.In d (filter counts_of ds) → d.counts ≡ true
+pub counts_there : (d : Done) (ds : List Done) → disk.In d (filter counts_of ds) → d.counts ≡ true
 counts_there d [] i = absurd i
 counts_there d (e ∷ ds) i = by e.counts refl i (counts_there d ds)
   where

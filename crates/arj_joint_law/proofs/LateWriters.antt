@@ -93,16 +93,21 @@ module _ (lines : List Line) (right : AreRight new_book lines) (before behind : 
   to_front : {A : Type 0} (f : List Act → Body → Option A) (e : Placed A) → list.In e (read f [] 0 lines) → e.at < length before → list.In e (read f [] 0 before)
   to_front f e k less = subst (λ ls. list.In e (read f [] 0 ls)) taken (read_taken f [] 0 lines (length before) e k (omega (arith, less)))
 
-  -- an action whose commit was called there, and which committed there, is decided by it
-  pub decided_front : (a : Act) → list.In a (acts lines) → (e : Placed ℕ) → list.In e (called lines) → e.it ≡ a.id → e.at < length before → (n : ℕ) → IsDecidedAt lines a n → n ≤ length before → is_decided (book before) a.uid ≡ true
-  decided_front a there e k its less n at low = sym (its_decision before front a a_front) ∙ by at
-    where
-      a_front : list.In a (acts before)
-      a_front =
-          let small = called_low before e (to_front called_of e k less) in
-          let r = with_number (acts before) (let q = its_sound before front in q.distinct) e.it small in
-          subst (λ z. list.In z (acts before)) (same_number lines right r.0 a (acts_front r.0 r.1) there (r.2 ∙ its)) r.1
+  -- an action whose commit was called there is in it
+  a_front : (a : Act) → list.In a (acts lines) → (e : Placed ℕ) → list.In e (called lines) → e.it ≡ a.id → e.at < length before → list.In a (acts before)
+  a_front a there e k its less =
+      let small = called_low before e (to_front called_of e k less) in
+      let r = with_number (acts before) (let q = its_sound before front in q.distinct) e.it small in
+      subst (λ z. list.In z (acts before)) (same_number lines right r.0 a (acts_front r.0 r.1) there (r.2 ∙ its)) r.1
 
+  -- so it was called by it
+  pub called_front : (a : Act) → list.In a (acts lines) → (e : Placed ℕ) → list.In e (called lines) → e.it ≡ a.id → e.at < length before → is_on (let B = book before in B.called) a.uid ≡ true
+  called_front a there e k its less = sym (its_call before front a (a_front a there e k its less)) ∙ has_in (called before) a.id e (to_front called_of e k less) its
+
+  -- and where it committed there too, it is decided by it
+  pub decided_front : (a : Act) → list.In a (acts lines) → (e : Placed ℕ) → list.In e (called lines) → e.it ≡ a.id → e.at < length before → (n : ℕ) → IsDecidedAt lines a n → n ≤ length before → is_decided (book before) a.uid ≡ true
+  decided_front a there e k its less n at low = sym (its_decision before front a (a_front a there e k its less)) ∙ by at
+    where
       by : IsDecidedAt lines a n → is_committed (committed before) (recovered before) a ≡ true
       by (inl (d, i, same, place)) = or_left (has_end (committed before) a.id) (list_any (λ (z : Placed Uid). uid_eq z.it a.uid) (recovered before)) (has_in (committed before) a.id d (to_front committed_of d (in_from d (committed lines) i) (omega (arith, place, low))) same)
       by (inr (d, i, same, place)) = or_right (has_end (committed before) a.id) (list_any (λ (z : Placed Uid). uid_eq z.it a.uid) (recovered before)) (found_in (recovered before) a.uid d (to_front recovered_of d (in_from d (recovered lines) i) (omega (arith, place, low))) same)
@@ -117,12 +122,12 @@ one_line s (x ∷ cs) (sorted, sees, tail) c d (inl i) (inr j) e = absurd (let l
 one_line s (x ∷ cs) (sorted, sees, tail) c d (inr i) (inl j) e = absurd (let l = sorted c i in let k : d.line ≡ x.line = ap (λ (y : Call). y.line) j in omega (arith, l, k, e))
 one_line s (x ∷ cs) (sorted, sees, tail) c d (inr i) (inr j) e = one_line s cs tail c d i j e
 
-in_front : (z : Done) (xs ys : List Done) → disk.In z xs → disk.In z (xs ++ ys)
+pub in_front : (z : Done) (xs ys : List Done) → disk.In z xs → disk.In z (xs ++ ys)
 in_front z [] ys i = absurd i
 in_front z (x ∷ xs) ys (inl is) = inl is
 in_front z (x ∷ xs) ys (inr i) = inr (in_front z xs ys i)
 
-in_back : (z : Done) (xs ys : List Done) → disk.In z ys → disk.In z (xs ++ ys)
+pub in_back : (z : Done) (xs ys : List Done) → disk.In z ys → disk.In z (xs ++ ys)
 in_back z [] ys i = i
 in_back z (x ∷ xs) ys i = inr (in_back z xs ys i)
 

@@ -30,6 +30,7 @@ pub mod RestGiven
 pub mod Alone
 pub mod Takers
 pub mod LateWriters
+pub mod Knowing
 pub mod Counting
 pub mod JoinedRuns
 pub mod Writing

@@ -14,10 +14,12 @@ use Rattle.arj_view_law.specs.Seen.{see}
 use Rattle.arj_joint_law.specs.Cleaned.{AreLockTied, disk_of}
 use Rattle.arj_joint_law.specs.Excluded.{AreExcludedInTime, IsBehindIncludes, IsNew, IsSeenSo}
 use Rattle.arj_joint_law.specs.Joined.{IsJoinedSo}
-use Rattle.arj_joint_law.specs.InTime.{IsBehindJoiners, RunsExcludeInTime, WholeRunsExcludeInTime}
+use Rattle.arj_joint_law.specs.InTime.{IncludersKnow, RunsExcludeInTime, WholeRunsExcludeInTime}
+use Rattle.arj_joint_law.specs.Ordered.{IsOrderedSo}
 use Rattle.arj_joint_law.proofs.Clean.{Decides, Held, decided, decides_in, formed, held_in, joined_at, lock_tied, ordered_held, ordered_of, right, ties}
 use Rattle.arj_joint_law.proofs.CommitCalls.{commits_begin}
 use Rattle.arj_joint_law.proofs.Excluding.{is_in_time, newest_by_calls, nodes_have_form}
+use Rattle.arj_joint_law.proofs.Knowing.{none_last, none_late}
 use Rattle.arj_joint_law.proofs.LateWriters.{late_writer}
 use Rattle.arj_joint_law.proofs.Takers.{takers}
 
@@ -51,13 +53,18 @@ runs_exclude hd es test form short heard tied decide all =
     let so : Decides hd es held = λ x there. decide x there (ordered_of hd es x (held x there)) in
     in_time hd es form tied held so (λ x there t new wrote. let a = all x there in a.behind (ordered_of hd es x (held x there)) (decided hd es form tied held so x there) t new wrote)
 
--- where both machines stand in one run, none that wrote is late behind a new top that did
-behind_writers : (hd : Header) (es : List Asked) (x : ℕ) (h : Holds hd (IsJoinedSo hd x) (run_all es (format hd))) (d : AreDecidedOrLate hd (journal hd es) x (disk_of (let j = h.holds in j.ordered))) (t : Top) → IsNew (let w = run_all es (format hd) in w.event) (journal hd es) t → Wrote (journal hd es) x t
-    → IsBehindJoiners hd (journal hd es) x (disk_of (let j = h.holds in j.ordered)) d t → IsBehindIncludes hd (journal hd es) x (disk_of (let j = h.holds in j.ordered)) d t
-behind_writers hd es x h d t new wrote b = record { late = λ z i. by z i (let p = z.plan in p.writes) refl; last = b.last }
+-- the disk machine alone
+abbrev ordered_in : (hd : Header) (es : List Asked) (x : ℕ) → Holds hd (IsJoinedSo hd x) (run_all es (format hd)) → Holds hd (IsOrderedSo hd x) (run_all es (format hd))
+ordered_in hd es x h = record { sent = h.sent; stands = h.stands; holds = (let j = h.holds in j.ordered) }
+
+-- Where both machines stand in one run, none that wrote is late behind a new top that did; and none that only includes a store is behind it,
+-- where these know those that wrote before them.
+behind_it : (hd : Header) (es : List Asked) (x : ℕ) (h : Holds hd (IsJoinedSo hd x) (run_all es (format hd))) (d : AreDecidedOrLate hd (journal hd es) x (disk_of (let j = h.holds in j.ordered))) (t : Top) → IsNew (let w = run_all es (format hd) in w.event) (journal hd es) t → Wrote (journal hd es) x t
+    → IncludersKnow (journal hd es) (let S = disk_of (let j = h.holds in j.ordered) in S.tops) → IsBehindIncludes hd (journal hd es) x (disk_of (let j = h.holds in j.ordered)) d t
+behind_it hd es x h d t new wrote know = record { late = λ z i. by z i (let p = z.plan in p.writes) refl; last = none_last hd es x (ordered_in hd es x h) know d t new wrote }
   where
-    by : (z : Done) → In z d.late → (o : Option Packed) → (let p = z.plan in p.writes) ≡ o → z.counts ≡ false
-    by z i None is = b.late z i is
+    by : (z : Done) → In z d.late → (w : Option Packed) → (let p = z.plan in p.writes) ≡ w → z.counts ≡ false
+    by z i None is = none_late hd es x (ordered_in hd es x h) know d t new wrote z i is
     by z i (Some w) is = absurd (late_writer hd es x h d z i w is t new wrote)
 
 pub whole_runs_exclude : WholeRunsExcludeInTime
@@ -66,4 +73,4 @@ whole_runs_exclude hd es heard_so test form short heard rest decide all =
     let tied = lock_tied hd es joined in
     let held = held_in hd es joined in
     let so = decides_in hd es joined decide in
-    in_time hd es form tied held so (λ x there t new wrote. let a = all x there in behind_writers hd es x (joined x there) (decided hd es form tied held so x there) t new wrote (a.behind (ordered_of hd es x (held x there)) (decided hd es form tied held so x there) t new wrote))
+    in_time hd es form tied held so (λ x there t new wrote. let a = all x there in behind_it hd es x (joined x there) (decided hd es form tied held so x there) t new wrote (a.know (ordered_of hd es x (held x there))))

@@ -1,17 +1,20 @@
 -- Runs that exclude stores in time, by both machines of each object, with what these are still asked for.
-use Rattle.std.specs.Prelude.{◌≡◌, ◌≤◌, ℕ, Bool, true, false, List, [], None, Contains, is_some, length}
+use Rattle.std.specs.Prelude.{⊤, ◌≡◌, ◌≤◌, ◌++◌, ℕ, Bool, true, false, List, [], ◌∷◌, None, is_some, length}
+use Rattle.arj_base.specs.Rows.{is_on}
 use Rattle.arj_journal.specs.ScriptForm.{HeaderInForm}
 use Rattle.arj_model.specs.Calls.{Top}
 use Rattle.arj_model.specs.Last.{object_line}
-use Rattle.arj_protocol.specs.Words.{Header, Line}
+use Rattle.arj_protocol.specs.Words.{Header, Line, Uid}
+use Rattle.arj_protocol.specs.Order.{uid_number}
 use Rattle.arj_protocol.specs.World.{Asked, format, journal, run_all}
 use Rattle.arj_view_law.specs.Keeps.{Holds}
 use Rattle.arj_view_law.specs.Seen.{Seen, see}
 use Rattle.arj_binding_law.specs.Scripts.{most_events}
-use Rattle.arj_disk_law.specs.State.{Done, State}
+use Rattle.arj_disk_law.specs.State.{Done}
 use Rattle.arj_disk_law.specs.Words.{In}
 use Rattle.arj_disk_run_law.specs.Rest.{KeepsHeard}
 use Rattle.arj_joint_law.specs.Joined.{AreRestBeside, KeepsHeardJoined}
+use Rattle.arj_line_law.specs.Book.{book, is_decided}
 use Rattle.arj_part_law.specs.Actions.{Action}
 use Rattle.arj_serial_law.specs.Cleaned.{AreDecidedOrLate}
 use Rattle.arj_serial_law.specs.Decided.{Wrote}
@@ -24,15 +27,24 @@ use Rattle.arj_joint_law.specs.Ordered.{IsOrderedSo}
 pub record AreInTime (hd : Header) (e x : ℕ) (es : List Asked) : Type 0 where
   pub behind : (h : Holds hd (IsOrderedSo hd x) (run_all es (format hd))) (d : AreDecidedOrLate hd (journal hd es) x (disk_of h.holds)) (t : Top) → IsNew e (journal hd es) t → Wrote (journal hd es) x t → IsBehindIncludes hd (journal hd es) x (disk_of h.holds) d t
 
--- Behind a top none of the decided tops that have no line yet and didn't write counts, and of the others that count and didn't write the object the
--- commit of none was called behind its own.
-pub record IsBehindJoiners (hd : Header) (lines : List Line) (x : ℕ) (S : State) (d : AreDecidedOrLate hd lines x S) (t : Top) : Type 0 where
-  pub late : (z : Done) → In z d.late → (let p = z.plan in p.writes) ≡ None → z.counts ≡ false
-  pub last : (u : Top) → Contains (let o = d.decided in o.those) u → (Wrote lines x u → ⊥) → u.at ≤ t.at
+-- The first top was said before the commit of the second one was called: at some place of the journal the one was, and the other wasn't.
+abbrev pub IsSaidFirst : List Line → Uid → Uid → Type 0
+IsSaidFirst lines t u = (before : List Line) × (behind : List Line) × (lines ≡ before ++ behind) × (is_decided (book before) t ≡ true) × (is_on (let B = book before in B.called) u ≡ false)
 
--- The same, where both machines stand in one run: asked of tops that didn't write alone.
-pub record AreInTimeBeside (hd : Header) (e x : ℕ) (es : List Asked) : Type 0 where
-  pub behind : (h : Holds hd (IsOrderedSo hd x) (run_all es (format hd))) (d : AreDecidedOrLate hd (journal hd es) x (disk_of h.holds)) (t : Top) → IsNew e (journal hd es) t → Wrote (journal hd es) x t → IsBehindJoiners hd (journal hd es) x (disk_of h.holds) d t
+-- Of two decided tops that count, the one that was decided first and wrote the object was said before the commit of the other one was called,
+-- where that one didn't write it: so it includes a store with the state that the first one left.
+abbrev pub IncluderKnows : List Line → Done → Done → Type 0
+IncluderKnows lines e d = (t u : Uid) → d.counts ≡ true → e.counts ≡ true → is_some (let p = e.plan in p.writes) ≡ true → (let p = d.plan in p.writes) ≡ None → uid_number t ≡ e.top → uid_number u ≡ d.top → IsSaidFirst lines t u
+
+-- so it is of each two of these, the newest first
+abbrev pub IncludersKnow : List Line → List Done → Type 0
+IncludersKnow lines [] = ⊤
+IncludersKnow lines (d ∷ ds) = ((e : Done) → In e ds → IncluderKnows lines e d) × IncludersKnow lines ds
+
+-- Where both machines stand in one run, so much is asked alone: in each state in which the object's disk machine is seen after the run, each of
+-- its decided tops that only includes a store knows those that wrote the object before it.
+pub record AreInTimeBeside (hd : Header) (x : ℕ) (es : List Asked) : Type 0 where
+  pub know : (h : Holds hd (IsOrderedSo hd x) (run_all es (format hd))) → IncludersKnow (journal hd es) (let S = disk_of h.holds in S.tops)
 
 -- After the run of each script stores are excluded in time, on what makes its files clean, where decided tops are so.
 abbrev pub RunsExcludeInTime : Type 0
@@ -48,4 +60,5 @@ WholeRunsExcludeInTime = (hd : Header) (es : List Asked) (heard : ℕ → Seen �
     → ((x : ℕ) → is_some (object_line hd x) ≡ true → KeepsHeardJoined hd x (heard x))
     → AreRestBeside hd heard test
     → ((x : ℕ) → is_some (object_line hd x) ≡ true → DecideSo hd x es)
-    → (let w = run_all es (format hd) in ((x : ℕ) → is_some (object_line hd x) ≡ true → AreInTimeBeside hd w.event x es) → AreExcludedInTime hd w.event (see [] w))
+    → ((x : ℕ) → is_some (object_line hd x) ≡ true → AreInTimeBeside hd x es)
+    → (let w = run_all es (format hd) in AreExcludedInTime hd w.event (see [] w))
