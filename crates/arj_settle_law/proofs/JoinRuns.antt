@@ -16,7 +16,7 @@ use Rattle.arj_protocol.specs.Coord.{Calling, Committing, Coord, Doing, Idle, No
 use Rattle.arj_protocol.specs.Effect.{Intent, Send}
 use Rattle.arj_protocol.specs.Order.{has}
 use Rattle.arj_protocol.specs.Step as input
-use Rattle.arj_protocol.specs.Step.{Input, acts, branch_named, commit_reasons, parent_of, refusal_up, refused_by, waits_above, waits_below}
+use Rattle.arj_protocol.specs.Step.{Input, branch_named, commit_reasons, parent_of, refusal_up, refused_by, waits_above, waits_below}
 use Rattle.arj_protocol.specs.Tree.{Branch, at_place, branch_of, is_own, root_of}
 use Rattle.arj_part_law.specs.Coords.{IsCommitting}
 use Rattle.arj_run_law.specs.Worlds.{IsGood}

@@ -13,7 +13,7 @@ use Rattle.arj_protocol.specs.Words.prepared
 use Rattle.arj_protocol.specs.Words.voted
 use Rattle.arj_protocol.specs.Ask.{Reply, actor}
 use Rattle.arj_protocol.specs.Commit as commit
-use Rattle.arj_protocol.specs.Commit.{CommitStep, Confirming, Machine, Plan, Preparing, Used, Voting, begin_confirm, begin_prepare, begin_vote, changed_of, is_marked, left_of, marks_at, marks_store, marks_stores, plan_of, servers_of, state_by, state_for, states_for, stores_by, targets_of, with_marks, with_mark}
+use Rattle.arj_protocol.specs.Commit.{CommitStep, Confirming, Machine, Plan, Preparing, Used, Voting, begin_confirm, begin_prepare, begin_vote, changed_of, is_marked, marks_at, marks_store, marks_stores, plan_of, servers_of, state_by, state_for, states_for, stores_by, targets_of, with_marks, with_mark}
 use Rattle.arj_protocol.specs.Confirm.{Grants, Marks}
 use Rattle.arj_protocol.specs.Coord.{Coord, Root, plan_for}
 use Rattle.arj_protocol.specs.Order.{has, with_number, without_number}

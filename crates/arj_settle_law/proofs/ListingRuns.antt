@@ -27,12 +27,12 @@ use Rattle.arj_protocol.specs.Node.{Handled, Parts, Took, Void, handle, holders,
 use Rattle.arj_protocol.specs.Order.{at_uid, has, put_uid}
 use Rattle.arj_protocol.specs.Server.{Server}
 use Rattle.arj_protocol.specs.Step as input
-use Rattle.arj_protocol.specs.Step.{Input, Node, acts, first_disk, first_entry, first_node, first_state, parent_of, parts_in, put_states, refusal_up, restart_outs, tolds_again}
+use Rattle.arj_protocol.specs.Step.{Input, Node, acts, first_disk, first_entry, first_state, parent_of, parts_in, put_states, refusal_up, restart_outs, tolds_again}
 use Rattle.arj_protocol.specs.Tree.{at_place, is_own}
 use Rattle.arj_protocol.specs.World.{Labelled, format, is_serial_kind, numbered}
 use Rattle.arj_journal.specs.ScriptForm.{HeaderInForm}
 use Rattle.arj_journal.specs.declared.header.ObjectLine.{ObjectLine}
-use Rattle.arj_part_law.specs.Actions.{Action, paths_of}
+use Rattle.arj_part_law.specs.Actions.{paths_of}
 use Rattle.arj_part_law.specs.Coords.{IsGoodCoord}
 use Rattle.arj_part_law.specs.Copies.{IsTree}
 use Rattle.arj_part_law.specs.Ends.{told_by}
@@ -253,9 +253,6 @@ all_last Q (x ∷ []) e all is = subst Q (some_is is) all.0
 all_last Q (x ∷ y ∷ es) e all is = all_last Q (y ∷ es) e all.1 is
 
 module _ (hd : Header) (e k : ℕ) (d : Disk) (t : Parts) (M : Seen) (base : ListBase hd (up k d t M)) (lists : AreListed (up k d t M)) where
-  abbrev begun : List Action
-  begun = base.0.0.0.0
-
   good : IsGoodOf base.0.0.0.0 (up k d t M)
   good = base.0.0.0.1
 
@@ -264,9 +261,6 @@ module _ (hd : Header) (e k : ℕ) (d : Disk) (t : Parts) (M : Seen) (base : Lis
 
   asked : AreAsked (up k d t M)
   asked = base.0.1
-
-  abbrev Had : Of
-  Had = HasIt (up k d t M)
 
   abbrev here : Node
   here = record { number = k; disk = d; live = Some t }

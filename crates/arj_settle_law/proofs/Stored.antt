@@ -12,7 +12,7 @@ use Rattle.arj_base.proofs.Uids.{uid_same}
 use Rattle.arj_protocol.specs.Words.{Header, ObjectState, Uid, uid_eq}
 use Rattle.arj_protocol.specs.Call.{node_at}
 use Rattle.arj_protocol.specs.Coord.{doing_of}
-use Rattle.arj_protocol.specs.Effect.{Disk, held_at, holder_of, names_object}
+use Rattle.arj_protocol.specs.Effect.{held_at, holder_of, names_object}
 use Rattle.arj_protocol.specs.Order.{at_uid}
 use Rattle.arj_protocol.specs.Step.{Node}
 use Rattle.arj_address_law.proofs.Lists.{all_at_uid, some_is}
@@ -61,9 +61,6 @@ module _ (hd : Header) (M : Seen) (known : ListsAreKnown hd M) (x j : ℕ) (a : 
   second : (b c : Bool) → c ≡ true → (b || c) ≡ true
   second true c is = refl
   second false c is = is
-
-  abbrev d : Disk
-  d = a.disk
 
   stored_here : is_some (held_at (object x) (let d = a.disk in d.store)) ≡ true → HasStored a.disk x
   stored_here on = second (is_some (holder_of (object x) a.disk.store)) (is_some (held_at (object x) a.disk.store)) on
