@@ -6,7 +6,7 @@ use Rattle.arj_base.proofs.Uids.{uid_is}
 use Rattle.arj_lock.proofs.Members as list
 use Rattle.arj_lock.proofs.Members.{in_find}
 use Rattle.arj_model.specs.Serial.{Values}
-use Rattle.arj_protocol.specs.Words.{Body, Header, Kind, Label, ObjectState, Uid, object, uid_eq}
+use Rattle.arj_protocol.specs.Words.{Body, Header, Kind, Label, Message, ObjectState, Uid, object, uid_eq}
 use Rattle.arj_protocol.specs.Asking.{again_all, begin_action}
 use Rattle.arj_protocol.specs.Commit.{Confirming}
 use Rattle.arj_protocol.specs.Effect.{Disk, Effect, Intent}
@@ -50,12 +50,20 @@ use Rattle.arj_line_law.specs.Paths.{IsAlikeOf}
 use Rattle.arj_lock_fact_law.specs.Acts.{KeepsOf, begins_in}
 use Rattle.arj_lock_run_law.specs.Beside.{IsSeenIn, Spot}
 use Rattle.arj_lock_run_law.specs.Fixed.{AgreesAs, BeginsAs, Fixed, view_of}
-use Rattle.arj_lock_run_law.specs.Kept.{AreCoordsNamed, GivesLocks, case_of}
+use Rattle.arj_lock_run_law.specs.Kept.{AreCoordsNamed, GivesLocks, HasCome, case_of}
 use Rattle.arj_lock_run_law.specs.Sees.{SeesLocks, SeesUp}
 use Rattle.arj_lock_run_law.specs.Tied.{AreTied}
 use Rattle.arj_lock_run_law.specs.Votes.{AreVotedAt}
 use Rattle.arj_lock_run_law.proofs.KeptSteps.{LocksFrom, LocksSo, as_older, first_kept, kept_act, kept_begin, kept_message, kept_restart, kept_tick, quiet_kept, stop_kept}
+use Rattle.arj_lock_view_law.specs.Calling.{IsReached}
+use Rattle.arj_lock_whole_law.specs.Stored.{AwaitsLoad, GivesStored}
+use Rattle.arj_lock_whole_law.specs.Whole.{KnowsWhole}
+use Rattle.arj_joint_law.specs.Loads.{AreLoadsLast}
 use Rattle.arj_joint_law.specs.Joined.{ArePlannedSo, ChangesCalled, IsPaired, IsPlannedSo, IsRecordedAt}
+use Rattle.arj_joint_law.proofs.LoadGuards.{guard_there}
+use Rattle.arj_joint_law.proofs.LoadMoves.{IsOnward, loads_stay}
+use Rattle.arj_joint_law.proofs.LoadSteps.{act_onward, begin_onward, message_onward, tick_onward}
+use Rattle.arj_joint_law.proofs.LoadWalks.{GivesNow, IsMoved, IsStill, halted_still, loads_moved, loads_restarted, moves_walk, none_given}
 use Rattle.arj_joint_law.proofs.Counting.{at_commit, changed_counted}
 use Rattle.arj_joint_law.proofs.Ending.{Ends, ends_along, ends_by, ends_of, message_ends, record_of}
 use Rattle.arj_joint_law.proofs.Recording.{AreRecordedBy, IsConfirming, acts_put, anyone, are_theirs, here_then, message_puts, others_then, plainly, recorded_at, records_walk, tick_puts}
@@ -64,7 +72,7 @@ use Rattle.arj_joint_law.proofs.Recording.{AreRecordedBy, IsConfirming, acts_put
 
 -- The object is seen by its lock machine, for all that may be fixed and agrees, beside this world of its disk machine.
 abbrev pub HasLocks : Values → ℕ → (List Action → Seen → Type 0) → World → Seen → Type 0
-HasLocks values x R W M = (begun : List Action) × IsAlikeOf begun M × R begun M × ((f : Fixed) → AgreesAs values f x begun M.sent → (S : State) × SeesLocks f x begun S M × AreTied f x M.lines S × AreVotedAt f x S M × ArePlannedSo f x S W M) × AreCoordsNamed M
+HasLocks values x R W M = (begun : List Action) × IsAlikeOf begun M × R begun M × ((f : Fixed) → AgreesAs values f x begun M.sent → (S : State) × SeesLocks f x begun S M × AreTied f x M.lines S × AreVotedAt f x S M × ArePlannedSo f x S W M × AreLoadsLast f x S M) × AreCoordsNamed M
 
 -- with what is carried beside the disk machine's state
 abbrev pub WithLocks : Values → ℕ → (List Action → Seen → Type 0) → (Kinds → Office → Seen → Type 0) → Kinds → Office → Seen → Type 0
@@ -169,7 +177,7 @@ module _ (f : Fixed) (x : ℕ) (C : Uid → Type 0) (g : ℕ → Bool) (W : Worl
 
 -- ---- each handler
 
-module _ (hd : Header) (values : Values) (x : ℕ) (K G : Seen → Type 0) (R : List Action → Seen → Type 0) (P : Kinds → Office → Seen → Type 0) (to : (M : Seen) → K M → G M) (keeps : KeepsOf hd (λ begun M. G M) R) (gives : (f : Fixed) → BeginsAs values x f → GivesLocks hd f x (λ begun S M. (G M × R begun M) × (K M × IsPaired x P f begun S M))) (used : (M : Seen) → G M → AllVotesAreUsed M) (runs : (M : Seen) → G M → KnowsRun M)
+module _ (hd : Header) (values : Values) (x : ℕ) (K G : Seen → Type 0) (R : List Action → Seen → Type 0) (P : Kinds → Office → Seen → Type 0) (to : (M : Seen) → K M → G M) (keeps : KeepsOf hd (λ begun M. G M) R) (gives : (f : Fixed) → BeginsAs values x f → GivesLocks hd f x (λ begun S M. (G M × R begun M) × (K M × IsPaired x P f begun S M))) (stored : (f : Fixed) → BeginsAs values x f → GivesStored f x (λ begun S M. (G M × R begun M) × (K M × IsPaired x P f begun S M))) (whole : (begun : List Action) (M : Seen) → R begun M → KnowsWhole x begun M) (used : (M : Seen) → G M → AllVotesAreUsed M) (runs : (M : Seen) → G M → KnowsRun M)
     (parts : KeepsPart hd x (λ W M. K M × HasLocks values x R W M) P) (heard : (tops : Kinds) (A : Office) (M : Seen) → P tops A M → SeesHeard x tops A M) where
   abbrev Q : Kinds → Office → Seen → Type 0
   Q tops A M = WithLocks values x R P tops A M
@@ -183,7 +191,7 @@ module _ (hd : Header) (values : Values) (x : ℕ) (K G : Seen → Type 0) (R : 
 
   -- what is known of each state of the lock machine here
   paired : (tops : Kinds) (M : Seen) (A : Office) → tops.walk ≡ None → K M → SeesBoth x tops A M → P tops A M → (j : HasLocks values x R A.world M) → (f : Fixed) (a : AgreesAs values f x j.0 M.sent) → Y f j.0 (let g = j.3 f a in g.0) M
-  paired tops M A walk r both part j f a = let g = j.3 f a in (r, (tops, walk, A, both, part, g.3, g.4))
+  paired tops M A walk r both part j f a = let g = j.3 f a in (r, (tops, walk, A, both, part, g.3, g.4, g.5))
 
   abbrev votes_used : (M : Seen) → G M → ⊤ → AllVotesAreUsed M
   votes_used M g u = used M g
@@ -192,9 +200,9 @@ module _ (hd : Header) (values : Values) (x : ℕ) (K G : Seen → Type 0) (R : 
   OfEach tops D O Z = (B : Office) → D B → SeesBoth x tops B Z → O tops B Z
 
   module _ (tops : Kinds) (D : Office → Type 0) (C : Uid → Type 0) (g : ℕ → Bool) (W : World) (M : Seen) (begun : List Action) (sent : List Post) (from : (f : Fixed) → AgreesAs values f x begun sent → State)
-      (goes : (B : Office) → D B → Moves g W B.world) (whose : (u : Uid) → g (uid_number u) ≡ true → IsRecordedAt M u ⊎ C u) (before : (f : Fixed) (a : AgreesAs values f x begun sent) → ArePlannedSo f x (from f a) W M × ((u : Uid) → C u → IsPlannedSo f x (from f a) W u)) where
-    locks_next : (Z : Seen) → LocksFrom values ⊤ x R begun sent from Z → AreRecordedBy C M Z → IsStep M Z → (B : Office) → D B → SeesBoth x tops B Z → HasLocks values x R B.world Z
-    locks_next Z l recs step B c seen = (
+      (goes : (B : Office) → D B → Moves g W B.world) (whose : (u : Uid) → g (uid_number u) ≡ true → IsRecordedAt M u ⊎ C u) (before : (f : Fixed) (a : AgreesAs values f x begun sent) → ArePlannedSo f x (from f a) W M × ((u : Uid) → C u → IsPlannedSo f x (from f a) W u)) (J : Seen → Type 0) (loads : (Z : Seen) → J Z → (f : Fixed) (a : AgreesAs values f x begun sent) (T : State) → Run (from f a) T → IsSeenIn (case_of f x begun T) Z → AreLoadsLast f x T Z) where
+    locks_next : (Z : Seen) → LocksFrom values ⊤ x R begun sent from Z → AreRecordedBy C M Z → IsStep M Z → J Z → (B : Office) → D B → SeesBoth x tops B Z → HasLocks values x R B.world Z
+    locks_next Z l recs step moves B c seen = (
       begun,
       l.0,
       l.1,
@@ -202,19 +210,21 @@ module _ (hd : Header) (values : Values) (x : ℕ) (K G : Seen → Type 0) (R : 
           let z = l.2 f agrees in
           let a = z.4 in
           let b = before f a.0 in
-          (z.0, z.1, z.2, z.3 tt, planned_then f x C g W (from f a.0) M whose b.0 b.1 tops B.world z.0 Z a.1 (goes B c) seen.disks recs step)),
+          (z.0, z.1, z.2, z.3 tt, planned_then f x C g W (from f a.0) M whose b.0 b.1 tops B.world z.0 Z a.1 (goes B c) seen.disks recs step, loads Z moves f a.0 z.0 a.1 (record { good = l.0.0; alike = l.0.1; written = l.0.2; agrees = agrees.0; sees = z.1; tied = z.2 }))),
       l.3,
     )
 
     along : (e k : ℕ) (outs : List Effect) (v : Parts) (d : Disk) (N : Seen) → Walks (OfEach tops D P) e k outs (Up (OfEach tops D P) k v) d N → Walks (LocksFrom values ⊤ x R begun sent from) e k outs (Up (LocksFrom values ⊤ x R begun sent from) k v) d N
-        → Walks (AreRecordedBy C M) e k outs (Up (AreRecordedBy C M) k v) d N → Walks (IsStep M) e k outs (Up (IsStep M) k v) d N → Walks (OfEach tops D Q) e k outs (Up (OfEach tops D Q) k v) d N
-    along e k outs v d N w locks recs steps =
+        → Walks (AreRecordedBy C M) e k outs (Up (AreRecordedBy C M) k v) d N → Walks (IsStep M) e k outs (Up (IsStep M) k v) d N → Walks J e k outs (Up J k v) d N → Walks (OfEach tops D Q) e k outs (Up (OfEach tops D Q) k v) d N
+    along e k outs v d N w locks recs steps moves =
         let L : Seen → Type 0 = LocksFrom values ⊤ x R begun sent from in
-        let two = walks_both (AreRecordedBy C M) (IsStep M) e k outs (Up (AreRecordedBy C M) k v) (Up (IsStep M) k v) d N recs steps in
-        let three = walks_both L (λ Z. AreRecordedBy C M Z × IsStep M Z) e k outs (Up L k v) (λ c Z. Up (AreRecordedBy C M) k v c Z × Up (IsStep M) k v c Z) d N locks two in
-        let four = walks_both (OfEach tops D P) (λ Z. L Z × (AreRecordedBy C M Z × IsStep M Z)) e k outs (Up (OfEach tops D P) k v) (λ c Z. Up L k v c Z × (Up (AreRecordedBy C M) k v c Z × Up (IsStep M) k v c Z)) d N w three in
-        walks_to (λ Z. OfEach tops D P Z × (L Z × (AreRecordedBy C M Z × IsStep M Z))) (OfEach tops D Q) e k outs (λ c Z. Up (OfEach tops D P) k v c Z × (Up L k v c Z × (Up (AreRecordedBy C M) k v c Z × Up (IsStep M) k v c Z))) (Up (OfEach tops D Q) k v) d N
-        (λ Z h B c seen. (h.0 B c seen, locks_next Z h.1.0 h.1.1.0 h.1.1.1 B c seen)) (λ c Z h B changed seen. (h.0 B changed seen, locks_next (up k c v Z) h.1.0 h.1.1.0 h.1.1.1 B changed seen)) four
+        let K3 : Seen → Type 0 = λ Z. AreRecordedBy C M Z × (IsStep M Z × J Z) in
+        let one = walks_both (IsStep M) J e k outs (Up (IsStep M) k v) (Up J k v) d N steps moves in
+        let two = walks_both (AreRecordedBy C M) (λ Z. IsStep M Z × J Z) e k outs (Up (AreRecordedBy C M) k v) (λ c Z. Up (IsStep M) k v c Z × Up J k v c Z) d N recs one in
+        let three = walks_both L K3 e k outs (Up L k v) (λ c Z. Up (AreRecordedBy C M) k v c Z × (Up (IsStep M) k v c Z × Up J k v c Z)) d N locks two in
+        let four = walks_both (OfEach tops D P) (λ Z. L Z × K3 Z) e k outs (Up (OfEach tops D P) k v) (λ c Z. Up L k v c Z × (Up (AreRecordedBy C M) k v c Z × (Up (IsStep M) k v c Z × Up J k v c Z))) d N w three in
+        walks_to (λ Z. OfEach tops D P Z × (L Z × K3 Z)) (OfEach tops D Q) e k outs (λ c Z. Up (OfEach tops D P) k v c Z × (Up L k v c Z × (Up (AreRecordedBy C M) k v c Z × (Up (IsStep M) k v c Z × Up J k v c Z)))) (Up (OfEach tops D Q) k v) d N
+        (λ Z h B c seen. (h.0 B c seen, locks_next Z h.1.0 h.1.1.0 h.1.1.1.0 h.1.1.1.1 B c seen)) (λ c Z h B changed seen. (h.0 B changed seen, locks_next (up k c v Z) h.1.0 h.1.1.0 h.1.1.1.0 h.1.1.1.1 B changed seen)) four
 
   -- what is known before, in each state of the lock machine
   abbrev known_before : (C : Uid → Type 0) (W : World) (M : Seen) (j : HasLocks values x R W M) → ((f : Fixed) (a : AgreesAs values f x j.0 M.sent) → (u : Uid) → C u → IsPlannedSo f x (let g = j.3 f a in g.0) W u) → (f : Fixed) (a : AgreesAs values f x j.0 M.sent) → ArePlannedSo f x (let g = j.3 f a in g.0) W M × ((u : Uid) → C u → IsPlannedSo f x (let g = j.3 f a in g.0) W u)
@@ -222,6 +232,38 @@ module _ (hd : Header) (values : Values) (x : ℕ) (K G : Seen → Type 0) (R : 
 
   waits_here : (tops : Kinds) (k : ℕ) (d : Disk) (t : Parts) (M : Seen) (A : Office) → KnowsNode tops k d t M → SeesBoth x tops A (up k d t M) → P tops A (up k d t M) → KnowsRun (up k d t M) → (j : HasLocks values x R A.world (up k d t M)) → (f : Fixed) (a : AgreesAs values f x j.0 M.sent) → (u : Uid) → IsConfirming t.coord u → IsPlannedSo f x (let g = j.3 f a in g.0) A.world u
   waits_here tops k d t M A n both part known j f a u c = let g = j.3 f a in planned_here f x k d t M j.0 g.0 tops A n both (heard tops A (up k d t M) part) (record { good = j.1.0; alike = j.1.1; written = j.1.2; agrees = a.0; sees = g.1; tied = g.2 }) g.3 known u c
+
+  -- as the object is seen here
+  seen_here : (W : World) (M : Seen) (j : HasLocks values x R W M) (f : Fixed) (a : AgreesAs values f x j.0 M.sent) → IsSeenIn (case_of f x j.0 (let g = j.3 f a in g.0)) M
+  seen_here W M j f a = let g = j.3 f a in record { good = j.1.0; alike = j.1.1; written = j.1.2; agrees = a.0; sees = g.1; tied = g.2 }
+
+  reached_here : (W : World) (M : Seen) (j : HasLocks values x R W M) (f : Fixed) (a : AgreesAs values f x j.0 M.sent) → IsReached (let g = j.3 f a in g.0)
+  reached_here W M j f a = let g = j.3 f a in let z = g.1 in (f.first, z.run)
+
+  -- what stores gave, where nothing is sent
+  still_loads : (W : World) (M : Seen) (j : HasLocks values x R W M) (Z : Seen) → IsStill M Z → (f : Fixed) (a : AgreesAs values f x j.0 M.sent) (T : State) → Run (let g = j.3 f a in g.0) T → IsSeenIn (case_of f x j.0 T) Z → AreLoadsLast f x T Z
+  still_loads W M j Z still f a T run seen = let g = j.3 f a in loads_stay f x g.0 T M Z (reached_here W M j f a) run g.5 still.0 still.1
+
+  -- and behind what a node does
+  moved_loads : (tops : Kinds) (k : ℕ) (d : Disk) (t : Parts) (M : Seen) (A : Office) (part : P tops A (up k d t M)) (j : HasLocks values x R A.world (up k d t M)) (more : List Action) (v : Parts) (outs : List Effect)
+      → ((f : Fixed) (a : AgreesAs values f x j.0 M.sent) → IsOnward t.coord outs v.coord) → ((f : Fixed) (a : AgreesAs values f x j.0 M.sent) → GivesNow f x (let g = j.3 f a in g.0) k outs (up k d t M))
+      → (Z : Seen) → IsMoved M k outs v Z → (f : Fixed) (a : AgreesAs values f x j.0 M.sent) (T : State) → Run (let g = j.3 f a in g.0) T → IsSeenIn (case_of f x more T) Z → AreLoadsLast f x T Z
+  moved_loads tops k d t M A part j more v outs on given_now Z moved f a T run seen =
+      let g = j.3 f a in
+      let w = whole j.0 (up k d t M) j.2 in
+      let h = heard tops A (up k d t M) part in
+      loads_moved f x j.0 more g.0 T k d t M v outs (reached_here A.world (up k d t M) j f a) run g.5 (on f a) (let q = w.requests in q.1 k (record { number = k; disk = d; live = Some t }) t (node_here M k (record { number = k; disk = d; live = Some t })) refl) h.asked (given_now f a) Z moved seen
+
+  -- a store gives it as it answers
+  gives_now : (tops : Kinds) (k : ℕ) (d : Disk) (t : Parts) (M : Seen) (A : Office) → tops.walk ≡ None → K (up k d t M) → SeesBoth x tops A (up k d t M) → P tops A (up k d t M) → (j : HasLocks values x R A.world (up k d t M)) → (from : ℕ) (m : Message) (v : Parts) (outs : List Effect) → HasCome (record { node = k; disk = d; parts = t; seen = M }) from m v outs
+      → (f : Fixed) (a : AgreesAs values f x j.0 M.sent) → GivesNow f x (let g = j.3 f a in g.0) k outs (up k d t M)
+  gives_now tops k d t M A walk r both part j from m v outs come f a p b st q by out is w =
+      let g = j.3 f a in
+      let N : Seen = up k d t M in
+      let seen = seen_here A.world N j f a in
+      let known = whole j.0 N j.2 in
+      guard_there (case_of f x j.0 g.0) N seen b p.to p.from q st w (let z = known.works in let e = z.1 in let c = (e.nodes p.to w.node w.parts w.here w.live).0 in c.waits)
+      ((stored f a.1).last j.0 g.0 (record { node = k; disk = d; parts = t; seen = M }) from m v outs p.to p.message b st q ((to N r, j.2), paired tops N A walk r both part j f a) seen come out is (subst (λ (s : ℕ). AwaitsLoad x N b p.to s q) by w))
 
   abbrev none : Uid → Type 0
   none u = ⊥
@@ -242,13 +284,13 @@ module _ (hd : Header) (values : Values) (x : ℕ) (K G : Seen → Type 0) (R : 
   locks_part = record {
     quiet = λ tops e bs M A walk quiet r both (part, j) B changed seen. (
       parts.quiet tops e bs M A walk quiet (r, j) both part B changed seen,
-      locks_next tops (Changes Quietly A) none nobody A.world M j.0 M.sent (λ f a. let g = j.3 f a in g.0) (λ Z c. moves_by Quietly A Z (let z = both.disks in z.whole) c) (no_one none M) (known_before none A.world M j (λ f a u never. absurd never)) (said e bs M)
-          (quiet_kept hd values x G R Y keeps gives ⊤ votes_used e bs M quiet (to M r) (locks_of A.world M j)) (λ u c. inl (record { place = c.place; node = c.node; intent = c.intent; here = c.here; there = c.there })) (quiet_step e bs M) B changed seen,
+      locks_next tops (Changes Quietly A) none nobody A.world M j.0 M.sent (λ f a. let g = j.3 f a in g.0) (λ Z c. moves_by Quietly A Z (let z = both.disks in z.whole) c) (no_one none M) (known_before none A.world M j (λ f a u never. absurd never)) (IsStill M) (still_loads A.world M j) (said e bs M)
+          (quiet_kept hd values x G R Y keeps gives ⊤ votes_used e bs M quiet (to M r) (locks_of A.world M j)) (λ u c. inl (record { place = c.place; node = c.node; intent = c.intent; here = c.here; there = c.there })) (quiet_step e bs M) ((λ i n t is up. is), (λ p i. i)) B changed seen,
     );
     stop = λ tops e k d live M A walk r both (part, j) B changed seen. (
       parts.stop tops e k d live M A walk (r, j) both part B changed seen,
-      locks_next tops (Changes Quietly A) none nobody A.world (at k d live M) j.0 M.sent (λ f a. let g = j.3 f a in g.0) (λ Z c. moves_by Quietly A Z (let z = both.disks in z.whole) c) (no_one none (at k d live M)) (known_before none A.world (at k d live M) j (λ f a u never. absurd never)) (halted e k d M)
-          (stop_kept hd values x G R Y keeps gives ⊤ votes_used e k d live M (to (at k d live M) r) (locks_of A.world (at k d live M) j) (paired tops (at k d live M) A walk r both part j)) (recorded_at none (at k d live M) k d None M (halted e k d M) (λ i. refl) (others_then none k d live M) (here_then none k d live M)) (step_halted k d live M e d M (near_same M) (λ down. refl)) B changed seen,
+      locks_next tops (Changes Quietly A) none nobody A.world (at k d live M) j.0 M.sent (λ f a. let g = j.3 f a in g.0) (λ Z c. moves_by Quietly A Z (let z = both.disks in z.whole) c) (no_one none (at k d live M)) (known_before none A.world (at k d live M) j (λ f a u never. absurd never)) (IsStill (at k d live M)) (still_loads A.world (at k d live M) j) (halted e k d M)
+          (stop_kept hd values x G R Y keeps gives ⊤ votes_used e k d live M (to (at k d live M) r) (locks_of A.world (at k d live M) j) (paired tops (at k d live M) A walk r both part j)) (recorded_at none (at k d live M) k d None M (halted e k d M) (λ i. refl) (others_then none k d live M) (here_then none k d live M)) (step_halted k d live M e d M (near_same M) (λ down. refl)) (halted_still e k d live M) B changed seen,
     );
     message = λ tops e k d t v from m outs M A walk n r sent meant is of own both (part, j).
         let p = parts.message tops e k d t v from m outs M A walk n (r, j) sent meant is of own both part in
@@ -259,9 +301,9 @@ module _ (hd : Header) (values : Values) (x : ℕ) (K G : Seen → Type 0) (R : 
             office = h.office;
             only = h.only;
             both = h.both;
-            along = along tops (Changes o h.office) C (ends_of o) A.world (up k d t M) j.0 M.sent (λ f a. let g = j.3 f a in g.0) (moves_from o A h.office h.only (let z = both.disks in z.whole)) (λ u is. inr (message_ends x d t u m is)) (known_before C A.world (up k d t M) j (waits_here tops k d t M A n both part (runs (up k d t M) (to (up k d t M) r)) j)) e k outs v d M h.along
+            along = along tops (Changes o h.office) C (ends_of o) A.world (up k d t M) j.0 M.sent (λ f a. let g = j.3 f a in g.0) (moves_from o A h.office h.only (let z = both.disks in z.whole)) (λ u is. inr (message_ends x d t u m is)) (known_before C A.world (up k d t M) j (waits_here tops k d t M A n both part (runs (up k d t M) (to (up k d t M) r)) j)) (IsMoved M k outs v) (moved_loads tops k d t M A part j j.0 v outs (λ f a. (message_onward (case_of f x j.0 (let g = j.3 f a in g.0)) (record { node = k; disk = d; parts = t; seen = M }) (seen_here A.world (up k d t M) j f a) from m v outs is)) (gives_now tops k d t M A walk r both part j from m v outs (record { sent = sent; meant = meant; takes = is }))) e k outs v d M h.along
                 (kept_message hd values x G R Y keeps gives ⊤ votes_used e k d t v from m outs M (to (up k d t M) r) (locks_of A.world (up k d t M) j) (paired tops (up k d t M) A walk r both part j) sent meant is)
-                (records_walk C (up k d t M) k anyone e v outs d M (others_then C k d (Some t) M) (message_puts anyone k d t (are_theirs tops k d t M n) from m v outs is (λ u same. tt)) (here_then C k d (Some t) M)) (step_walk k d (Some t) M e v outs d M (near_same M) (was_up t) (was_up t));
+                (records_walk C (up k d t M) k anyone e v outs d M (others_then C k d (Some t) M) (message_puts anyone k d t (are_theirs tops k d t M n) from m v outs is (λ u same. tt)) (here_then C k d (Some t) M)) (step_walk k d (Some t) M e v outs d M (near_same M) (was_up t) (was_up t)) (moves_walk e k outs v d M M (λ i. refl) (λ p i. i));
           },
           p.1,
           p.2,
@@ -275,9 +317,9 @@ module _ (hd : Header) (values : Values) (x : ℕ) (K G : Seen → Type 0) (R : 
             office = h.office;
             only = h.only;
             both = h.both;
-            along = along tops (Changes Quietly h.office) C nobody A.world (up k d t M) j.0 M.sent (λ f a. let g = j.3 f a in g.0) (moves_from Quietly A h.office h.only (let z = both.disks in z.whole)) (no_one C (up k d t M)) (known_before C A.world (up k d t M) j (waits_here tops k d t M A n both part (runs (up k d t M) (to (up k d t M) r)) j)) e k did.outs (with_coord t did.part) d M h.along
+            along = along tops (Changes Quietly h.office) C nobody A.world (up k d t M) j.0 M.sent (λ f a. let g = j.3 f a in g.0) (moves_from Quietly A h.office h.only (let z = both.disks in z.whole)) (no_one C (up k d t M)) (known_before C A.world (up k d t M) j (waits_here tops k d t M A n both part (runs (up k d t M) (to (up k d t M) r)) j)) (IsMoved M k did.outs (with_coord t did.part)) (moved_loads tops k d t M A part j j.0 (with_coord t did.part) did.outs (λ f a. inr (act_onward (case_of f x j.0 (let g = j.3 f a in g.0)) (record { node = k; disk = d; parts = t; seen = M }) (seen_here A.world (up k d t M) j f a) hd i is free)) (λ f a. none_given f x (let g = j.3 f a in g.0) k did.outs (up k d t M) (act_onward (case_of f x j.0 (let g = j.3 f a in g.0)) (record { node = k; disk = d; parts = t; seen = M }) (seen_here A.world (up k d t M) j f a) hd i is free).2)) e k did.outs (with_coord t did.part) d M h.along
                 (kept_act hd values x G R Y keeps gives ⊤ votes_used e k d t i M is free (to (up k d t M) r) (locks_of A.world (up k d t M) j) (paired tops (up k d t M) A walk r both part j))
-                (records_walk C (up k d t M) k anyone e (with_coord t did.part) did.outs d M (others_then C k d (Some t) M) (acts_put anyone t.coord (are_theirs tops k d t M n) d.intents i) (here_then C k d (Some t) M)) (step_walk k d (Some t) M e (with_coord t did.part) did.outs d M (near_same M) (was_up t) (was_up t));
+                (records_walk C (up k d t M) k anyone e (with_coord t did.part) did.outs d M (others_then C k d (Some t) M) (acts_put anyone t.coord (are_theirs tops k d t M n) d.intents i) (here_then C k d (Some t) M)) (step_walk k d (Some t) M e (with_coord t did.part) did.outs d M (near_same M) (was_up t) (was_up t)) (moves_walk e k did.outs (with_coord t did.part) d M M (λ i. refl) (λ p i. i));
           },
           p.1,
         );
@@ -286,29 +328,29 @@ module _ (hd : Header) (values : Values) (x : ℕ) (K G : Seen → Type 0) (R : 
         let N : Seen = given l (record { node = k; serial = is_serial_kind how }) M in
         let a = begins_in how parent t in
         let older : (f : Fixed) → AgreesAs values f x (a ∷ j.0) M.sent → AgreesAs values f x j.0 M.sent = λ f w. as_older values f x a j.0 M.sent w in
-        along tops (Changes Quietly A) none nobody A.world (up k d t M) (a ∷ j.0) M.sent (λ f w. let g = j.3 f (older f w) in g.0) (λ B c. moves_by Quietly A B (let z = both.disks in z.whole) c) (no_one none (up k d t M)) (λ f w. known_before none A.world (up k d t M) j (λ f b u never. absurd never) f (older f w)) e k did.outs (with_coord t did.part) d N
+        along tops (Changes Quietly A) none nobody A.world (up k d t M) (a ∷ j.0) M.sent (λ f w. let g = j.3 f (older f w) in g.0) (λ B c. moves_by Quietly A B (let z = both.disks in z.whole) c) (no_one none (up k d t M)) (λ f w. known_before none A.world (up k d t M) j (λ f b u never. absurd never) f (older f w)) (IsMoved M k did.outs (with_coord t did.part)) (λ Z moved f w. moved_loads tops k d t M A part j (a ∷ j.0) (with_coord t did.part) did.outs (λ f a. inr (begin_onward (case_of f x j.0 (let g = j.3 f a in g.0)) (record { node = k; disk = d; parts = t; seen = M }) (seen_here A.world (up k d t M) j f a) l how parent)) (λ f a. none_given f x (let g = j.3 f a in g.0) k did.outs (up k d t M) (begin_onward (case_of f x j.0 (let g = j.3 f a in g.0)) (record { node = k; disk = d; parts = t; seen = M }) (seen_here A.world (up k d t M) j f a) l how parent).2) Z moved f (older f w)) e k did.outs (with_coord t did.part) d N
         (parts.begin tops e k d t l how parent M A walk n (r, j) new may free kind both part)
         (kept_begin hd values x G R Y keeps gives ⊤ votes_used e k d t l how parent M new may free (to (up k d t M) r) (locks_of A.world (up k d t M) j) (paired tops (up k d t M) A walk r both part j))
-        (records_walk none (up k d t M) k anyone e (with_coord t did.part) did.outs d N (others_then none k d (Some t) M) (tt, tt) (here_then none k d (Some t) M)) (step_walk k d (Some t) M e (with_coord t did.part) did.outs d N (given_near l how k M) (was_up t) (was_up t));
+        (records_walk none (up k d t M) k anyone e (with_coord t did.part) did.outs d N (others_then none k d (Some t) M) (tt, tt) (here_then none k d (Some t) M)) (step_walk k d (Some t) M e (with_coord t did.part) did.outs d N (given_near l how k M) (was_up t) (was_up t)) (moves_walk e k did.outs (with_coord t did.part) d M N (λ i. refl) (λ p i. i));
     tick = λ tops e k d t M A walk n r both (part, j).
         let outs = tick_outs (record { number = k; disk = d; live = Some t }) t in
         let v = with_coord t (let z = again_all t.coord.doings t.coord in z.part) in
         let C : Uid → Type 0 = λ u. IsConfirming t.coord u in
-        along tops (Changes Quietly A) C nobody A.world (up k d t M) j.0 M.sent (λ f a. let g = j.3 f a in g.0) (λ B c. moves_by Quietly A B (let z = both.disks in z.whole) c) (no_one C (up k d t M)) (known_before C A.world (up k d t M) j (waits_here tops k d t M A n both part (runs (up k d t M) (to (up k d t M) r)) j)) e k outs v d M
+        along tops (Changes Quietly A) C nobody A.world (up k d t M) j.0 M.sent (λ f a. let g = j.3 f a in g.0) (λ B c. moves_by Quietly A B (let z = both.disks in z.whole) c) (no_one C (up k d t M)) (known_before C A.world (up k d t M) j (waits_here tops k d t M A n both part (runs (up k d t M) (to (up k d t M) r)) j)) (IsMoved M k outs v) (moved_loads tops k d t M A part j j.0 v outs (λ f a. inr (tick_onward (case_of f x j.0 (let g = j.3 f a in g.0)) (record { node = k; disk = d; parts = t; seen = M }) (seen_here A.world (up k d t M) j f a))) (λ f a. none_given f x (let g = j.3 f a in g.0) k outs (up k d t M) (tick_onward (case_of f x j.0 (let g = j.3 f a in g.0)) (record { node = k; disk = d; parts = t; seen = M }) (seen_here A.world (up k d t M) j f a)).2)) e k outs v d M
         (parts.tick tops e k d t M A walk n (r, j) both part) (kept_tick hd values x G R Y keeps gives ⊤ votes_used e k d t M (to (up k d t M) r) (locks_of A.world (up k d t M) j) (paired tops (up k d t M) A walk r both part j))
-        (records_walk C (up k d t M) k anyone e v outs d M (others_then C k d (Some t) M) (tick_puts anyone k d t (are_theirs tops k d t M n)) (here_then C k d (Some t) M)) (step_walk k d (Some t) M e v outs d M (near_same M) (was_up t) (was_up t));
+        (records_walk C (up k d t M) k anyone e v outs d M (others_then C k d (Some t) M) (tick_puts anyone k d t (are_theirs tops k d t M n)) (here_then C k d (Some t) M)) (step_walk k d (Some t) M e v outs d M (near_same M) (was_up t) (was_up t)) (moves_walk e k outs v d M M (λ i. refl) (λ p i. i));
     restart = λ tops e k d M A walk r both (part, j).
         let outs = restart_outs hd k (d.inc + 1) d in
         let v = parts_in k (d.inc + 1) d in
         along tops (OnlyFound (are_recorded d.intents) A) none (are_recorded d.intents) A.world (down k d M) j.0 M.sent (λ f a. let g = j.3 f a in g.0)
         (λ B c. (goes_along (are_recorded d.intents) A.world B.world (let z = both.disks in z.whole) c.along, ends_along (are_recorded d.intents) A.world B.world (let z = both.disks in z.whole) c.along))
-        (λ u is. let r = record_of u d.intents is in inl (record { place = k; node = record { number = k; disk = d; live = None }; intent = r.0; here = node_here M k (record { number = k; disk = d; live = None }); there = r.1 })) (known_before none A.world (down k d M) j (λ f a u never. absurd never)) e k outs v d M
+        (λ u is. let r = record_of u d.intents is in inl (record { place = k; node = record { number = k; disk = d; live = None }; intent = r.0; here = node_here M k (record { number = k; disk = d; live = None }); there = r.1 })) (known_before none A.world (down k d M) j (λ f a u never. absurd never)) (IsMoved M k outs v) (λ Z moved f a T run seen. loads_restarted hd f x (let g = j.3 f a in g.0) T k d M (reached_here A.world (down k d M) j f a) run (let g = j.3 f a in g.5) Z moved) e k outs v d M
         (parts.restart tops e k d M A walk (r, j) both part) (kept_restart hd values x G R Y keeps gives ⊤ votes_used e k d M (to (down k d M) r) (locks_of A.world (down k d M) j) (paired tops (down k d M) A walk r both part j))
-        (records_walk none (down k d M) k anyone e v outs d M (others_then none k d None M) (plainly none anyone outs (restart_plain [] hd k d)) (here_then none k d None M)) (step_walk k d None M e v outs d M (near_same M) (λ down. restart_plain [] hd k d) (λ down. refl));
+        (records_walk none (down k d M) k anyone e v outs d M (others_then none k d None M) (plainly none anyone outs (restart_plain [] hd k d)) (here_then none k d None M)) (step_walk k d None M e v outs d M (near_same M) (λ down. restart_plain [] hd k d) (λ down. refl)) (moves_walk e k outs v d M M (λ i. refl) (λ p i. i));
     first = λ tops walk kinds.
         let f = parts.first tops walk kinds in
         let z = first_kept hd values x G R Y keeps gives ⊤ votes_used in
-        (f.0, f.1, (f.2, (z.0, z.1, z.2, (λ w agrees. let g = z.3 w agrees in (g.0, g.1, g.2, g.3 tt, nothing_yet w g.0 f.0 f.3 f.4)), z.4)), f.3, f.4);
+        (f.0, f.1, (f.2, (z.0, z.1, z.2, (λ w agrees. let g = z.3 w agrees in (g.0, g.1, g.2, g.3 tt, nothing_yet w g.0 f.0 f.3 f.4, (λ p a st q there. absurd there))), z.4)), f.3, f.4);
   }
     where
       quiet_step : (e : ℕ) (bs : List Body) (M : Seen) → IsStep M (said e bs M)

@@ -21,6 +21,11 @@ pub mod MarkRuns
 pub mod MarkTies
 pub mod Leaving
 pub mod RunsInTime
+pub mod Mute
+pub mod LoadGuards
+pub mod LoadMoves
+pub mod LoadSteps
+pub mod LoadWalks
 pub mod Joining
 pub mod Recording
 pub mod Removing

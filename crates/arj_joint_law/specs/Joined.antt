@@ -38,6 +38,7 @@ use Rattle.arj_lock_run_law.specs.Sees.{SeesLocks}
 use Rattle.arj_lock_run_law.specs.Tied.{AreTied}
 use Rattle.arj_lock_run_law.specs.Votes.{AreVotedAt}
 use Rattle.arj_joint_law.specs.Includers.{IncludersTakeTurns}
+use Rattle.arj_joint_law.specs.Loads.{AreLoadsLast}
 use Rattle.arj_joint_law.specs.Ordered.{IsOrderedSo}
 use Rattle.arj_joint_law.specs.Recorded.{WereRecorded}
 use Rattle.arj_serial_law.specs.Decided.{Wrote, WroteSo}
@@ -88,9 +89,9 @@ pub record ArePlannedSo (f : Fixed) (x : ℕ) (S : lock.State) (W : World) (M : 
 -- ---- states beside each other
 
 -- The state of the lock machine in which the object is seen stands beside one of its disk machine, of which this holds: commits under way have the
--- votes that came, and who is decided had planned so.
+-- votes that came, who is decided had planned so, and what stores gave to calls that wait for it they may give by the lock machine.
 abbrev pub IsPaired : ℕ → (Kinds → Office → Seen → Type 0) → Fixed → List Action → lock.State → Seen → Type 0
-IsPaired x P f begun S M = (tops : Kinds) × (tops.walk ≡ None) × (A : Office) × SeesBoth x tops A M × P tops A M × AreVotedAt f x S M × ArePlannedSo f x S A.world M
+IsPaired x P f begun S M = (tops : Kinds) × (tops.walk ≡ None) × (A : Office) × SeesBoth x tops A M × P tops A M × AreVotedAt f x S M × ArePlannedSo f x S A.world M × AreLoadsLast f x S M
 
 -- The object is seen by its lock machine, for all that may be fixed, agrees and begins with this value, beside this world of its disk machine.
 abbrev pub HasStates : Values → ℕ → World → Seen → Type 0

@@ -10,6 +10,7 @@ pub mod Outcome
 pub mod Samples
 pub mod Excluded
 pub mod InTime
+pub mod Loads
 pub mod Joined
 pub mod Recorded
 pub mod Alone

@@ -52,9 +52,9 @@ pub fn runs_are_clean()
 /// which commits under way have the votes that came. Each top that is decided, or has a record, has in the disk machine the plan with which it
 /// waited for naming in an earlier state of the lock machine: what it changes the object to is what the server voted that was called. So each
 /// decided top of the journal gave to the stores what it wrote, and one whose commit ended without a record wrote nothing. So the run
-/// is serial. What both halves still take is taken, where they stand beside each other: of the lock half what stores give to calls, in
-/// states beside one of the disk half (`IsBeside`), of the disk half in worlds beside the lock half's (`HasStates`). That commits of tops
-/// with surviving writes were recorded is given here. It does nothing when it runs.
+/// is serial. What both halves still take is taken, where they stand beside each other: of the lock half what stores give to calls
+/// as they answer, in states beside one of the disk half (`IsBeside`), of the disk half in worlds beside the lock half's (`HasStates`). That
+/// commits of tops with surviving writes were recorded is given here. It does nothing when it runs.
 pub fn runs_have_both_machines()
     ensures joined { RunsAreJoined }
     ensures serial { JoinedRunsAreSerial }

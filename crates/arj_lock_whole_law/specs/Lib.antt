@@ -5,5 +5,6 @@ pub mod Aborts
 pub mod Acks
 pub mod Whole
 pub mod Rest
+pub mod Stored
 pub mod Runs
 pub mod Held

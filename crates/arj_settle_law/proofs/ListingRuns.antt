@@ -65,7 +65,8 @@ use Rattle.arj_wait_law.proofs.AskedRuns.{acked_quiet, acts_quiet, heard_quiet, 
 use Rattle.arj_wait_law.proofs.Known.{binds_own, waits_req}
 use Rattle.arj_wait_law.proofs.Named.{by_more}
 use Rattle.arj_wait_law.proofs.WriterNodes.{put_at}
-use Rattle.arj_wait_law.proofs.Serving.{AllSend, AllSilent, AnswerSo, IsKeptIn, message_served, quiet_silent, quiet_so, restart_silent}
+use Rattle.arj_joint_law.proofs.Mute.{AllSilent, restart_silent}
+use Rattle.arj_wait_law.proofs.Serving.{AllSend, AnswerSo, IsKeptIn, message_served, quiet_silent, quiet_so}
 use Rattle.arj_settle_law.specs.Prepared.{AsksForItself, IsForItself}
 use Rattle.arj_settle_law.proofs.Listings.{BoundHas, Brings, EntryHas, NamesHave, Of, ReplyHas, StepsHave, acked_has, acts_has, again_has, begins_has, heard_has, names_more, new_has, reply_more, steps_more}
 use Rattle.arj_settle_law.proofs.ListingNames.{Fine, binds, coord_fine, fine_both, handled_fine, listed_so, queries, restart_fine, stopped_so, tells_fine}

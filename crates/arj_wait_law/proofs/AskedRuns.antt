@@ -39,7 +39,8 @@ use Rattle.arj_disk_view_law.proofs.Frames.{node_here}
 use Rattle.arj_record_law.proofs.Quiet.{AllQuiet, AllSaid, IncsUp, bind_said, coord_quiet, queries, quiet_both, quiet_incs}
 use Rattle.arj_wait_law.specs.Asked.{ActivateNamed, Claims, HaveForms, IsAnsweredBy, IsPlaced, MadeWasSaid, ReplyWasAsked, ServerWasAsked, StandsAt, StandsIn, StepsNamed, WasMade, WasNamed, WereAsked}
 use Rattle.arj_wait_law.proofs.AskedServers.{activate_asked, invoke_asked, none_asked, server_more, told_asked, vote_asked}
-use Rattle.arj_wait_law.proofs.Serving.{AllSend, AllSilent, AnswerSo, IsKeptIn, message_served, quiet_silent, quiet_so, restart_asks, restart_silent}
+use Rattle.arj_joint_law.proofs.Mute.{AllSilent, restart_silent}
+use Rattle.arj_wait_law.proofs.Serving.{AllSend, AnswerSo, IsKeptIn, message_served, quiet_silent, quiet_so, restart_asks}
 use Rattle.arj_call_law.proofs.CoordOuts.{acked_so, acts_so, again_so, heard_so, query_so, tolds_so}
 use Rattle.arj_call_law.proofs.CoordSends.{AllSo, SendsSo, so_both}
 use Rattle.arj_protocol.specs.Call.{At, AtActivate, AtBind, AtInvoke, AtLoad, AtNote, Steps}

@@ -7,100 +7,36 @@ use Rattle.std.proofs.lemmas.Bool.{and_parts}
 use Rattle.arj_address_law.proofs.Lists.{all_append, some_is}
 use Rattle.arj_protocol.specs.Words.{Ask, Asked, Binding, BoundReply, End, Head, Header, Message, ObjectState, Op, Uid, asks, object}
 use Rattle.arj_protocol.specs.Words.ask
-use Rattle.arj_protocol.specs.Words.body
 use Rattle.arj_protocol.specs.Words.ending
 use Rattle.arj_protocol.specs.Words.loaded
 use Rattle.arj_protocol.specs.Words.message
 use Rattle.arj_protocol.specs.Words.prepared
 use Rattle.arj_protocol.specs.Ask.{Reply, actor, answers, asked_by, last_end, response}
 use Rattle.arj_protocol.specs.Asking.{heard}
-use Rattle.arj_protocol.specs.Confirm.{Grants, Marks, back_lines, confirm}
+use Rattle.arj_protocol.specs.Confirm.{Grants, Marks, confirm}
 use Rattle.arj_protocol.specs.Coord.{Coord}
-use Rattle.arj_protocol.specs.Effect.{Already, Disk, Do, Effect, InDoubt, Intent, Look, Old, Prep, PutInc, Ready, Say, Send, Served, held_at, holder_of, is_prepared, prepare_answer}
-use Rattle.arj_protocol.specs.Ending.{acked, answer_query, tell, tell_all}
-use Rattle.arj_protocol.specs.Named.{Named}
+use Rattle.arj_protocol.specs.Effect.{Already, Disk, Do, Effect, InDoubt, Look, Old, Prep, Ready, Say, Send, Served, held_at, holder_of, is_prepared, prepare_answer}
+use Rattle.arj_protocol.specs.Ending.{acked, answer_query}
 use Rattle.arj_protocol.specs.Naming as naming
 use Rattle.arj_protocol.specs.Naming.{Naming}
-use Rattle.arj_protocol.specs.Node.{Handled, Parts, Took, Void, ack_told, by_reply, coord_heard, end_states, handle, handle_answer, handle_ask, handle_ends, handle_other, holders, if_naming, is_earlier, load_by, load_held, naming_hello, naming_told, prepare_by, prepared_actions, query_about, sends_answer, serve, served, store_told, with_coord, with_naming, with_server}
-use Rattle.arj_protocol.specs.Order.{uid_set, without_number}
+use Rattle.arj_protocol.specs.Node.{Handled, Parts, Took, Void, ack_told, by_reply, coord_heard, end_states, handle, handle_answer, handle_ask, handle_ends, handle_other, holders, if_naming, is_earlier, load_by, load_held, naming_hello, naming_told, prepare_by, query_about, sends_answer, serve, served, store_told, with_coord, with_naming, with_server}
 use Rattle.arj_protocol.specs.Says.{AreAll, is_naming_effect, is_server_effect}
 use Rattle.arj_protocol.specs.Server as server
 use Rattle.arj_protocol.specs.Server.{Server}
-use Rattle.arj_protocol.specs.Step.{hello_to, naming_at, naming_back, numbers_to, parts_in, recovered_records, restart_outs, tolds_again}
+use Rattle.arj_protocol.specs.Step.{parts_in, restart_outs}
 use Rattle.arj_protocol.proofs.PartSays.{activate_own, bind_own, confirm_own, ends_own, invoke_own, note_own, told_own, vote_own}
-use Rattle.arj_part_law.proofs.SaidIncs.{all_flat, all_map}
 use Rattle.arj_record_law.proofs.Quiet.{AllQuiet}
 use Rattle.arj_call_law.proofs.CoordSends.{AllSo, SendsSo}
+use Rattle.arj_joint_law.proofs.Mute.{AllMute, AllSilent, restart_mute}
 use Rattle.arj_call_law.proofs.WorldSteps.{no_request}
 
 -- ---- without answers
-
--- it answers nobody
-abbrev pub IsSilent : Effect → Type 0
-IsSilent (Send to m) = answers m ≡ None
-IsSilent (Say b) = ⊤
-IsSilent (Do w) = ⊤
-
-abbrev pub AllSilent : List Effect → Type 0
-AllSilent outs = AllByRecursion IsSilent outs
 
 pub quiet_silent : (es : List Effect) → AllQuiet es → AllSilent es
 quiet_silent [] q = tt
 quiet_silent (Say b ∷ es) q = (tt, quiet_silent es q.1)
 quiet_silent (Do w ∷ es) q = (tt, quiet_silent es q.1)
 quiet_silent (Send to p ∷ es) q = (q.0, quiet_silent es q.1)
-
--- it neither answers nor asks
-abbrev IsMute : Effect → Type 0
-IsMute (Send to m) = (answers m ≡ None) × (asks m ≡ None)
-IsMute (Say b) = ⊤
-IsMute (Do w) = ⊤
-
-abbrev AllMute : List Effect → Type 0
-AllMute outs = AllByRecursion IsMute outs
-
-mute_both : (es fs : List Effect) → AllMute es → AllMute fs → AllMute (es ++ fs)
-mute_both es fs a b = all_append IsMute es fs a b
-
--- a restart neither answers nor asks
-restart_mute : (hd : Header) (k inc : ℕ) (d : Disk) → AllMute (restart_outs hd k inc d)
-restart_mute hd k inc d = mute_both four hellos (mute_both three asking (mute_both two (tolds_again d.intents) (mute_both one records (tt, (tt, (tt, (tt, back_so (naming_at k inc d.names))))) (tt, all_map IsMute (λ (e : Uid × Intent). Say (body.Recovered k e.0)) d.intents (λ e. tt)))
-    (all_flat IsMute (λ (e : Uid × Intent). tell_all e.1.root true ((e.0, ending.Commit) ∷ []) e.1.nodes) d.intents (λ e. all_map IsMute (tell e.1.root true ((e.0, ending.Commit) ∷ [])) e.1.nodes (λ n. (refl, refl)))))
-    (all_map IsMute query_about (uid_set (prepared_actions d.store ++ prepared_actions d.names)) (λ u. (refl, refl)))) (all_map IsMute (hello_to k inc) (without_number k (numbers_to hd.nodes)) (λ w. (refl, refl)))
-  where
-    back_so : (o : Option Naming) → AllMute (naming_back o)
-    back_so None = tt
-    back_so (Some o) = all_flat IsMute (λ (e : ℕ × Named). back_lines e.1) o.objects (λ e. all_map IsMute _ e.1.rows (λ r. tt))
-
-    one : List Effect
-    one = Do Look ∷ Do (PutInc inc) ∷ Say (body.Up k inc) ∷ Do Look ∷ naming_back (naming_at k inc d.names)
-
-    records : List Effect
-    records = Do Look ∷ recovered_records k d.intents
-
-    two : List Effect
-    two = one ++ records
-
-    three : List Effect
-    three = two ++ tolds_again d.intents
-
-    asking : List Effect
-    asking = map query_about (uid_set (prepared_actions d.store ++ prepared_actions d.names))
-
-    four : List Effect
-    four = three ++ asking
-
-    hellos : List Effect
-    hellos = map (hello_to k inc) (without_number k (numbers_to hd.nodes))
-
-pub restart_silent : (hd : Header) (k inc : ℕ) (d : Disk) → AllSilent (restart_outs hd k inc d)
-restart_silent hd k inc d = by (restart_outs hd k inc d) (restart_mute hd k inc d)
-  where
-    by : (es : List Effect) → AllMute es → AllSilent es
-    by [] m = tt
-    by (Say b ∷ es) m = (tt, by es m.1)
-    by (Do w ∷ es) m = (tt, by es m.1)
-    by (Send to p ∷ es) m = ((m.0).0, by es m.1)
 
 -- nor does it ask
 pub restart_asks : (hd : Header) (k inc : ℕ) (d : Disk) → AllSo (let t = parts_in k inc d in t.coord) (restart_outs hd k inc d)

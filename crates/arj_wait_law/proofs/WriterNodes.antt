@@ -289,4 +289,3 @@ module _ (P : Uid → Type 0) where
 
       hellos : List Effect
       hellos = map (hello_to k inc) (without_number k (numbers_to hd.nodes))
-
