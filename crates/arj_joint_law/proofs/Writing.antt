@@ -49,7 +49,7 @@ held_by a (f ∷ es) held e (inr i) = held_by a es held.1 e i
 
 module _ (act : Acts) (code : Codes) (u : Uid) where
   -- an overlay of the action has a write that it holds
-  over_there : (os : List Over) (log : List Entry) → SeesOvers act code os log → (o : Over) → over_of u os ≡ Some o → (e : Entry) × In e log × (e.holder ≡ act u)
+  pub over_there : (os : List Over) (log : List Entry) → SeesOvers act code os log → (o : Over) → over_of u os ≡ Some o → (e : Entry) × In e log × (e.holder ≡ act u)
   over_there [] log sees o is = absurd (cc is)
   over_there (p ∷ os) log (own, rest, are, over, sees) o is = by (is_of u p) refl is (over_there os rest sees o)
     where
@@ -61,7 +61,7 @@ module _ (act : Acts) (code : Codes) (u : Uid) where
       by false its is_so ih = let r = ih is_so in (r.0, subst (In r.0) (sym are) (in_behind own rest r.0 r.1), r.2)
 
   -- and a write that it holds has its overlay
-  over_found : AreOne act → (os : List Over) (log : List Entry) → SeesOvers act code os log → (e : Entry) → In e log → e.holder ≡ act u → over_of u os ≡ None → ⊥
+  pub over_found : AreOne act → (os : List Over) (log : List Entry) → SeesOvers act code os log → (e : Entry) → In e log → e.holder ≡ act u → over_of u os ≡ None → ⊥
   over_found one [] log sees e i holder none = absurd (subst (In e) sees i)
   over_found one (p ∷ os) log (own, rest, are, over, sees) e i holder none = by (is_of u p) refl none (λ there is_so. over_found one os rest sees e there holder is_so)
     where

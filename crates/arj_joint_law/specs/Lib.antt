@@ -16,3 +16,5 @@ pub mod Recorded
 pub mod Alone
 pub mod Joins
 pub mod Includers
+pub mod Based
+pub mod BasedSteps
