@@ -27,7 +27,7 @@ use Rattle.arj_names_view_law.specs.Handlers.{Answering, Change, Changes, Decidi
 use Rattle.arj_binding_law.specs.Scripts.{most_events}
 use Rattle.arj_disk_run_law.specs.Rest.{IsCountedWith, SeesCarried}
 use Rattle.arj_call_law.specs.Runs.{KnowsFew}
-use Rattle.arj_disk_run_law.specs.Part.{Going, HasHeard, IsCarried, KeepsPart, are_recorded, going_of}
+use Rattle.arj_disk_run_law.specs.Part.{Going, HasHeard, KeepsPart, are_recorded, going_of}
 use Rattle.arj_disk_run_law.specs.Kinds.{kinds_of}
 use Rattle.arj_disk_run_law.proofs.Begun.{kinds_agree}
 use Rattle.arj_disk_run_law.specs.Bindings.{KnowsScript}
@@ -35,7 +35,7 @@ use Rattle.arj_call_law.proofs.Given.{kept_both, keeps_given}
 use Rattle.arj_disk_run_law.proofs.Scripts.{part_few, script_holds}
 use Rattle.arj_disk_run_law.proofs.Given.{gives_votes}
 use Rattle.arj_disk_run_law.specs.Entries.{HaveEntries}
-use Rattle.arj_disk_run_law.proofs.BothEach.{both_each, counted_with, heard_part, with_entries}
+use Rattle.arj_disk_run_law.proofs.BothEach.{counted_with, heard_part, with_entries}
 use Rattle.arj_disk_run_law.proofs.Kept.{IsKeptInRun, all_keep}
 use Rattle.arj_disk_run_law.proofs.RecordWalks.{restart_plain}
 use Rattle.arj_line_law.specs.Book.{book, is_decided, is_top, new_book}
@@ -48,6 +48,7 @@ use Rattle.arj_disk_line_law.proofs.IdleKnown.{KnowsIdle, knows_idle}
 use Rattle.arj_disk_line_law.proofs.Owners.{decided_begun, whose_it_is}
 use Rattle.arj_disk_run_law.proofs.Grows.{later_lines}
 use Rattle.arj_disk_run_law.proofs.Decisions.{Goes, Turns, goes_along}
+use Rattle.arj_disk_line_law.proofs.Unlate.{IsCarriedSo, unlate_each}
 use Rattle.arj_disk_line_law.proofs.Steps.{IsNear, IsStep, near_same, step_halted, step_walk, nothing_more}
 use Rattle.arj_model.specs.Actions.{Act, acts as acts_of}
 use Rattle.arj_disk_view_law.proofs.Frames.{node_here}
@@ -269,12 +270,12 @@ pub journalled_beside : (hd : Header) (x : ℕ) (R : Seen → Type 0) (P : Kinds
 journalled_beside hd x R P kept parts es short =
     let Idle : List Line → Uid → Type 0 = λ ls u. IsIdle (book ls) u in
     let idles = knows_idle R in
-    let Q : Kinds → Seen → Type 0 = IsCarried (WithTie P Idle) x in
     let B : Seen → Type 0 = Both hd x R (λ W M. KnowsScript M) P Idle kept parts idles in
     let Known : Seen → Type 0 = λ M. B M × HaveEntries x M in
     let tied = tied_part hd x R (λ W M. KnowsScript M) P Idle kept parts idles in
+    let Q : Kinds → Seen → Type 0 = IsCarriedSo hd x B KnowsScript P Idle tied in
     let known = with_entries hd x B (λ M. B M × KnowsScript M) (WithTie P Idle) tied (both_too hd x R (λ W M. KnowsScript M) P Idle kept parts idles) in
-    let r = script_holds hd (IsKeptInRun Known Q) (all_keep hd x Known KnowsScript Q known (gives_votes Known) (both_each hd x B KnowsScript (WithTie P Idle) tied)) es short in
+    let r = script_holds hd (IsKeptInRun Known Q) (all_keep hd x Known KnowsScript Q known (gives_votes Known) (unlate_each hd x B KnowsScript P Idle tied)) es short in
     let h = r.holds.1 in
     let g = h.1 in
     let s = g.5 (kinds_of h.0) (kinds_agree h.0 g.0.begun g.1) in
@@ -288,7 +289,7 @@ journalled_beside hd x R P kept parts es short =
           tops = kinds_of h.0;
           machine = s.0.world;
           sees = s.1.disks;
-          said = λ u n here d. ⊎_elim (λ is. inl (decided_in lines right u is)) (λ late. inr late) (s.2.1.0 u n here d);
+          said = λ u n here d. decided_in lines right u (⊎_elim (λ is. is) (λ late. s.3 u n here late.down d) (s.2.1.0 u n here d));
           whose = λ t d. whose_it_is h.0 lines t (s.1.disks.kinds t (decided_begun s.0.world s.1.disks.whole t d)).0 (let p = g.3 in p.lines);
           done = λ a there top is. its_own lines right a there is (is_sound lines right) top s.0.world (s.2.1.1 a.uid (sym (let b = (is_sound lines right).reads in b.decided a there) ∙ is));
         },

@@ -34,6 +34,10 @@ pub record IsLate (u : Uid) (n : Node) : Type 0 where
 abbrev pub AreSaid : machine.World → Seen → Type 0
 AreSaid W M = (u : Uid) (n : Node) → M.nodes u.node ≡ Some n → decided W.disk (uid_number u) ≡ true → (is_decided (book M.lines) u ≡ true) ⊎ IsLate u n
 
+-- none is late so: of a node that is down whoever is decided by the machine is decided by the journal
+abbrev pub AreNotLate : machine.World → Seen → Type 0
+AreNotLate W M = (u : Uid) (n : Node) → M.nodes u.node ≡ Some n → n.live ≡ None → decided W.disk (uid_number u) ≡ true → is_decided (book M.lines) u ≡ true
+
 -- ---- what the journal says is decided
 
 -- it began, and is no top
@@ -64,7 +68,7 @@ pub record IsJournalled (x : ℕ) (M : Seen) : Type 0 where
   pub tops : Kinds
   pub machine : machine.World
   pub sees : SeesDisks x tops machine M
-  pub said : (u : Uid) (n : Node) → M.nodes u.node ≡ Some n → decided (let W = machine in W.disk) (uid_number u) ≡ true → IsCommittedIn M.lines u ⊎ IsLate u n
+  pub said : (u : Uid) (n : Node) → M.nodes u.node ≡ Some n → decided (let W = machine in W.disk) (uid_number u) ≡ true → IsCommittedIn M.lines u
   pub whose : (t : ℕ) → decided (let W = machine in W.disk) t ≡ true → (a : Act) × Contains (acts M.lines) a × (uid_number a.uid ≡ t)
   pub done : (a : Act) → Contains (acts M.lines) a → is_top a.kind ≡ true → IsDone M.lines a
       → (decided (let W = machine in W.disk) (uid_number a.uid) ≡ true) ⊎ ((let W = machine in W.disk.bare) (uid_number a.uid) ≡ true) ⊎ HasNothing M.lines a

@@ -76,7 +76,7 @@ module _ (P : Kinds → Office → Seen → Type 0) (x : ℕ) (tops : Kinds) whe
 
 -- ---- what naming's half counts on
 
-counted : (x : ℕ) (tops : Kinds) (k : ℕ) (d : Disk) (t : Parts) (M : Seen) (m : Message) (A : Office) (n : Naming) → KnowsNode tops k d t M → HaveEntries x (up k d t M) → SeesBoth x tops A (up k d t M) → AreOfTops tops m → t.naming ≡ Some n
+pub counted : (x : ℕ) (tops : Kinds) (k : ℕ) (d : Disk) (t : Parts) (M : Seen) (m : Message) (A : Office) (n : Naming) → KnowsNode tops k d t M → HaveEntries x (up k d t M) → SeesBoth x tops A (up k d t M) → AreOfTops tops m → t.naming ≡ Some n
     → MayRecord x d n m A × IsForGrants x d n m A → CountsOn x tops d n m A
 counted x tops k d t M m A n knows have both of is it = record {
   path = λ h a asked. of_top tops A.world.disk h.path knows.kinds (let s = both.disks in s.fixed) (of h a asked);

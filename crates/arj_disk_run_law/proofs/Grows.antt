@@ -199,7 +199,7 @@ called_there tops k d t M n kept z c u uz =
     subst (λ v. is_on (book M.lines).called v ≡ true) (number_tells c.top u (c.number ∙ sym uz)) (l.calls c.top m.branch c.doing m.found c.does m.unended ∙ ap is_committing_now c.now)
 
 -- a top with a record
-recorded_there : (intents : List (Uid × Intent)) (z : ℕ) → are_recorded intents z ≡ true → (e : Uid × Intent) × Contains intents e × (uid_number e.0 ≡ z)
+pub recorded_there : (intents : List (Uid × Intent)) (z : ℕ) → are_recorded intents z ≡ true → (e : Uid × Intent) × Contains intents e × (uid_number e.0 ≡ z)
 recorded_there [] z on = let no_way : false ≡ true = on in cc
 recorded_there (e ∷ es) z on = ⊎_elim (λ here. (e, in_to e (e ∷ es) (inl refl), eqb-true (uid_number e.0) z here)) (λ rest. let r = recorded_there es z rest in (r.0, in_to r.0 (e ∷ es) (inr (in_from r.0 es r.1)), r.2)) (or_cases (uid_number e.0 == z) (are_recorded es z) on)
 

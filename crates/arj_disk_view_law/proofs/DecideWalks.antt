@@ -1,17 +1,20 @@
 -- A decision, walked through at its coordinator.
 use Rattle.std.proofs.Common.{◌≡◌, ◌≢◌, ◌⊎◌, ℕ, ◌==◌, ◌||◌, List, [], ◌∷◌, ◌++◌, Bool, true, false, Option, Some, None, refl, sym, ◌∙◌, ap, subst, inl, inr, ⊎_elim, map}
-use Rattle.std.specs.Prelude.{if◌then◌else◌, not, is_some}
+use Rattle.std.specs.Prelude.{⊤, if◌then◌else◌, not, is_some}
 use Rattle.std.proofs.lemmas.List.{append_assoc}
 use Rattle.std.specs.List.{AllByRecursion}
 use Rattle.arj_protocol.specs.Words.{Uid, End, Kind, ObjectState, object}
 use Rattle.arj_protocol.specs.Words.body
+use Rattle.arj_protocol.specs.Words.confirmed
 use Rattle.arj_protocol.specs.Words.ending
 use Rattle.arj_protocol.specs.Words.kind
 use Rattle.arj_protocol.specs.Words.message
+use Rattle.arj_protocol.specs.Ask.{Reply}
+use Rattle.arj_protocol.specs.Asking.{moved_commit}
 use Rattle.arj_protocol.specs.Commit as commit
 use Rattle.arj_protocol.specs.Commit.{Confirming, changed_of, participants, has_record}
 use Rattle.arj_protocol.specs.Coord.{Coord, Doing, Now, Idle, Committing, Root, doing_of}
-use Rattle.arj_protocol.specs.Effect.{Disk, Effect, Do, PutIntent, Intent, Before, After, InPart}
+use Rattle.arj_protocol.specs.Effect.{Disk, Effect, Do, PutIntent, Intent, Before, After, InPart, Stop, stopped}
 use Rattle.arj_protocol.specs.Ending.{says, say_for, decided, decided_told, tell, record_work}
 use Rattle.arj_protocol.specs.Node.{Parts, with_coord}
 use Rattle.arj_protocol.specs.Order as order
@@ -29,17 +32,17 @@ use Rattle.arj_disk_law.specs.State.{State, Hold, Packed, Known, Listed, IsExcus
 use Rattle.arj_disk_law.specs.Words.{In, has, put}
 use Rattle.arj_disk_law.proofs.Base.{never, never_some, some_is, put_same, put_other, test_same}
 use Rattle.arj_view_law.specs.Seen.{Post, Seen, up, said, posted}
-use Rattle.arj_view_law.specs.Walks.{Walks, Stops, Up}
+use Rattle.arj_view_law.specs.Walks.{Walks, Stops, Up, halted}
 use Rattle.arj_disk_view_law.specs.Asking.{SeesConfirming}
 use Rattle.arj_disk_view_law.specs.Deciding.{SeesRecords, Stills}
 use Rattle.arj_disk_view_law.specs.Pairs.{Among}
 use Rattle.arj_disk_view_law.specs.Plans.{plan_at}
-use Rattle.arj_disk_view_law.specs.Sees.{may_note, IsOneChange, Kinds, SeesDisks, SeesCoord, SeesNotes, IsSettled, KnowsRoot, KnowsNow, IsLater, is_awaited_by, IsSeenByDisks, Works, WorksBy, WaitsForNaming, ConfirmedIsHeard}
+use Rattle.arj_disk_view_law.specs.Sees.{ClaimsReply, may_note, IsOneChange, Kinds, SeesDisks, SeesCoord, SeesNotes, IsSettled, KnowsRoot, KnowsNow, IsLater, is_awaited_by, IsSeenByDisks, Works, WorksBy, WaitsForNaming, ConfirmedIsHeard}
 use Rattle.arj_disk_view_law.proofs.DecidedCoord.{decided_tree, decided_doings, decided_tellings, decided_telling, decided_doing, decided_roots}
 use Rattle.arj_disk_view_law.proofs.DecidingSteps.{takes_part, record_is_written, decision_is_made, commits_are_undecided, bare_commit_ends, decision_tells}
 use Rattle.arj_disk_view_law.proofs.Ended.{HasEnded, ended_coord, ended_noted, calm_seen}
 use Rattle.arj_disk_view_law.proofs.Frames.{node_here, coord_same, says_seen, posts_seen, sends_seen}
-use Rattle.arj_disk_view_law.proofs.Halts.{stops_seen}
+use Rattle.arj_disk_view_law.proofs.Halts.{stops_open}
 use Rattle.arj_disk_view_law.proofs.HeardWalks.{is_say, say_walk}
 use Rattle.arj_disk_view_law.proofs.Keys as keys
 use Rattle.arj_disk_view_law.proofs.Later.{effects_are_later}
@@ -236,48 +239,56 @@ module _ (x : ℕ) (tops : Kinds) (e k : ℕ) (d : Disk) (t : Parts) (act : Uid)
   abbrev Goal : Bool → Type 0
   Goal b = Walks Q e k ((if b then Do (PutIntent act i0) ∷ [] else []) ++ Rest) (Up Q k (with_coord t C)) d M
 
+  -- its record is written
+
+  abbrev d1 : Disk
+  d1 = record d { intents = put_uid act i0 d.intents }
+
+  abbrev Intended : World
+  Intended = after W (machine.Intend (uid_number act) (participants p))
+
+  written : Allowed W (machine.Intend (uid_number act) (participants p)) × Stills W (machine.Intend (uid_number act) (participants p)) × SeesRecords k (put_uid act i0 d.intents) (after W (machine.Intend (uid_number act) (participants p))).disk
+  written = record_is_written x k W act i0 p d.intents sees.whole.core confirming refl answered records here refl
+
+  mine1 : SeesCoord x k d.inc tops t.coord Intended.disk
+  mine1 = coord_same x k d.inc tops t.coord W.disk Intended.disk refl refl refl refl refl mine
+
+  notes1 : SeesNotes x (put_uid act i0 d.intents) t.coord Intended
+  notes1 = put_noted x Intended d.intents t.coord act i0 open_here (notes_later x W Intended (effects_are_later W (machine.Intend (uid_number act) (participants p) ∷ []) (written.0, tt) sees.whole) d.intents t.coord notes)
+
+  written_seen : SeesDisks x tops Intended (up k d1 t M)
+  written_seen = calm_seen x k tops W M d t act (machine.Intend (uid_number act) (participants p)) (put_uid act i0 d.intents) t.coord sees here written.0 refl written.1 refl (λ w other. refl) (λ w other. refl) written.2
+      (λ m n apart s. records_apart Intended.disk (Some (participants p)) refl m n apart s) mine1 notes1
+
+  -- a stop at the record leaves the top open
+  pub record_stops : (how : Stop) → (V : World) × (V.disk.tops ≡ W.disk.tops) × SeesDisks x tops V (halted e k (stopped how (PutIntent act i0) d) M)
+  record_stops Before = stops_open x tops e k d (Some t) M W sees
+  record_stops (InPart which) = stops_open x tops e k d (Some t) M W sees
+  record_stops After = let r = stops_open x tops e k d1 (Some t) M Intended written_seen in (r.0, r.1, r.2)
+
   by_record : (b : Bool) → has_record p ≡ b → Goal b
   by_record true has = (stops, say_walk x k tops e (with_coord t C) (with_coord t C) (says act body.Committed t.coord) (map (decided_told (root_of p.path) act p) p.sent) d1 LastWorld says_commit tolds M s2)
     where
-      d1 : Disk
-      d1 = record d { intents = put_uid act i0 d.intents }
-
-      LaterWorld : World
-      LaterWorld = after W (machine.Intend (uid_number act) (participants p))
-
       LastWorld : World
-      LastWorld = after LaterWorld (machine.Decide (uid_number act))
+      LastWorld = after Intended (machine.Decide (uid_number act))
 
-      written : Allowed W (machine.Intend (uid_number act) (participants p)) × Stills W (machine.Intend (uid_number act) (participants p)) × SeesRecords k (put_uid act i0 d.intents) (after W (machine.Intend (uid_number act) (participants p))).disk
-      written = record_is_written x k W act i0 p d.intents sees.whole.core confirming refl answered records here refl
+      made : Allowed Intended (machine.Decide (uid_number act)) × Stills Intended (machine.Decide (uid_number act)) × SeesRecords k (put_uid act i0 d.intents) (after Intended (machine.Decide (uid_number act))).disk
+      made = decision_is_made k Intended act i0 (put_uid act i0 d.intents) written.2 (keys.put_same act i0 d.intents) (commits_are_undecided x W.disk (uid_number act) p sees.whole.core confirming)
 
-      mine1 : SeesCoord x k d.inc tops t.coord LaterWorld.disk
-      mine1 = coord_same x k d.inc tops t.coord W.disk LaterWorld.disk refl refl refl refl refl mine
-
-      notes1 : SeesNotes x (put_uid act i0 d.intents) t.coord LaterWorld
-      notes1 = put_noted x LaterWorld d.intents t.coord act i0 open_here (notes_later x W LaterWorld (effects_are_later W (machine.Intend (uid_number act) (participants p) ∷ []) (written.0, tt) sees.whole) d.intents t.coord notes)
-
-      s1 : SeesDisks x tops LaterWorld (up k d1 t M)
-      s1 = calm_seen x k tops W M d t act (machine.Intend (uid_number act) (participants p)) (put_uid act i0 d.intents) t.coord sees here written.0 refl written.1 refl (λ w other. refl) (λ w other. refl) written.2
-          (λ m n apart s. records_apart LaterWorld.disk (Some (participants p)) refl m n apart s) mine1 notes1
-
-      made : Allowed LaterWorld (machine.Decide (uid_number act)) × Stills LaterWorld (machine.Decide (uid_number act)) × SeesRecords k (put_uid act i0 d.intents) (after LaterWorld (machine.Decide (uid_number act))).disk
-      made = decision_is_made k LaterWorld act i0 (put_uid act i0 d.intents) written.2 (keys.put_same act i0 d.intents) (commits_are_undecided x W.disk (uid_number act) p sees.whole.core confirming)
-
-      stages : (w : Uid) → w ≢ act → LastWorld.disk.stage (uid_number w) ≡ LaterWorld.disk.stage (uid_number w)
-      stages w other = put_other (uid_number act) disk.Gone LaterWorld.disk.stage (uid_number w) (apart_number act w other)
+      stages : (w : Uid) → w ≢ act → LastWorld.disk.stage (uid_number w) ≡ Intended.disk.stage (uid_number w)
+      stages w other = put_other (uid_number act) disk.Gone Intended.disk.stage (uid_number w) (apart_number act w other)
 
       later_all : IsLater W LastWorld
       later_all = effects_are_later W (machine.Intend (uid_number act) (participants p) ∷ machine.Decide (uid_number act) ∷ []) (written.0, (made.0, tt)) sees.whole
 
       told : Recorded x tops e k d1 (with_coord t C) act (root_of p.path) p top LastWorld.disk
-      told = record { done = ap (λ b. b || disk.decided LaterWorld.disk (uid_number act)) (test_same (uid_number act)); there = put_same (uid_number act) (Some (participants p)) W.disk.intent }
+      told = record { done = ap (λ b. b || disk.decided Intended.disk (uid_number act)) (test_same (uid_number act)); there = put_same (uid_number act) (Some (participants p)) W.disk.intent }
 
       s2 : SeesDisks x tops LastWorld (up k d1 (with_coord t C) M)
-      s2 = calm_seen x k tops LaterWorld M d1 t act (machine.Decide (uid_number act)) (put_uid act i0 d.intents) C s1 here made.0 note made.1 refl stages (λ w other. refl) made.2
+      s2 = calm_seen x k tops Intended M d1 t act (machine.Decide (uid_number act)) (put_uid act i0 d.intents) C written_seen here made.0 note made.1 refl stages (λ w other. refl) made.2
           (λ m n apart s. record { sorted = s.sorted; own = s.own; is = s.is })
-          (ended_coord x k d.inc tops t.coord C LaterWorld.disk LastWorld.disk act waits.branch ending.Commit mine1 waits.found has_ended doings_stay stages refl refl refl (ap is_gone (put_same (uid_number act) disk.Gone LaterWorld.disk.stage)) (λ w other. refl) (λ bare r is. absurd (not_bare bare)))
-          (ended_noted x (put_uid act i0 d.intents) t.coord C LastWorld act waits.branch ending.Commit (notes_later x LaterWorld LastWorld (effects_are_later LaterWorld (machine.Decide (uid_number act) ∷ []) ((made.0.0, made.0.1), tt) s1.whole) (put_uid act i0 d.intents) t.coord notes1) waits.found has_ended tellings_stay doings_stay
+          (ended_coord x k d.inc tops t.coord C Intended.disk LastWorld.disk act waits.branch ending.Commit mine1 waits.found has_ended doings_stay stages refl refl refl (ap is_gone (put_same (uid_number act) disk.Gone Intended.disk.stage)) (λ w other. refl) (λ bare r is. absurd (not_bare bare)))
+          (ended_noted x (put_uid act i0 d.intents) t.coord C LastWorld act waits.branch ending.Commit (notes_later x Intended LastWorld (effects_are_later Intended (machine.Decide (uid_number act) ∷ []) ((made.0.0, made.0.1), tt) written_seen.whole) (put_uid act i0 d.intents) t.coord notes1) waits.found has_ended tellings_stay doings_stay
           (λ i there. let same : i0 ≡ i = some_is (keys.put_same act i0 d.intents) there in subst (λ (j : Intent). IsSettled act j C.telling LastWorld) same (record { done = told.done; awaited = λ m on. inl (ap (is_awaited_by m) (telling_here has) ∙ on) }))
           (λ r is. let same = some_is doing_now is in ((λ m on. inl told.done), subst (λ (z : Doing). KnowsNow x LastWorld z.now) same tt)) (roots_known LastWorld later_all (λ w writes. inl (ap (λ (g : disk.Plan). g.writes) confirming.plan ∙ writes))))
 
@@ -285,9 +296,7 @@ module _ (x : ℕ) (tops : Kinds) (e k : ℕ) (d : Disk) (t : Parts) (act : Uid)
       tolds N s = recorded_told x tops e k d1 (with_coord t C) act (root_of p.path) p top has p.sent N LastWorld told s
 
       stops : Stops Q e k (PutIntent act i0) d M
-      stops Before = stops_seen x tops e k d (Some t) M (W, sees)
-      stops (InPart which) = stops_seen x tops e k d (Some t) M (W, sees)
-      stops After = stops_seen x tops e k d1 (Some (with_coord t C)) M (LastWorld, s2)
+      stops how = let r = record_stops how in (r.0, r.2)
   by_record false has_not = say_walk x k tops e (with_coord t C) (with_coord t C) (says act body.Committed t.coord) (map (decided_told (root_of p.path) act p) p.sent) d LaterWorld says_commit tolds M s1
     where
       LaterWorld : World
@@ -326,6 +335,35 @@ module _ (x : ℕ) (tops : Kinds) (e k : ℕ) (d : Disk) (t : Parts) (act : Uid)
   pub decides_walk : Goal (has_record p)
   decides_walk = by_record (has_record p) refl
 
+  -- ---- where a stop falls
+
+  -- a stop at one of its works leaves who is decided as it was
+  abbrev Open : Seen → Type 0
+  Open N = (V : World) × (V.disk.tops ≡ W.disk.tops) × SeesDisks x tops V N
+
+  tolds_stops : (ns : List ℕ) (c : Disk) (N : Seen) → Walks Open e k (map (decided_told (root_of p.path) act p) ns) (λ c L. ⊤) c N
+  tolds_stops [] c N = tt
+  tolds_stops (n ∷ ns) c N = by (order.has (participants p) n) (tolds_stops ns)
+    where
+      by : (b : Bool) → ((c : Disk) (L : Seen) → Walks Open e k (map (decided_told (root_of p.path) act p) ns) (λ c L. ⊤) c L)
+          → Walks Open e k ((if b then tell (root_of p.path) (has_record p) ((act, ending.Commit) ∷ []) n else tell (root_of p.path) false ((act, ending.Abort) ∷ []) n) ∷ map (decided_told (root_of p.path) act p) ns) (λ c L. ⊤) c N
+      by true ih = λ more quiet. ih c _
+      by false ih = λ more quiet. ih c _
+
+  rest_stops : (c : Disk) → Walks Open e k Rest (λ c L. ⊤) c M
+  rest_stops c = by (doing_of act t.coord)
+    where
+      by : (o : Option Doing) → Walks Open e k (say_for body.Committed o ++ map (decided_told (root_of p.path) act p) p.sent) (λ c L. ⊤) c M
+      by None = tolds_stops p.sent c M
+      by (Some r) = tolds_stops p.sent c _
+
+  pub decision_open : Walks Open e k ((if has_record p then Do (PutIntent act i0) ∷ [] else []) ++ Rest) (λ c L. ⊤) d M
+  decision_open = by (has_record p)
+    where
+      by : (b : Bool) → Walks Open e k ((if b then Do (PutIntent act i0) ∷ [] else []) ++ Rest) (λ c L. ⊤) d M
+      by true = (record_stops, rest_stops d1)
+      by false = rest_stops d
+
 -- the plan that naming has confirmed
 abbrev sure : commit.Plan → commit.Plan
 sure p = record p { confirmed = true }
@@ -337,3 +375,14 @@ confirmed_is_heard x tops e k d t from act p1 M waits top note W sees claims =
     (subst (λ es. Walks (IsSeenByDisks x tops) e k es (Up (IsSeenByDisks x tops) k (with_coord t (decided act (sure p1) t.coord))) d M)
     (sym (append_assoc (record_work act (sure p1)) (says act body.Committed t.coord) (map (decided_told (root_of p1.path) act (sure p1)) p1.sent)))
     (decides_walk x tops e k d t act p1 M waits top note W sees claims))
+
+-- who is decided as naming's Yes is heard was so before, where a stop falls
+pub confirmed_stops : (x : ℕ) (tops : Kinds) (e k : ℕ) (d : Disk) (t : Parts) (from : ℕ) (act : Uid) (p : commit.Plan) (M : Seen)
+    → WaitsForNaming t d.intents act p → tops.is_top (uid_number act) ≡ true → may_note tops.walk (Decides (uid_number act)) ≡ true → (W : World) → SeesDisks x tops W (up k d t M) → ClaimsReply x W from act (Reply.Confirmed confirmed.Yes)
+    → let did = moved_commit act (commit.answered from (Confirming p) (Reply.Confirmed confirmed.Yes)) d.intents t.coord in Walks (λ N. (V : World) × (V.disk.tops ≡ W.disk.tops) × SeesDisks x tops V N) e k did.outs (λ c L. ⊤) d M
+confirmed_stops x tops e k d t from act p1 M waits top note W sees claims =
+    subst (λ a. Walks (λ N. (V : World) × (V.disk.tops ≡ W.disk.tops) × SeesDisks x tops V N) e k ((record_work a (sure p1) ++ says a body.Committed t.coord) ++ map (decided_told (root_of p1.path) a (sure p1)) p1.sent) (λ c L. ⊤) d M)
+    (sym waits.path)
+    (subst (λ es. Walks (λ N. (V : World) × (V.disk.tops ≡ W.disk.tops) × SeesDisks x tops V N) e k es (λ c L. ⊤) d M)
+    (sym (append_assoc (record_work act (sure p1)) (says act body.Committed t.coord) (map (decided_told (root_of p1.path) act (sure p1)) p1.sent)))
+    (decision_open x tops e k d t act p1 M waits top note W sees claims))

@@ -248,5 +248,10 @@ pub stops_seen : (x : ℕ) (tops : Kinds) (e k : ℕ) (d : Disk) (live : Option 
 stops_seen x tops e k d None M (W, s) = (W, says_seen x tops W (down k d M) (numbered e (body.Halted k ∷ [])) s)
 stops_seen x tops e k d (Some t) M (W, s) = (Halted (owns t.coord) W, says_seen x tops (Halted (owns t.coord) W) (down k d M) (numbered e (body.Halted k ∷ [])) (stop_seen x k tops W M d t s))
 
+-- and nobody is newly decided
+pub stops_open : (x : ℕ) (tops : Kinds) (e k : ℕ) (d : Disk) (live : Option Parts) (M : Seen) (W : World) → SeesDisks x tops W (at k d live M) → (V : World) × (V.disk.tops ≡ W.disk.tops) × SeesDisks x tops V (halted e k d M)
+stops_open x tops e k d None M W s = (W, refl, says_seen x tops W (down k d M) (numbered e (body.Halted k ∷ [])) s)
+stops_open x tops e k d (Some t) M W s = (Halted (owns t.coord) W, ap (λ (S : State). S.tops) (rest_same W (owns t.coord)), says_seen x tops (Halted (owns t.coord) W) (down k d M) (numbered e (body.Halted k ∷ [])) (stop_seen x k tops W M d t s))
+
 pub lines_seen : (x : ℕ) (tops : Kinds) (e : ℕ) (bs : List Body) (M : Seen) → IsSeenByDisks x tops M → IsSeenByDisks x tops (said e bs M)
 lines_seen x tops e bs M (W, s) = (W, says_seen x tops W M (numbered e bs) s)

@@ -1,22 +1,24 @@
 -- A node that restarts, walked through.
 use Rattle.std.proofs.Common.{◌≡◌, ◌≢◌, ◌⊎◌, ◌<◌, ℕ, zero, suc, ◌+◌, ◌==◌, ◌&&◌, ◌||◌, List, [], ◌∷◌, ◌++◌, Bool, true, false, Option, Some, None, refl, sym, ◌∙◌, ap, subst, inl, inr, ⊎_elim, map, lt_trans, arith, append-nil}
-use Rattle.std.specs.Prelude.{if◌then◌else◌, is_some}
+use Rattle.std.specs.Prelude.{⊤, if◌then◌else◌, is_some}
 use Rattle.std.specs.declared.cmp.Ordering.TheVariants.{Less, Equal}
 use Rattle.std.specs.List.{AllByRecursion}
 use Rattle.std.proofs.lemmas.List.{append_assoc}
 use Rattle.arj_base.proofs.Uids.{uid_cases, uid_other}
 use Rattle.arj_protocol.specs.Words.{Uid, Row, Header, uid_order, is_on, last_uid}
 use Rattle.arj_protocol.specs.Words.body
+use Rattle.arj_protocol.specs.Words.ending
 use Rattle.arj_protocol.specs.Words.message
 use Rattle.arj_protocol.specs.Confirm.{recovered_naming, back_lines}
 use Rattle.arj_protocol.specs.Coord.{Doing, new_coord, doing_of}
 use Rattle.arj_protocol.specs.Effect.{Disk, Effect, Say, Send, Do, Look, PutInc, Intent, Before, After, InPart}
+use Rattle.arj_protocol.specs.Ending.{tell, tell_all}
 use Rattle.arj_protocol.specs.Named.{Named}
 use Rattle.arj_protocol.specs.Naming.{Naming}
 use Rattle.arj_protocol.specs.Node.{Parts, query_about, prepared_actions}
 use Rattle.arj_protocol.specs.Order.{at_uid, uid_number, uid_set, without_number}
 use Rattle.arj_protocol.specs.Says.{AreAll}
-use Rattle.arj_protocol.specs.Step.{Node, parts_in, naming_at, naming_back, recovered_records, tolds_again, hello_to, numbers_to}
+use Rattle.arj_protocol.specs.Step.{Node, parts_in, naming_at, naming_back, recovered_records, restart_outs, tolds_again, hello_to, numbers_to}
 use Rattle.arj_protocol.specs.Tree.{Branch, branch_of, is_own, at_place}
 use Rattle.arj_protocol.specs.World.{numbered}
 use Rattle.arj_protocol.proofs.PartSays.{all_both, all_flat}
@@ -27,7 +29,7 @@ use Rattle.arj_disk_law.specs.State.{State, is_gone, is_sealed}
 use Rattle.arj_disk_law.proofs.Base.{never, put_same, put_other, test_same, bool_cases}
 use Rattle.arj_disk_law.proofs.Keeps.{effect_keeps}
 use Rattle.arj_view_law.specs.Seen.{Post, Seen, up, down, said, posted}
-use Rattle.arj_view_law.specs.Walks.{Walks, Stops, Up}
+use Rattle.arj_view_law.specs.Walks.{Walks, Stops, Up, halted}
 use Rattle.arj_disk_view_law.specs.Coordinating.{RestartsAreWalked}
 use Rattle.arj_disk_view_law.specs.Deciding.{SeesRecords, Stills, nodes_of}
 use Rattle.arj_disk_view_law.specs.Pairs.{AreAbove, AreSorted}
@@ -36,7 +38,7 @@ use Rattle.arj_disk_view_law.specs.Stores.{SeesStore}
 use Rattle.arj_disk_view_law.specs.Sees.{may_note, Kinds, IsLater, SeesDisks, SeesCoord, SeesNotes, SeesDown, SeesConfirmed, IsSeenByDisks, is_awaited_by}
 use Rattle.arj_disk_view_law.proofs.DecidingSteps.{decision_is_made, stores_stay_calm, entry_stays_calm}
 use Rattle.arj_disk_view_law.proofs.Frames.{nodes_to, node_here, works_same, claim_here, says_seen, posts_seen}
-use Rattle.arj_disk_view_law.proofs.Halts.{stops_seen}
+use Rattle.arj_disk_view_law.proofs.Halts.{stops_open, stops_seen}
 use Rattle.arj_disk_view_law.proofs.HeardWalks.{is_say}
 use Rattle.arj_disk_view_law.proofs.Keys as keys
 use Rattle.arj_disk_view_law.proofs.Later.{effects_are_later, later_same, later_on}
@@ -384,6 +386,77 @@ module _ (x : ℕ) (tops : Kinds) (e k : ℕ) (hd : Header) (d : Disk) (M : Seen
       ),
     ),
   )
+
+-- ---- where a stop falls
+
+-- no work on the disk
+abbrev is_said_or_sent : Effect → Bool
+is_said_or_sent (Do w) = false
+is_said_or_sent (Say b) = true
+is_said_or_sent (Send to m) = true
+
+unstopped : (P : Seen → Type 0) (e k : ℕ) (es : List Effect) → AreAll is_said_or_sent es → (c : Disk) (N : Seen) → Walks P e k es (λ c L. ⊤) c N
+unstopped P e k [] all c N = tt
+unstopped P e k (Say b ∷ es) all c N = unstopped P e k es all c (said e (b ∷ []) N)
+unstopped P e k (Send to m ∷ es) all c N = λ more quiet. unstopped P e k es all c (said e more (posted (record { from = k; to = to; message = m }) N))
+unstopped P e k (Do w ∷ es) all c N = absurd (cc all)
+
+map_unstopped : {A : Type 0} (f : A → Effect) (xs : List A) → ((a : A) → is_said_or_sent (f a) ≡ true) → AreAll is_said_or_sent (map f xs)
+map_unstopped f [] each = refl
+map_unstopped f (a ∷ more) each = all_both is_said_or_sent (f a ∷ []) (map f more) (ap (λ b. b && true) (each a)) (map_unstopped f more each)
+
+module _ (x : ℕ) (tops : Kinds) (e k : ℕ) (hd : Header) (d : Disk) (M : Seen) (W : World) where
+  -- who is decided was so before
+  abbrev Open : Seen → Type 0
+  Open N = (V : World) × (V.disk.tops ≡ W.disk.tops) × SeesDisks x tops V N
+
+  open_down : (N : Seen) → SeesDisks x tops W (down k d N) → Open (halted e k d N)
+  open_down N s = stops_open x tops e k d None N W s
+
+  open_risen : (N : Seen) → SeesDisks x tops W (down k d N) → Open (halted e k (record d { inc = d.inc + 1 }) N)
+  open_risen N s = stops_open x tops e k (record d { inc = d.inc + 1 }) None N W (raised x k tops N d W s)
+
+  look_down : (N : Seen) → SeesDisks x tops W (down k d N) → Stops Open e k Look d N
+  look_down N s Before = open_down N s
+  look_down N s After = open_down N s
+  look_down N s (InPart which) = open_down N s
+
+  look_risen : (N : Seen) → SeesDisks x tops W (down k d N) → Stops Open e k Look (record d { inc = d.inc + 1 }) N
+  look_risen N s Before = open_risen N s
+  look_risen N s After = open_risen N s
+  look_risen N s (InPart which) = open_risen N s
+
+  rise : (N : Seen) → SeesDisks x tops W (down k d N) → Stops Open e k (PutInc (d.inc + 1)) d N
+  rise N s Before = open_down N s
+  rise N s After = open_risen N s
+  rise N s (InPart which) = open_down N s
+
+  says_on : (outs rest : List Effect) → AreAll is_say outs → ((N : Seen) → SeesDisks x tops W (down k d N) → Walks Open e k rest (λ c L. ⊤) (record d { inc = d.inc + 1 }) N) → (N : Seen) → SeesDisks x tops W (down k d N) → Walks Open e k (outs ++ rest) (λ c L. ⊤) (record d { inc = d.inc + 1 }) N
+  says_on [] rest own go N s = go N s
+  says_on (Say b ∷ es) rest own go N s = says_on es rest own go (said e (b ∷ []) N) (says_seen x tops W (down k d N) (numbered e (b ∷ [])) s)
+  says_on (Send to m ∷ es) rest own go N s = absurd (cc own)
+  says_on (Do w ∷ es) rest own go N s = absurd (cc own)
+
+  pub restarts_stop : SeesDisks x tops W (down k d M) → Walks Open e k (restart_outs hd k (d.inc + 1) d) (λ c L. ⊤) d M
+  restarts_stop s =
+      let hs : List Uid = uid_set (prepared_actions d.store ++ prepared_actions d.names) in
+      let back : List Effect = naming_back (naming_at k (d.inc + 1) d.names) in
+      let first : List Effect = Do Look ∷ Do (PutInc (d.inc + 1)) ∷ Say (body.Up k (d.inc + 1)) ∷ Do Look ∷ back in
+      let founds : List Effect = recovered_records k d.intents in
+      let next : List Effect = Do Look ∷ founds in
+      let tolds : List Effect = tolds_again d.intents in
+      let queries : List Effect = map query_about hs in
+      let hellos : List Effect = map (hello_to k (d.inc + 1)) (without_number k (numbers_to hd.nodes)) in
+      let rest : List Effect = tolds ++ (queries ++ hellos) in
+      let up_now : Seen = said e (body.Up k (d.inc + 1) ∷ []) M in
+      let up_seen = says_seen x tops W (down k d M) (numbered e (body.Up k (d.inc + 1) ∷ [])) s in
+      let unworked = all_both is_said_or_sent founds rest (map_unstopped (λ (z : Uid × Intent). Say (body.Recovered k z.0)) d.intents (λ z. refl))
+          (all_both is_said_or_sent tolds (queries ++ hellos) (all_flat is_said_or_sent (λ (z : Uid × Intent). tell_all z.1.root true ((z.0, ending.Commit) ∷ []) z.1.nodes) d.intents (λ z. map_unstopped (λ n. tell z.1.root true ((z.0, ending.Commit) ∷ []) n) z.1.nodes (λ n. refl)))
+          (all_both is_said_or_sent queries hellos (map_unstopped query_about hs (λ u. refl)) (map_unstopped (hello_to k (d.inc + 1)) (without_number k (numbers_to hd.nodes)) (λ n. refl)))) in
+      subst (λ es. Walks Open e k es (λ c L. ⊤) d M)
+      (sym (append_assoc ((first ++ next) ++ tolds) queries hellos ∙ append_assoc (first ++ next) tolds (queries ++ hellos) ∙ append_assoc first next (tolds ++ (queries ++ hellos))))
+      (look_down M s, (rise M s, (look_risen up_now up_seen, says_on back (next ++ rest) (back_says (naming_at k (d.inc + 1) d.names))
+          (λ N seen. (look_risen N seen, unstopped Open e k (founds ++ rest) unworked (record d { inc = d.inc + 1 }) N)) up_now up_seen)))
 
 pub restarts_are_walked : RestartsAreWalked
 restarts_are_walked x tops e k hd d M begun noted W sees =

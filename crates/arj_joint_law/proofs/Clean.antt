@@ -15,6 +15,7 @@ use Rattle.arj_line_law.specs.Knows.{IsKept}
 use Rattle.arj_line_law.proofs.Runs.{lines_keep, run_written}
 use Rattle.arj_disk_law.specs.Order.{counts_of}
 use Rattle.arj_disk_law.specs.State.{Done, Packed, decided as decided_so, decided_in, target}
+use Rattle.arj_disk_law.specs.State as disk_state
 use Rattle.arj_disk_law.specs.Words as disk
 use Rattle.arj_disk_law.proofs.Listing.{filter_none}
 use Rattle.arj_disk_line_law.specs.Said.{IsJournalled}
@@ -32,7 +33,7 @@ use Rattle.arj_view_law.proofs.Happens.{runs_hold}
 use Rattle.arj_binding_law.specs.Scripts.{most_events}
 use Rattle.arj_disk_run_law.specs.Rest.{KeepsHeard}
 use Rattle.arj_serial_law.specs.Cleaned.{AreDecidedOrLate, HaveForm, IsCleanIn}
-use Rattle.arj_serial_law.specs.Decided.{AreDecisions, AreNewestFirst, DecideChanges, Joined, Wrote, WroteSo}
+use Rattle.arj_serial_law.specs.Decided.{AreDecided, AreDecisions, AreNewestFirst, DecideChanges, Joined, Wrote, WroteSo}
 use Rattle.arj_lock_fact_law.specs.Entries.{HasObject}
 use Rattle.arj_lock_whole_law.proofs.WholeRuns.{runs_call_objects, runs_include_objects}
 use Rattle.arj_part_law.specs.Actions.{Action}
@@ -41,7 +42,7 @@ use Rattle.arj_serial_law.proofs.Cleaning.{is_clean}
 use Rattle.arj_serial_law.proofs.Including.{are_decided}
 use Rattle.arj_serial_law.proofs.Shown.{files_clean}
 use Rattle.arj_serial_law.proofs.Ties.{Ties, ties_of}
-use Rattle.arj_joint_law.specs.Cleaned.{AreLockTied, AreNamed, DecideSo, DecideThose, DecideThoseOrLate, RunsAreClean, WholeRunsAreClean, disk_of, is_one_of, number_of}
+use Rattle.arj_joint_law.specs.Cleaned.{AreLockTied, AreNamed, DecideSo, OthersAreIdle, RunsAreClean, WholeRunsAreClean, disk_of, is_one_of, number_of}
 use Rattle.arj_disk_run_law.specs.Decided.{AreOnce}
 use Rattle.arj_joint_law.specs.Includers.{IncludersTakeTurns, JoinersAreNewestFirst, TakesTurnsSo}
 use Rattle.arj_joint_law.specs.Ordered.{AreTurnsOf, IsOrderedSo}
@@ -52,30 +53,17 @@ use Rattle.arj_joint_law.proofs.FormRuns.{runs_have_form}
 use Rattle.arj_joint_law.proofs.IdlePlaces.{added, all_idle, all_those, none_among}
 use Rattle.arj_joint_law.specs.Joined.{AreBareSo, AreRestBeside, AreWritten, IsJoinedSo, JoinedRunsAreSerial, KeepsHeardJoined}
 use Rattle.arj_joint_law.proofs.JoinedRuns.{runs_are_joined}
-use Rattle.arj_joint_law.proofs.JoinOrder.{decided_joiners_stand, includers_behind}
+use Rattle.arj_joint_law.proofs.JoinOrder.{decided_joiners_stand}
+use Rattle.arj_joint_law.proofs.Naming.{decided_named}
 use Rattle.arj_joint_law.proofs.OrderedRuns.{runs_take_turns}
 use Rattle.arj_joint_law.proofs.Showing.{files_show_disks}
 use Rattle.arj_lock_law.specs.State.{State}
 use Rattle.arj_serial_law.specs.Seen.{IsSerialRun}
 use Rattle.arj_serial_law.specs.Tied.{IsTied}
 
--- those behind the newest ones had their turns too
-turns_behind : (lines : List Line) (late others : List Done) → AreTurnsOf lines (late ++ others) → AreTurnsOf lines others
-turns_behind lines [] others turns = turns
-turns_behind lines (d ∷ late) others turns = turns_behind lines late others turns.1
-
-once_behind : (late others : List Done) → AreOnce (late ++ others) → AreOnce others
-once_behind [] others once = once
-once_behind (d ∷ late) others once = once_behind late others once.1
-
 decided_out : (ds : List Done) (t : ℕ) → decided_in ds t ≡ true → (d : Done) × disk.In d ds × (d.top ≡ t)
 decided_out [] t on = absurd (cc on)
 decided_out (e ∷ ds) t on = ⊎_elim (λ here. (e, inl refl, eqb-true e.top t here)) (λ there. let r = decided_out ds t there in (r.0, inr r.1, r.2)) (or_which (e.top == t) (decided_in ds t) on)
-
-in_either : (d : Done) (xs ys : List Done) → disk.In d (xs ++ ys) → disk.In d xs ⊎ disk.In d ys
-in_either d [] ys i = inr i
-in_either d (x ∷ xs) ys (inl same) = inl (inl same)
-in_either d (x ∷ xs) ys (inr i) = ⊎_elim (λ a. inl (inr a)) (λ b. inr b) (in_either d xs ys i)
 
 counted_in : (d : Done) (ds : List Done) → disk.In d ds → d.counts ≡ true → disk.In d (filter counts_of ds)
 counted_in d [] i is = absurd i
@@ -147,15 +135,6 @@ counts_in d (e ∷ ds) i = by e.counts refl (counts_in d ds) i
     by true is ih (inr k) = ih k
     by false is ih k = ih k
 
-in_behind : (d : Done) (xs ys : List Done) → disk.In d ys → disk.In d (xs ++ ys)
-in_behind d [] ys i = i
-in_behind d (x ∷ xs) ys i = inr (in_behind d xs ys i)
-
-in_before : (d : Done) (xs ys : List Done) → disk.In d xs → disk.In d (xs ++ ys)
-in_before d [] ys i = absurd i
-in_before d (x ∷ xs) ys (inl same) = inl same
-in_before d (x ∷ xs) ys (inr i) = inr (in_before d xs ys i)
-
 -- what they take out of the list is what their commits excluded
 abbrev Leave : List Line → ℕ → List Done → Type 0
 Leave lines x ds = (d : Done) (t : Top) → disk.In d ds → Contains (tops lines) t → d.top ≡ number_of lines t → (s : ℕ) → (target d.plan s && not (d.got s)) ≡ is_among (leaves_of lines t.id x) s
@@ -184,7 +163,12 @@ ordered_of hd es x h = record { sent = h.sent; stands = h.stands; holds = (let o
 
 -- in which they are named, and wrote what they gave
 abbrev pub Decides : (hd : Header) (es : List Asked) → Held hd es → Type 0
-Decides hd es held = (x : ℕ) (there : is_some (object_line hd x) ≡ true) → (d : DecideThoseOrLate hd (journal hd es) x (disk_of (let h = ordered_of hd es x (held x there) in h.holds))) × AreWritten (first_values hd) (journal hd es) x d.others × AreBareSo (journal hd es) x (disk_of (let h = ordered_of hd es x (held x there) in h.holds))
+Decides hd es held = (x : ℕ) (there : is_some (object_line hd x) ≡ true) → OthersAreIdle hd (journal hd es) x (disk_of (let h = ordered_of hd es x (held x there) in h.holds)) × AreWritten (first_values hd) (journal hd es) x (let S = disk_of (let h = ordered_of hd es x (held x there) in h.holds) in S.tops)
+    × AreBareSo (journal hd es) x (disk_of (let h = ordered_of hd es x (held x there) in h.holds))
+
+-- none is late
+abbrev pub none_late : (hd : Header) (lines : List Line) (x : ℕ) (S : disk_state.State) → AreDecided hd lines x S.tops → AreDecidedOrLate hd lines x S
+none_late hd lines x S d = record { late = []; others = S.tops; are = refl; decided = d; unmoved = λ e w s i. absurd i; unlisted = λ free. refl }
 
 module _ (hd : Header) (es : List Asked) (form : HeaderInForm hd) (tied : AreLockTied hd (journal hd es)) (held : Held hd es) (decide : Decides hd es held) where
   abbrev w : World
@@ -200,27 +184,31 @@ module _ (hd : Header) (es : List Asked) (form : HeaderInForm hd) (tied : AreLoc
     abbrev h : OrderedOf hd es x
     h = ordered_of hd es x (held x there)
 
-    abbrev d : DecideThoseOrLate hd (journal hd es) x (disk_of h.holds)
-    d = (decide x there).0
+    abbrev dones : List Done
+    dones = (let S = disk_of h.holds in S.tops)
 
-    written : AreWritten (first_values hd) (journal hd es) x d.others
+    written : AreWritten (first_values hd) (journal hd es) x dones
     written = (decide x there).1
 
-    turns : AreTurnsOf (journal hd es) d.others
-    turns = turns_behind (journal hd es) d.late d.others (subst (AreTurnsOf (journal hd es)) d.are (let o = h.holds in o.turns))
+    turns : AreTurnsOf (journal hd es) dones
+    turns = let o = h.holds in o.turns
 
-    includers : IncludersTakeTurns (journal hd es) d.others
-    includers = includers_behind (journal hd es) d.late d.others (subst (IncludersTakeTurns (journal hd es)) d.are (let k = held x there in let o = k.holds in o.includers))
+    includers : IncludersTakeTurns (journal hd es) dones
+    includers = let k = held x there in let o = k.holds in o.includers
 
-    its : DecideThose hd (journal hd es) x (disk_of h.holds) d.others
-    its = d.decide
+    -- those that count, in the journal
+    named : (ts : List Top) × AreNamed (journal hd es) (filter counts_of dones) ts
+    named = decided_named hd es x h
 
-    leave : Leave (journal hd es) x (filter counts_of d.others)
+    abbrev those : List Top
+    those = named.0
+
+    leave : Leave (journal hd es) x (filter counts_of dones)
     leave e t i listed number s =
         let k = top_item (journal hd es) right t (in_from t (tops (journal hd es)) listed) in
         let z = tied.listed x there in
         let o = h.holds in
-        o.leaves e k.act (subst (disk.In e) (sym d.are) (in_behind e d.late d.others (of_filter e d.others i))) (in_to k.act (acts (journal hd es)) k.there) (sym (number ∙ number_is (first_values hd) (journal hd es) x z.0 right z.1 t k)) s
+        o.leaves e k.act (of_filter e dones i) (in_to k.act (acts (journal hd es)) k.there) (sym (number ∙ number_is (first_values hd) (journal hd es) x z.0 right z.1 t k)) s
         ∙ ap (λ n. is_among (leaves_of (journal hd es) n x) s) k.number
 
     -- what a decided top adds to the list
@@ -232,26 +220,23 @@ module _ (hd : Header) (es : List Asked) (form : HeaderInForm hd) (tied : AreLoc
         o.joins e k.act i (in_to k.act (acts (journal hd es)) k.there) (sym (number ∙ number_is (first_values hd) (journal hd es) x z.0 right z.1 t k))
         ∙ ap (λ n. increasing (filter (λ s. not (is_among (leaves_of (journal hd es) n x) s)) (joins_of (journal hd es) n x))) k.number
 
-    join : Join (journal hd es) x (filter counts_of d.others)
-    join e t i listed number = joins_so e t (subst (disk.In e) (sym d.are) (in_behind e d.late d.others (of_filter e d.others i))) listed number
+    join : Join (journal hd es) x (filter counts_of dones)
+    join e t i listed number = joins_so e t (of_filter e dones i) listed number
 
-    decisions : AreDecisions (first_values hd) (journal hd es) x (filter counts_of d.others) its.those
-    decisions = are_decisions (first_values hd) (journal hd es) x (filter counts_of d.others) its.those its.each (λ e t i. written e t (of_filter e d.others i)) leave join
+    decisions : AreDecisions (first_values hd) (journal hd es) x (filter counts_of dones) those
+    decisions = are_decisions (first_values hd) (journal hd es) x (filter counts_of dones) those named.1 (λ e t i. written e t (of_filter e dones i)) leave join
 
     -- its number in the disk machine is that of its action
     its_number : (t : Top) (i : In t (tops (journal hd es))) → number_of (journal hd es) t ≡ uid_number (let k = top_item (journal hd es) right t i in let a = k.act in a.uid)
     its_number t i = let z = tied.listed x there in number_is (first_values hd) (journal hd es) x z.0 right z.1 t (top_item (journal hd es) right t i)
 
     -- a top of the journal is one of them, late, or one that doesn't count; its commit ended without a record, or nothing of it survives
-    place : (t : Top) (i : In t (tops (journal hd es))) → In t its.those ⊎ ((e : Done) × disk.In e d.late × (e.top ≡ number_of (journal hd es) t)) ⊎ ((e : Done) × disk.In e d.others × (e.top ≡ number_of (journal hd es) t) × (e.counts ≡ false))
+    place : (t : Top) (i : In t (tops (journal hd es))) → In t those ⊎ ((e : Done) × disk.In e dones × (e.top ≡ number_of (journal hd es) t) × (e.counts ≡ false))
         ⊎ ((let S = disk_of h.holds in S.bare (number_of (journal hd es) t)) ≡ true) ⊎ HasNothing (journal hd es) (let k = top_item (journal hd es) right t i in k.act)
     place t i = ⊎_elim
         (λ (on : decided_so (disk_of h.holds) (uid_number (let a = k.act in a.uid)) ≡ true).
-        let r = decided_out (let S = disk_of h.holds in S.tops) (uid_number (let a = k.act in a.uid)) on in
-        ⊎_elim
-        (λ (early : disk.In r.0 d.late). inr (inl (r.0, early, r.2 ∙ sym (its_number t i))))
-        (λ (other : disk.In r.0 d.others). counts r.0 other r.2 (let e = r.0 in e.counts) refl)
-        (in_either r.0 d.late d.others (subst (disk.In r.0) d.are r.1)))
+        let r = decided_out dones (uid_number (let a = k.act in a.uid)) on in
+        counts r.0 r.1 r.2 (let e = r.0 in e.counts) refl)
         (λ (rest : ((let S = disk_of h.holds in S.bare (uid_number (let a = k.act in a.uid))) ≡ true) ⊎ HasNothing (journal hd es) k.act). bare_or rest)
         (journalled.done k.act (in_to k.act (acts (journal hd es)) k.there) k.kind k.done)
       where
@@ -262,44 +247,43 @@ module _ (hd : Header) (es : List Asked) (form : HeaderInForm hd) (tied : AreLoc
         journalled = let b = (let o = h.holds in o.begun) in b.journalled
 
         bare_or : ((let S = disk_of h.holds in S.bare (uid_number (let a = k.act in a.uid))) ≡ true) ⊎ HasNothing (journal hd es) k.act
-            → In t its.those ⊎ ((e : Done) × disk.In e d.late × (e.top ≡ number_of (journal hd es) t)) ⊎ ((e : Done) × disk.In e d.others × (e.top ≡ number_of (journal hd es) t) × (e.counts ≡ false))
+            → In t those ⊎ ((e : Done) × disk.In e dones × (e.top ≡ number_of (journal hd es) t) × (e.counts ≡ false))
             ⊎ ((let S = disk_of h.holds in S.bare (number_of (journal hd es) t)) ≡ true) ⊎ HasNothing (journal hd es) k.act
-        bare_or (inl bare) = inr (inr (inr (inl (ap (λ (n : ℕ). let S = disk_of h.holds in S.bare n) (its_number t i) ∙ bare))))
-        bare_or (inr none) = inr (inr (inr (inr none)))
+        bare_or (inl bare) = inr (inr (inl (ap (λ (n : ℕ). let S = disk_of h.holds in S.bare n) (its_number t i) ∙ bare)))
+        bare_or (inr none) = inr (inr (inr none))
 
-        counts : (e : Done) → disk.In e d.others → e.top ≡ uid_number (let a = k.act in a.uid) → (b : Bool) → e.counts ≡ b
-            → In t its.those ⊎ ((e : Done) × disk.In e d.late × (e.top ≡ number_of (journal hd es) t)) ⊎ ((e : Done) × disk.In e d.others × (e.top ≡ number_of (journal hd es) t) × (e.counts ≡ false))
+        counts : (e : Done) → disk.In e dones → e.top ≡ uid_number (let a = k.act in a.uid) → (b : Bool) → e.counts ≡ b
+            → In t those ⊎ ((e : Done) × disk.In e dones × (e.top ≡ number_of (journal hd es) t) × (e.counts ≡ false))
             ⊎ ((let S = disk_of h.holds in S.bare (number_of (journal hd es) t)) ≡ true) ⊎ HasNothing (journal hd es) k.act
         counts e j same true is =
             let z = tied.listed x there in
-            let r = those_of (first_values hd) (journal hd es) x z.0 right z.1 (filter counts_of d.others) its.those decisions e (counted_in e d.others j is) in
+            let r = those_of (first_values hd) (journal hd es) x z.0 right z.1 (filter counts_of dones) those decisions e (counted_in e dones j is) in
             let o = r.2 in
             let m = o.its in
             let uids = number_tells m.act.uid k.act.uid (sym o.number ∙ same) in
             let act = one_act (acts (journal hd es)) (let q = its_sound (journal hd es) right in q.distinct) m.act k.act m.there k.there uids in
-            inl (subst (λ u. In u its.those) (one_number (first_values hd) (journal hd es) x z.0 right z.1 r.0 t o.listed i (sym m.number ∙ ap (λ (y : Act). y.id) act ∙ k.number)) r.1)
-        counts e j same false is = inr (inr (inl (e, j, same ∙ sym (its_number t i), is)))
+            inl (subst (λ u. In u those) (one_number (first_values hd) (journal hd es) x z.0 right z.1 r.0 t o.listed i (sym m.number ∙ ap (λ (y : Act). y.id) act ∙ k.number)) r.1)
+        counts e j same false is = inr (inl (e, j, same ∙ sym (its_number t i), is))
 
     -- each that wrote the object is one of them
-    wrote_all : (t : Top) → In t (tops (journal hd es)) → Wrote (journal hd es) x t → In t its.those
+    wrote_all : (t : Top) → In t (tops (journal hd es)) → Wrote (journal hd es) x t → In t those
     wrote_all t i wrote = by (place t i)
       where
         k : IsTopOf (journal hd es) t
         k = top_item (journal hd es) right t i
 
-        by : In t its.those ⊎ ((e : Done) × disk.In e d.late × (e.top ≡ number_of (journal hd es) t)) ⊎ ((e : Done) × disk.In e d.others × (e.top ≡ number_of (journal hd es) t) × (e.counts ≡ false))
-            ⊎ ((let S = disk_of h.holds in S.bare (number_of (journal hd es) t)) ≡ true) ⊎ HasNothing (journal hd es) k.act → In t its.those
+        by : In t those ⊎ ((e : Done) × disk.In e dones × (e.top ≡ number_of (journal hd es) t) × (e.counts ≡ false))
+            ⊎ ((let S = disk_of h.holds in S.bare (number_of (journal hd es) t)) ≡ true) ⊎ HasNothing (journal hd es) k.act → In t those
         by (inl one) = one
-        by (inr (inl (e, early, same))) = absurd ((d.silent e t early (in_to t (tops (journal hd es)) i) same).0 wrote)
-        by (inr (inr (inl (e, j, same, is)))) =
+        by (inr (inl (e, j, same, is))) =
             let b = (let o = h.holds in o.begun) in
             let g = b.journalled in
             let core = (let v = g.sees.whole in v.core) in
-            let nothing = (let z = core.journal in z.plain e (subst (disk.In e) (sym d.are) (in_behind e d.late d.others j)) is) in
+            let nothing = (let z = core.journal in z.plain e j is) in
             let none = subst (WroteSo (first_values hd) (journal hd es) x t) nothing (written e t j (in_to t (tops (journal hd es)) i) same) in
             absurd (never wrote.2 (none wrote.0 wrote.1 wrote.3))
-        by (inr (inr (inr (inl bare)))) = absurd (let d3 = decide x there in d3.2 t (in_to t (tops (journal hd es)) i) bare wrote)
-        by (inr (inr (inr (inr none)))) = absurd (wrote_something (journal hd es) x t k.act k.number wrote none)
+        by (inr (inr (inl bare))) = absurd (let d3 = decide x there in d3.2 t (in_to t (tops (journal hd es)) i) bare wrote)
+        by (inr (inr (inr none))) = absurd (wrote_something (journal hd es) x t k.act k.number wrote none)
 
     -- one whose commit ended without a record touched nothing
     spared_by : (t : Top) (i : In t (tops (journal hd es))) → (let S = disk_of h.holds in S.bare (number_of (journal hd es) t)) ≡ true → (s : ℕ)
@@ -307,7 +291,7 @@ module _ (hd : Header) (es : List Asked) (form : HeaderInForm hd) (tied : AreLoc
     spared_by t i bare s = let k = top_item (journal hd es) right t i in let o = h.holds in o.untouched k.act (in_to k.act (acts (journal hd es)) k.there) (sym (ap (λ (n : ℕ). let S = disk_of h.holds in S.bare n) (its_number t i)) ∙ bare) s
 
     -- each of the others adds no store
-    adds_none : (t : Top) → In t (tops (journal hd es)) → is_one_of its.those t ≡ false → added (journal hd es) x t ≡ []
+    adds_none : (t : Top) → In t (tops (journal hd es)) → is_one_of those t ≡ false → added (journal hd es) x t ≡ []
     adds_none t i off = by (place t i)
       where
         k : IsTopOf (journal hd es) t
@@ -316,68 +300,59 @@ module _ (hd : Header) (es : List Asked) (form : HeaderInForm hd) (tied : AreLoc
         empty : joins_of (journal hd es) (let a = k.act in a.id) x ≡ [] → added (journal hd es) x t ≡ []
         empty is = ap (λ ns. increasing (filter (λ s. not (is_among (leaves_of (journal hd es) t.id x) s)) ns)) (ap (λ n. joins_of (journal hd es) n x) (sym k.number) ∙ is)
 
-        by : In t its.those ⊎ ((e : Done) × disk.In e d.late × (e.top ≡ number_of (journal hd es) t)) ⊎ ((e : Done) × disk.In e d.others × (e.top ≡ number_of (journal hd es) t) × (e.counts ≡ false))
+        by : In t those ⊎ ((e : Done) × disk.In e dones × (e.top ≡ number_of (journal hd es) t) × (e.counts ≡ false))
             ⊎ ((let S = disk_of h.holds in S.bare (number_of (journal hd es) t)) ≡ true) ⊎ HasNothing (journal hd es) k.act → added (journal hd es) x t ≡ []
-        by (inl one) = absurd (never (is_there t its.those one) off)
-        by (inr (inl (e, early, same))) = sym (joins_so e t (subst (disk.In e) (sym d.are) (in_before e d.late d.others early)) (in_to t (tops (journal hd es)) i) same) ∙ (d.silent e t early (in_to t (tops (journal hd es)) i) same).1
-        by (inr (inr (inl (e, j, same, is)))) =
+        by (inl one) = absurd (never (is_there t those one) off)
+        by (inr (inl (e, j, same, is))) =
             let o = h.holds in
-            let m = subst (disk.In e) (sym d.are) (in_behind e d.late d.others j) in
-            sym (joins_so e t m (in_to t (tops (journal hd es)) i) same) ∙ filter_none e.got (let p = e.plan in p.joins) (λ s on. o.still e m is s)
-        by (inr (inr (inr (inl bare)))) = empty (none_among (joins_of (journal hd es) (let a = k.act in a.id) x) (λ s. (spared_by t i bare s).1))
-        by (inr (inr (inr (inr none)))) = empty (none.includes x)
+            sym (joins_so e t j (in_to t (tops (journal hd es)) i) same) ∙ filter_none e.got (let p = e.plan in p.joins) (λ s on. o.still e j is s)
+        by (inr (inr (inl bare))) = empty (none_among (joins_of (journal hd es) (let a = k.act in a.id) x) (λ s. (spared_by t i bare s).1))
+        by (inr (inr (inr none))) = empty (none.includes x)
 
-    idle : IdleInPlace (journal hd es) x (is_one_of its.those) (first_stores hd x) (serial_tops (journal hd es))
-    idle = all_idle (journal hd es) x (is_one_of its.those) (λ t. let S = disk_of h.holds in S.bare (number_of (journal hd es) t)) adds_none
-        (λ t i bare s. ap (λ n. is_among (leaves_of (journal hd es) n x) s) (sym (let k = top_item (journal hd es) right t i in k.number)) ∙ (spared_by t i bare s).0) (first_stores hd x) its.idle
+    idle : IdleInPlace (journal hd es) x (is_one_of those) (first_stores hd x) (serial_tops (journal hd es))
+    idle = all_idle (journal hd es) x (is_one_of those) (λ t. let S = disk_of h.holds in S.bare (number_of (journal hd es) t)) adds_none
+        (λ t i bare s. ap (λ n. is_among (leaves_of (journal hd es) n x) s) (sym (let k = top_item (journal hd es) right t i in k.number)) ∙ (spared_by t i bare s).0) (first_stores hd x) ((decide x there).0 those named.1)
 
-    all : (t : Top) → Contains (tops (journal hd es)) t → (is_one_of its.those t ≡ true) ⊎ Wrote (journal hd es) x t → Contains its.those t
+    all : (t : Top) → Contains (tops (journal hd es)) t → (is_one_of those t ≡ true) ⊎ Wrote (journal hd es) x t → Contains those t
     all t c (inl on) =
         let z = tied.listed x there in
-        let r = found_there t its.those on in
-        let e = decision_of (first_values hd) (journal hd es) x z.0 right z.1 (filter counts_of d.others) its.those decisions r.0 r.1 in
-        in_to t its.those (subst (λ u. In u its.those) (one_number (first_values hd) (journal hd es) x z.0 right z.1 r.0 t (let o = e.2 in o.listed) (in_from t (tops (journal hd es)) c) r.2) r.1)
-    all t c (inr wrote) = in_to t its.those (wrote_all t (in_from t (tops (journal hd es)) c) wrote)
+        let r = found_there t those on in
+        let e = decision_of (first_values hd) (journal hd es) x z.0 right z.1 (filter counts_of dones) those decisions r.0 r.1 in
+        in_to t those (subst (λ u. In u those) (one_number (first_values hd) (journal hd es) x z.0 right z.1 r.0 t (let o = e.2 in o.listed) (in_from t (tops (journal hd es)) c) r.2) r.1)
+    all t c (inr wrote) = in_to t those (wrote_all t (in_from t (tops (journal hd es)) c) wrote)
 
-    wrote_so : (t : Top) → Contains its.those t → Wrote (journal hd es) x t ⊎ (Wrote (journal hd es) x t → ⊥)
-    wrote_so t i = wrote_or_not (first_values hd) (journal hd es) x (filter counts_of d.others) its.those decisions t (in_from t its.those i)
+    wrote_so : (t : Top) → Contains those t → Wrote (journal hd es) x t ⊎ (Wrote (journal hd es) x t → ⊥)
+    wrote_so t i = wrote_or_not (first_values hd) (journal hd es) x (filter counts_of dones) those decisions t (in_from t those i)
 
     -- one that counts and didn't write the object included a store of it
-    joined_one : (t : Top) → Contains its.those t → (Wrote (journal hd es) x t → ⊥) → Joined (journal hd es) x t
+    joined_one : (t : Top) → Contains those t → (Wrote (journal hd es) x t → ⊥) → Joined (journal hd es) x t
     joined_one t i none =
         let z = tied.listed x there in
-        let e = decision_of (first_values hd) (journal hd es) x z.0 right z.1 (filter counts_of d.others) its.those decisions t (in_from t its.those i) in
+        let e = decision_of (first_values hd) (journal hd es) x z.0 right z.1 (filter counts_of dones) those decisions t (in_from t those i) in
         let q = e.2 in
         let k = q.its in
         let o = h.holds in
-        let gave = written e.0 t (of_filter e.0 d.others e.1) (in_to t (tops (journal hd es)) q.listed) (q.number ∙ sym (number_is (first_values hd) (journal hd es) x z.0 right z.1 t k)) in
-        let j = o.counted e.0 k.act (subst (disk.In e.0) (sym d.are) (in_behind e.0 d.late d.others (of_filter e.0 d.others e.1))) (in_to k.act (acts (journal hd es)) k.there) (sym q.number) (counts_in e.0 d.others e.1) (nothing (let p = (let f = e.0 in f.plan) in p.writes) gave) in
+        let gave = written e.0 t (of_filter e.0 dones e.1) (in_to t (tops (journal hd es)) q.listed) (q.number ∙ sym (number_is (first_values hd) (journal hd es) x z.0 right z.1 t k)) in
+        let j = o.counted e.0 k.act (of_filter e.0 dones e.1) (in_to k.act (acts (journal hd es)) k.there) (sym q.number) (counts_in e.0 dones e.1) (nothing (let p = (let f = e.0 in f.plan) in p.writes) gave) in
         (j.0, subst (λ n. Contains (joins_of (journal hd es) n x) j.0) k.number j.1)
       where
         nothing : (w : Option Packed) → WroteSo (first_values hd) (journal hd es) x t w → w ≡ None
         nothing None so = refl
         nothing (Some g) (c, last, writer, content) = absurd (none (c, last.there, last.write, last.whose))
 
-    changes : DecideChanges hd (journal hd es) x d.others
+    changes : DecideChanges hd (journal hd es) x dones
     changes = record {
-      those = its.those;
+      those = those;
       each = decisions;
-      called = newest_first (journal hd es) x its.those wrote_so (let t = tied.listed x there in decided_writers_stand (first_values hd) (journal hd es) x t.0 right t.1 d.others its.those turns decisions (once_behind d.late d.others (subst AreOnce d.are (let o = h.holds in o.once)))) (let t = tied.listed x there in decided_joiners_stand (first_values hd) (journal hd es) x t.0 right t.1 d.others its.those includers decisions joined_one);
-      counts = is_one_of its.those;
-      counted = λ t i. (is_there t its.those (in_from t its.those i), ⊎_elim (λ wrote. inl wrote) (λ none. inr (joined_one t i none)) (wrote_so t i));
+      called = newest_first (journal hd es) x those wrote_so (let t = tied.listed x there in decided_writers_stand (first_values hd) (journal hd es) x t.0 right t.1 dones those turns decisions (let o = h.holds in o.once)) (let t = tied.listed x there in decided_joiners_stand (first_values hd) (journal hd es) x t.0 right t.1 dones those includers decisions joined_one);
+      counts = is_one_of those;
+      counted = λ t i. (is_there t those (in_from t those i), ⊎_elim (λ wrote. inl wrote) (λ none. inr (joined_one t i none)) (wrote_so t i));
       all = all;
       idle = idle;
     }
 
-    pub decided : AreDecidedOrLate hd (journal hd es) x (disk_of h.holds)
-    decided = record {
-      late = d.late;
-      others = d.others;
-      are = d.are;
-      decided = (let t = tied.listed x there in are_decided hd (journal hd es) right ties x t.0 t.1 d.others changes);
-      unmoved = d.unmoved;
-      unlisted = d.unlisted;
-    }
+    pub decided : AreDecided hd (journal hd es) x dones
+    decided = let t = tied.listed x there in are_decided hd (journal hd es) right ties x t.0 t.1 dones changes
 
     pub formed : HaveForm hd x (see h.sent w)
     formed = let f = runs_have_form hd x form es in let g = f.holds in record { objects = g.objects; entries = g.entries }
@@ -387,7 +362,7 @@ module _ (hd : Header) (es : List Asked) (form : HeaderInForm hd) (tied : AreLoc
         let o = h.holds in
         let b = o.begun in
         let j = b.journalled in
-        is_clean hd (journal hd es) right ties x j.tops j.machine (see h.sent w) j.sees decided b.begins formed
+        is_clean hd (journal hd es) right ties x j.tops j.machine (see h.sent w) j.sees (none_late hd (journal hd es) x (let W = j.machine in W.disk) decided) b.begins formed
 
     pub clean_of : IsCleanIn hd (journal hd es) x (see [] (run_all es (format hd)))
     clean_of = record { names = clean_seen.names; stores = clean_seen.stores }
@@ -446,9 +421,8 @@ held_in hd es joined x there = let h = joined x there in record { sent = h.sent;
 
 pub decides_in : (hd : Header) (es : List Asked) (joined : (x : ℕ) → is_some (object_line hd x) ≡ true → Holds hd (IsJoinedSo hd x) (run_all es (format hd))) → ((x : ℕ) → is_some (object_line hd x) ≡ true → DecideSo hd x es) → Decides hd es (held_in hd es joined)
 decides_in hd es joined decide x there =
-    let d = decide x there (ordered_of hd es x (held_in hd es joined x there)) in
     let j = (let h = joined x there in h.holds) in
-    (d, (λ e t i. j.wrote e t (subst (disk.In e) (sym d.are) (in_behind e d.late d.others i))), j.bare)
+    (decide x there (ordered_of hd es x (held_in hd es joined x there)), j.wrote, j.bare)
 
 pub whole_runs_are_clean : WholeRunsAreClean
 whole_runs_are_clean hd es disks heard_so test form short heard rest decide files =

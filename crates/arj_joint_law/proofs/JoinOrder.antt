@@ -1,5 +1,5 @@
 -- In which order the commits of decided tops of the journal were called, where one of them only included a store.
-use Rattle.std.proofs.Common.{◌≡◌, ◌⊎◌, ◌<◌, ℕ, ◌==◌, ◌&&◌, ◌||◌, not, List, [], ◌∷◌, ◌++◌, filter, cond, nat_lt, if◌then◌else◌, Bool, true, false, Contains, Option, Some, None, is_some, refl, sym, ◌∙◌, ap, subst, inl, inr, eq-eqb}
+use Rattle.std.proofs.Common.{◌≡◌, ◌⊎◌, ◌<◌, ℕ, ◌==◌, ◌&&◌, ◌||◌, not, List, [], ◌∷◌, filter, cond, nat_lt, if◌then◌else◌, Bool, true, false, Contains, Option, Some, None, is_some, refl, sym, ◌∙◌, ap, subst, inl, inr, eq-eqb}
 use Rattle.arj_disk_law.specs.Order.{counts_of}
 use Rattle.arj_disk_law.specs.State.{Done, Packed}
 use Rattle.arj_disk_law.specs.Words as disk
@@ -20,11 +20,6 @@ use Rattle.arj_joint_law.specs.Includers.{DecidedJoinersStand, IncludersTakeTurn
 use Rattle.arj_joint_law.proofs.Called.{IsOf, called_in_turn, its_top_of, there_before}
 
 -- ---- parts of these
-
--- those behind the newest ones had their turns too
-pub includers_behind : (lines : List Line) (late others : List Done) → IncludersTakeTurns lines (late ++ others) → IncludersTakeTurns lines others
-includers_behind lines [] others turns = turns
-includers_behind lines (d ∷ late) others turns = includers_behind lines late others turns.1
 
 includers_left : (lines : List Line) (p : Done → Bool) (ds : List Done) → IncludersTakeTurns lines ds → IncludersTakeTurns lines (filter p ds)
 includers_left lines p [] turns = tt

@@ -22,8 +22,7 @@ use Rattle.arj_line_law.specs.Right.{AreRight}
 use Rattle.arj_line_law.proofs.Books.{book_more, decided_later, later_from, never}
 use Rattle.arj_line_law.proofs.Models.{its_call}
 use Rattle.arj_line_law.proofs.Runs.{run_written}
-use Rattle.arj_serial_law.specs.Cleaned.{AreDecidedOrLate}
-use Rattle.arj_serial_law.specs.Decided.{AreDecisions, AreNewestFirst, IsDecision, Wrote, WroteSo}
+use Rattle.arj_serial_law.specs.Decided.{AreDecided, AreDecisions, AreNewestFirst, IsDecision, Wrote, WroteSo}
 use Rattle.arj_serial_law.proofs.Order.{IsTopOf, listed, place_of_top, top_item}
 use Rattle.arj_serial_law.proofs.Tying.{all_at}
 use Rattle.arj_view_law.specs.Keeps.{Holds}
@@ -36,7 +35,7 @@ use Rattle.arj_joint_law.proofs.Called.{end_in, there_before}
 use Rattle.arj_joint_law.proofs.CommitCalls.{commits_begin}
 use Rattle.arj_joint_law.proofs.Excluding.{each_decision}
 use Rattle.arj_joint_law.proofs.JoinOrder.{counts_there}
-use Rattle.arj_joint_law.proofs.LateWriters.{called_front, in_back, in_front}
+use Rattle.arj_joint_law.proofs.Fronts.{called_front}
 use Rattle.arj_joint_law.proofs.NewWriters.{IsReadAt, call_is, its_uid, read_at, said_before}
 
 -- ---- lists
@@ -52,17 +51,6 @@ longer {A} (x ∷ xs) (u ∷ us) ys vs same less =
     (r.0, ap (λ z. z ∷ us) (sym head) ∙ ap (λ zs. x ∷ zs) r.1)
 
 -- ---- each two of these
-
--- of one of the newest ones and one behind them
-know_behind : (lines : List Line) (late others : List Done) → IncludersKnow lines (late ++ others) → (z e : Done) → disk.In z late → disk.In e others → IncluderKnows lines e z
-know_behind lines [] others know z e i j = absurd i
-know_behind lines (y ∷ late) others know z e (inl is) j = subst (IncluderKnows lines e) is (know.0 e (in_back e late others j))
-know_behind lines (y ∷ late) others know z e (inr i) j = know_behind lines late others know.1 z e i j
-
--- of those behind the newest ones
-know_others : (lines : List Line) (late others : List Done) → IncludersKnow lines (late ++ others) → IncludersKnow lines others
-know_others lines [] others know = know
-know_others lines (y ∷ late) others know = know_others lines late others know.1
 
 -- of some of them
 know_left : (lines : List Line) (p : Done → Bool) (ds : List Done) → IncludersKnow lines ds → IncludersKnow lines (filter p ds)
@@ -100,7 +88,7 @@ later_one values lines x (d ∷ ds) (v ∷ us) are know order u w (inr i) (inr j
 
 -- ---- after a run
 
-module _ (hd : Header) (es : List Asked) (x : ℕ) (h : Holds hd (IsOrderedSo hd x) (run_all es (format hd))) (know : IncludersKnow (journal hd es) (let Q = disk_of h.holds in Q.tops)) (d : AreDecidedOrLate hd (journal hd es) x (disk_of h.holds))
+module _ (hd : Header) (es : List Asked) (x : ℕ) (h : Holds hd (IsOrderedSo hd x) (run_all es (format hd))) (know : IncludersKnow (journal hd es) (let Q = disk_of h.holds in Q.tops)) (d : AreDecided hd (journal hd es) x (let Q = disk_of h.holds in Q.tops))
     (t : Top) (new : IsNew (let w = run_all es (format hd) in w.event) (journal hd es) t) (wrote : Wrote (journal hd es) x t) where
   abbrev lines : List Line
   lines = journal hd es
@@ -152,8 +140,8 @@ module _ (hd : Header) (es : List Asked) (x : ℕ) (h : Holds hd (IsOrderedSo hd
           never (ap (is_said (lines_before event lines)) (its_uid lines right t ti) ∙ said_before lines right event begins spot.before spot.line spot.behind label.0 spot.are label.1 v there) new.1
 
   -- its decision
-  there : (w : Top) × Contains d.decided.those w × (w.id ≡ t.id)
-  there = let r = d.decided.all wrote.0 wrote.1 wrote.2 in (r.0, r.1, sym r.2 ∙ wrote.3)
+  there : (w : Top) × Contains d.those w × (w.id ≡ t.id)
+  there = let r = d.all wrote.0 wrote.1 wrote.2 in (r.0, r.1, sym r.2 ∙ wrote.3)
 
   its_number : (e : Done) (w : Top) → w.id ≡ t.id → IsDecision values lines x e w → uid_number v ≡ e.top
   its_number e w same is = sym (is.number ∙ ap (λ n. uid_number (uid_of_id (acts lines) n)) same ∙ ap uid_number (its_uid lines right t ti))
@@ -173,25 +161,14 @@ module _ (hd : Header) (es : List Asked) (x : ℕ) (h : Holds hd (IsOrderedSo hd
       whose : (a : Act) × Contains (acts lines) a × (uid_number a.uid ≡ z.top)
       whose = let o = h.holds in let b = o.begun in let k = b.journalled in k.whose z.top (in_decided S.tops z inside)
 
-  pub none_late : (z : Done) → disk.In z d.late → (let p = z.plan in p.writes) ≡ None → z.counts ≡ false
-  none_late z i none = by z.counts refl
-    where
-      r : (e : Done) × disk.In e (filter counts_of d.others) × IsDecision values lines x e there.0
-      r = each_decision values lines x (filter counts_of d.others) d.decided.those d.decided.each there.0 (in_from there.0 d.decided.those there.1)
-
-      by : (b : Bool) → z.counts ≡ b → b ≡ false
-      by false is = refl
-      by true is = absurd (none_later r.0 z there.0 (subst (disk.In z) (sym d.are) (in_front z d.late d.others i)) there.2 r.2 (counts_there r.0 d.others r.1) is none
-          (know_behind lines d.late d.others (subst (IncludersKnow lines) d.are know) z r.0 i (there_before counts_of r.0 d.others r.1)))
-
-  pub none_last : (u : Top) → Contains d.decided.those u → (Wrote lines x u → ⊥) → u.at ≤ t.at
-  none_last u c silent = by (later_one values lines x (filter counts_of d.others) d.decided.those d.decided.each (know_left lines counts_of d.others (know_others lines d.late d.others (subst (IncludersKnow lines) d.are know))) d.decided.called u there.0 (in_from u d.decided.those c) (in_from there.0 d.decided.those there.1))
+  pub none_last : (u : Top) → Contains d.those u → (Wrote lines x u → ⊥) → u.at ≤ t.at
+  none_last u c silent = by (later_one values lines x (filter counts_of S.tops) d.those d.each (know_left lines counts_of S.tops know) d.called u there.0 (in_from u d.those c) (in_from there.0 d.those there.1))
     where
       apart : AreApart (tops lines)
       apart = let l = listed lines right in l.apart
 
       w_there : list.In there.0 (tops lines)
-      w_there = in_from there.0 (tops lines) (let q = (each_decision values lines x (filter counts_of d.others) d.decided.those d.decided.each there.0 (in_from there.0 d.decided.those there.1)).2 in q.listed)
+      w_there = in_from there.0 (tops lines) (let q = (each_decision values lines x (filter counts_of S.tops) d.those d.each there.0 (in_from there.0 d.those there.1)).2 in q.listed)
 
       place : (let w = there.0 in w.at) ≡ t.at
       place = sym (place_of_top (tops lines) there.0 apart w_there) ∙ ap (top_place (tops lines)) there.2 ∙ place_of_top (tops lines) t apart (in_from t (tops lines) new.0)
@@ -200,9 +177,9 @@ module _ (hd : Header) (es : List Asked) (x : ℕ) (h : Holds hd (IsOrderedSo hd
       wrote_nothing None none = refl
       wrote_nothing (Some z) (k, last, writer, content) = absurd (silent (k, last.there, last.write, last.whose))
 
-      by : (u.at ≤ (let w = there.0 in w.at)) ⊎ IsLaterOne values lines x (filter counts_of d.others) there.0 u → u.at ≤ t.at
+      by : (u.at ≤ (let w = there.0 in w.at)) ⊎ IsLaterOne values lines x (filter counts_of S.tops) there.0 u → u.at ≤ t.at
       by (inl le) = omega (arith, le, place)
       by (inr r) = absurd (none_later r.first r.second there.0
-          (subst (disk.In r.second) (sym d.are) (in_back r.second d.late d.others (there_before counts_of r.second d.others r.second_there)))
-          there.2 r.first_is (counts_there r.first d.others r.first_there) (counts_there r.second d.others r.second_there)
+          (there_before counts_of r.second S.tops r.second_there)
+          there.2 r.first_is (counts_there r.first S.tops r.first_there) (counts_there r.second S.tops r.second_there)
           (wrote_nothing (let p = r.second.plan in p.writes) (let q = r.second_is in q.wrote)) r.knows)

@@ -34,7 +34,7 @@ pub mod Surviving
 pub mod RestGiven
 pub mod Alone
 pub mod Takers
-pub mod LateWriters
+pub mod Fronts
 pub mod Knowing
 pub mod Counting
 pub mod JoinedRuns
@@ -74,3 +74,4 @@ pub mod BasedTakes
 pub mod BasedOthers
 pub mod BasedPlans
 pub mod BasedLaws
+pub mod Naming

@@ -1,5 +1,5 @@
 -- Runs whose files are clean, by both machines of each object, with what these are still asked for.
-use Rattle.std.specs.Prelude.{⊤, ◌≡◌, ◌≤◌, ◌++◌, ◌==◌, ◌||◌, ℕ, Bool, true, false, List, [], ◌∷◌, None, Some, filter, is_some, length, Contains}
+use Rattle.std.specs.Prelude.{⊤, ◌≡◌, ◌≤◌, ◌==◌, ◌||◌, ℕ, Bool, true, false, List, [], ◌∷◌, filter, is_some, length, Contains}
 use Rattle.std.specs.List.{list_any}
 use Rattle.arj_journal.specs.ScriptForm.{HeaderInForm}
 use Rattle.arj_model.specs.Actions.{acts}
@@ -11,15 +11,13 @@ use Rattle.arj_protocol.specs.Words.{Header, Line}
 use Rattle.arj_protocol.specs.World.{Asked, format, journal, run_all}
 use Rattle.arj_law.specs.Growth.{first_stores}
 use Rattle.arj_disk_law.specs.Order.{counts_of}
-use Rattle.arj_disk_law.specs.State.{Done, Packed, State, entry_in, last_entry}
-use Rattle.arj_disk_law.specs.Words.{In}
+use Rattle.arj_disk_law.specs.State.{Done, State}
 use Rattle.arj_view_law.specs.Keeps.{Holds}
 use Rattle.arj_view_law.specs.Seen.{Seen, see}
 use Rattle.arj_binding_law.specs.Scripts.{most_events}
 use Rattle.arj_disk_run_law.specs.Rest.{KeepsHeard}
 use Rattle.arj_lock_law.specs.State as lock
 use Rattle.arj_part_law.specs.Actions.{Action}
-use Rattle.arj_serial_law.specs.Decided.{Wrote}
 use Rattle.arj_serial_law.specs.Tied.{AreTied, IsTied}
 use Rattle.arj_joint_law.specs.Joined.{AreBareSo, AreRestBeside, AreWritten, KeepsHeardJoined}
 use Rattle.arj_joint_law.specs.Ordered.{IsOrderedSo}
@@ -49,24 +47,10 @@ abbrev pub ExcludesNoListed : List Line → ℕ → (Top → Bool) → List ℕ 
 ExcludesNoListed lines x counts stores [] = ⊤
 ExcludesNoListed lines x counts stores (t ∷ ts) = (counts t ≡ false → (s : ℕ) → is_among stores s ≡ true → is_among (leaves_of lines t.id x) s ≡ false) × ExcludesNoListed lines x counts (listed_after lines x stores t) ts
 
--- The decided tops of the disk machine that count are these tops of the journal. As `DecideChanges` of `arj_serial_law`, but what they wrote,
--- included and excluded isn't asked, nor in which order their commits were called; and not that each top which wrote it is one of these, nor
--- what the others add to the list.
-pub record DecideThose (header : Header) (lines : List Line) (x : ℕ) (S : State) (ds : List Done) : Type 0 where
-  pub those : List Top
-  pub each : AreNamed lines (filter counts_of ds) those
-  pub idle : ExcludesNoListed lines x (λ t. is_one_of those t || S.bare (number_of lines t)) (first_stores header x) (serial_tops lines)
-
--- So it is of all but the newest ones: those that the journal doesn't have since their nodes are late to say so, and whoever was decided
--- between them, didn't write the object and adds no store, as `AreDecidedOrLate` of `arj_serial_law` has it.
-pub record DecideThoseOrLate (header : Header) (lines : List Line) (x : ℕ) (S : State) : Type 0 where
-  pub late : List Done
-  pub others : List Done
-  pub are : S.tops ≡ late ++ others
-  pub silent : (d : Done) (t : Top) → In d late → Contains (tops lines) t → d.top ≡ number_of lines t → (Wrote lines x t → ⊥) × (filter d.got (let p = d.plan in p.joins) ≡ [])
-  pub decide : DecideThose header lines x S others
-  pub unmoved : (d : Done) (w : Packed) (s : ℕ) → In d late → (let p = d.plan in p.writes) ≡ Some w → S.held s ≡ Some w → ⊥
-  pub unlisted : S.entry_pend ≡ None → last_entry S ≡ entry_in S.first_entry others
+-- Whoever the decided tops that count are in the journal, each other top whose commit didn't end without a record excludes no store that is listed
+-- in its place: of what `DecideChanges` of `arj_serial_law` has all else is given.
+abbrev pub OthersAreIdle : Header → List Line → ℕ → State → Type 0
+OthersAreIdle header lines x S = (those : List Top) → AreNamed lines (filter counts_of S.tops) those → ExcludesNoListed lines x (λ t. is_one_of those t || S.bare (number_of lines t)) (first_stores header x) (serial_tops lines)
 
 -- the state of the disk machine
 abbrev pub disk_of : {hd : Header} {x : ℕ} {M : Seen} → IsOrderedSo hd x M → State
@@ -74,11 +58,11 @@ disk_of o = (let b = o.begun in let j = b.journalled in let W = j.machine in W.d
 
 -- so it is of each state in which the disk machine is seen after the run, with the journal's decisions in order
 abbrev pub DecideSo : Header → ℕ → List Asked → Type 0
-DecideSo hd x es = (h : Holds hd (IsOrderedSo hd x) (run_all es (format hd))) → DecideThoseOrLate hd (journal hd es) x (disk_of h.holds)
+DecideSo hd x es = (h : Holds hd (IsOrderedSo hd x) (run_all es (format hd))) → OthersAreIdle hd (journal hd es) x (disk_of h.holds)
 
 -- and they wrote what they gave to the stores, and those without a record nothing
 abbrev pub DecideWrittenSo : Header → ℕ → List Asked → Type 0
-DecideWrittenSo hd x es = (h : Holds hd (IsOrderedSo hd x) (run_all es (format hd))) → (d : DecideThoseOrLate hd (journal hd es) x (disk_of h.holds)) × AreWritten (first_values hd) (journal hd es) x d.others × AreBareSo (journal hd es) x (disk_of h.holds)
+DecideWrittenSo hd x es = (h : Holds hd (IsOrderedSo hd x) (run_all es (format hd))) → OthersAreIdle hd (journal hd es) x (disk_of h.holds) × AreWritten (first_values hd) (journal hd es) x (let S = disk_of h.holds in S.tops) × AreBareSo (journal hd es) x (disk_of h.holds)
 
 -- The journal is tied to the lock machines: of objects of which a call was answered, and of those of the header.
 pub record AreLockTied (hd : Header) (lines : List Line) : Type 0 where

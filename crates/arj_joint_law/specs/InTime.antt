@@ -2,7 +2,6 @@
 use Rattle.std.specs.Prelude.{⊤, ◌≡◌, ◌≤◌, ◌++◌, ℕ, Bool, true, false, List, [], ◌∷◌, None, is_some, length}
 use Rattle.arj_base.specs.Rows.{is_on}
 use Rattle.arj_journal.specs.ScriptForm.{HeaderInForm}
-use Rattle.arj_model.specs.Calls.{Top}
 use Rattle.arj_model.specs.Last.{object_line}
 use Rattle.arj_protocol.specs.Words.{Header, Line, Uid}
 use Rattle.arj_protocol.specs.Order.{uid_number}
@@ -16,16 +15,9 @@ use Rattle.arj_disk_run_law.specs.Rest.{KeepsHeard}
 use Rattle.arj_joint_law.specs.Joined.{AreRestBeside, KeepsHeardJoined}
 use Rattle.arj_line_law.specs.Book.{book, is_decided}
 use Rattle.arj_part_law.specs.Actions.{Action}
-use Rattle.arj_serial_law.specs.Cleaned.{AreDecidedOrLate}
-use Rattle.arj_serial_law.specs.Decided.{Wrote}
 use Rattle.arj_joint_law.specs.Cleaned.{AreLockTied, DecideSo, DecideWrittenSo, disk_of}
-use Rattle.arj_joint_law.specs.Excluded.{AreExcludedInTime, IsBehindIncludes, IsNew}
+use Rattle.arj_joint_law.specs.Excluded.{AreExcludedInTime}
 use Rattle.arj_joint_law.specs.Ordered.{IsOrderedSo}
-
--- Of an object, in each state in which its disk machine is seen after the run with the journal's decisions in order: however its decided tops
--- are those of the journal, a top that wrote it and is new in this event has none behind it that counts without a line, or without a write.
-pub record AreInTime (hd : Header) (e x : ℕ) (es : List Asked) : Type 0 where
-  pub behind : (h : Holds hd (IsOrderedSo hd x) (run_all es (format hd))) (d : AreDecidedOrLate hd (journal hd es) x (disk_of h.holds)) (t : Top) → IsNew e (journal hd es) t → Wrote (journal hd es) x t → IsBehindIncludes hd (journal hd es) x (disk_of h.holds) d t
 
 -- The first top was said before the commit of the second one was called: at some place of the journal the one was, and the other wasn't.
 abbrev pub IsSaidFirst : List Line → Uid → Uid → Type 0
@@ -41,9 +33,9 @@ abbrev pub IncludersKnow : List Line → List Done → Type 0
 IncludersKnow lines [] = ⊤
 IncludersKnow lines (d ∷ ds) = ((e : Done) → In e ds → IncluderKnows lines e d) × IncludersKnow lines ds
 
--- Where both machines stand in one run, so much is asked alone: in each state in which the object's disk machine is seen after the run, each of
--- its decided tops that only includes a store knows those that wrote the object before it.
-pub record AreInTimeBeside (hd : Header) (x : ℕ) (es : List Asked) : Type 0 where
+-- So much is asked of an object: in each state in which its disk machine is seen after the run with the journal's decisions in order, each of its
+-- decided tops that only includes a store knows those that wrote the object before it.
+pub record AreInTime (hd : Header) (x : ℕ) (es : List Asked) : Type 0 where
   pub know : (h : Holds hd (IsOrderedSo hd x) (run_all es (format hd))) → IncludersKnow (journal hd es) (let S = disk_of h.holds in S.tops)
 
 -- After the run of each script stores are excluded in time, on what makes its files clean, where decided tops are so.
@@ -52,7 +44,8 @@ RunsExcludeInTime = (hd : Header) (es : List Asked) (heard : ℕ → Seen → Bo
     → ((x : ℕ) → is_some (object_line hd x) ≡ true → KeepsHeard hd x (heard x))
     → AreLockTied hd (journal hd es)
     → ((x : ℕ) → is_some (object_line hd x) ≡ true → DecideWrittenSo hd x es)
-    → (let w = run_all es (format hd) in ((x : ℕ) → is_some (object_line hd x) ≡ true → AreInTime hd w.event x es) → AreExcludedInTime hd w.event (see [] w))
+    → ((x : ℕ) → is_some (object_line hd x) ≡ true → AreInTime hd x es)
+    → (let w = run_all es (format hd) in AreExcludedInTime hd w.event (see [] w))
 
 -- So the journal is tied with what the lock half still takes, and decided tops wrote what they gave.
 abbrev pub WholeRunsExcludeInTime : Type 0
@@ -60,5 +53,5 @@ WholeRunsExcludeInTime = (hd : Header) (es : List Asked) (heard : ℕ → Seen �
     → ((x : ℕ) → is_some (object_line hd x) ≡ true → KeepsHeardJoined hd x (heard x))
     → AreRestBeside hd heard test
     → ((x : ℕ) → is_some (object_line hd x) ≡ true → DecideSo hd x es)
-    → ((x : ℕ) → is_some (object_line hd x) ≡ true → AreInTimeBeside hd x es)
+    → ((x : ℕ) → is_some (object_line hd x) ≡ true → AreInTime hd x es)
     → (let w = run_all es (format hd) in AreExcludedInTime hd w.event (see [] w))

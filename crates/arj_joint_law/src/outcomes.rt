@@ -49,11 +49,10 @@ pub fn seen_runs_exclude_in_time()
 {}
 
 /// After the run of each script whose header is in form, of at most 1,000,000 events, stores are excluded in time, on what makes its files
-/// clean (`runs_are_clean`) and this premise more: of a top that is new in the last event and wrote an object, no decided top that counts
-/// for the object without a line, or without a write, is behind it (`AreInTime`). That who has an entry prepared beside it, of its root, is
-/// committed is given here. So it is with what the lock half takes, in place of a tied journal, where of tops that wrote that is given too;
-/// of the others it is asked in the order of decisions, that whoever wrote before them was said before their commits were called
-/// (`AreInTimeBeside`). And so it is after each event, since the front of a script is one. It does nothing when it runs.
+/// clean (`runs_are_clean`) and this premise more, of decided tops that count for an object and only include a store of it: whoever wrote
+/// the object before them was said before their commits were called (`AreInTime`). That who has an entry prepared beside a new top, of its root,
+/// is committed is given here. So it is with what the lock half takes, in place of a tied journal; and after each event, since the front of a
+/// script is one. It does nothing when it runs.
 pub fn runs_exclude_in_time()
     ensures runs { RunsExcludeInTime }
     ensures whole { WholeRunsExcludeInTime }

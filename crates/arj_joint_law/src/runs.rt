@@ -36,10 +36,11 @@ pub fn decisions_come_behind_calls()
 
 /// After the run of each script whose header is in form, of at most 1,000,000 events, files that are those of its nodes' pairs are clean:
 /// with what the disk machine's half still takes, where the journal is tied to the lock machines, as it is with what their half takes, and where
-/// the decided tops that count are those of the journal (`DecideThose`), and wrote what they gave to the stores, and those without a record
-/// nothing, which is given with both halves (`runs_have_both_machines`). That machines began as the header says, that all states are of
-/// their class, that decided writers stand as their commits were called, that decided tops take those stores out of the list that their
-/// commits excluded and add those that they included, and that each include names a node of the header, is given here. It does nothing when it runs.
+/// who isn't decided for the object, and whose commit didn't end without a record, excludes no store that is listed in its place
+/// (`OthersAreIdle`), and decided tops wrote what they gave to the stores, and those without a record nothing, which is given with both halves
+/// (`runs_have_both_machines`). That decided tops are the journal's, that machines began as the header says, that all states are of their class,
+/// that decided writers stand as their commits were called, that decided tops take those stores out of the list that their commits excluded and
+/// add those that they included, and that each include names a node of the header, is given here. It does nothing when it runs.
 pub fn runs_are_clean()
     ensures clean { RunsAreClean }
     ensures whole { WholeRunsAreClean }

@@ -1,6 +1,6 @@
 -- Coordinators' decisions, and beginnings of commits, walked with both halves.
 use Rattle.std.proofs.Common.{◌≡◌, ◌⊎◌, ◌==◌, ◌||◌, not, is_some, ℕ, List, [], ◌∷◌, Bool, true, false, Option, Some, None, refl, sym, ◌∙◌, ap, subst, inl, inr, ⊎_elim}
-use Rattle.std.specs.Prelude.{if◌then◌else◌}
+use Rattle.std.specs.Prelude.{⊤, if◌then◌else◌}
 use Rattle.arj_protocol.specs.Effect.{Disk, Effect, Say, Send, Do}
 use Rattle.arj_protocol.specs.Naming.{Naming}
 use Rattle.arj_protocol.specs.Node.{Parts}
@@ -44,7 +44,7 @@ use Rattle.arj_names_view_law.specs.Memory.{NamesGo}
 use Rattle.arj_names_view_law.proofs.BareEnds.{bare_wrote, begun_bare, none_ended, opens_none, plain_bare}
 use Rattle.arj_names_view_law.proofs.GrantSteps.{grants_stay, heard}
 use Rattle.arj_names_view_law.proofs.ListSteps.{lists_are_heard, kept_still}
-use Rattle.arj_names_view_law.specs.Both.{HasNoPart, HowDecided, IsEndedBare, IsOnly, IsRecorded, decided_names, ended_names, has_part, CallsKeepBoth, IsAnswered, LoadsKeepBoth, HasGoneOn, OnlyAnswers, OnlyAtNode, BeginningsKeepBoth, BothWalk, DecisionsKeepBoth, DisksWalk, IsOther, IsSeenFrom, IsSeenIn, OnlyRoots, OpensNone, SeesBoth, is_no_work, leaves_the_inc}
+use Rattle.arj_names_view_law.specs.Both.{IsOpenByDisks, IsOpenIn, HasNoPart, HowDecided, IsEndedBare, IsOnly, IsRecorded, decided_names, ended_names, has_part, CallsKeepBoth, IsAnswered, LoadsKeepBoth, HasGoneOn, OnlyAnswers, OnlyAtNode, BeginningsKeepBoth, BothWalk, DecisionsKeepBoth, DisksWalk, IsOther, IsSeenFrom, IsSeenIn, OnlyRoots, OpensNone, SeesBoth, is_no_work, leaves_the_inc}
 use Rattle.arj_names_view_law.specs.Memory.{SeesNaming}
 use Rattle.arj_names_view_law.proofs.Onward.{goes_onward}
 use Rattle.arj_names_view_law.proofs.Pairing.{Ends, walked_both, Stepped, left_disk, naming_on, seen_as, steps, steps_to, stopped_both, unfollowed, walks_at}
@@ -349,6 +349,16 @@ module _ (g keeps : ℕ → Bool) (A : Office) (c0 : Named A) (parts : (t : ℕ)
         let i = st.holds in
         (record { world = W; names = st.names }, record { only = i.only; along = s.along; how = i.how }, stopped_both x tops k d was A M both e (record { world = W; names = st.names }) N c st.named (inc_on W st.names i.only) (unfollowed x tops unwalked (only_decides g) A.world W (halted e k c N) s) inc same (λ other. memory_on W st.names i.only))
 
+    -- where nobody was decided on the way
+    pub stops_same : (c : Disk) (N : Seen) → c.inc ≡ d.inc → N.nodes ≡ M.nodes → IsOpenByDisks x (followed tops A.world (only_decides g)) A.world (halted e k c N) → IsOpenIn g keeps x tops A (halted e k c N)
+    stops_same c N inc same (W, tops_same, s) =
+        let st = stepped W s.along in
+        let i = st.holds in
+        (record { world = W; names = st.names }, record { only = i.only; along = s.along; how = i.how }, tops_same, stopped_both x tops k d was A M both e (record { world = W; names = st.names }) N c st.named (inc_on W st.names i.only) (unfollowed x tops unwalked (only_decides g) A.world W (halted e k c N) s) inc same (λ other. memory_on W st.names i.only))
+
+    pub decisions_stop : (outs : List Effect) → AreAll leaves_the_inc outs → Walks (IsOpenByDisks x (followed tops A.world (only_decides g)) A.world) e k outs (λ c N. ⊤) d M → Walks (IsOpenIn g keeps x tops A) e k outs (λ c N. ⊤) d M
+    decisions_stop outs all walk = walks_at e k d M (IsOpenByDisks x (followed tops A.world (only_decides g)) A.world) (IsOpenIn g keeps x tops A) (λ c N. ⊤) (λ c N. ⊤) stops_same outs all d M refl refl (λ L inc same end. tt) walk
+
     ends : (c : Disk) (L : Seen) → c.inc ≡ d.inc → L.nodes ≡ M.nodes → Up (IsSeenByDisks x (followed tops A.world (only_decides g))) k v c L → Up (IsSeenIn g keeps x tops A) k v c L
     ends c L inc same (W, s) =
         let st = stepped W s.along in
@@ -395,6 +405,13 @@ begin_of t (machine.FinishEntry h) is = inl refl
 begin_of t (machine.DropEntry h) is = inl refl
 begin_of t (machine.Forget r h) is = inl refl
 begin_of t (machine.Send m) is = inl (begins_plainly t m is)
+
+-- no stop falls on a walk without work
+pub never_stops : (P : Seen → Type 0) (e k : ℕ) (es : List Effect) → AreAll is_no_work es → (d : Disk) (N : Seen) → Walks P e k es (λ c L. ⊤) d N
+never_stops P e k [] all d N = tt
+never_stops P e k (Say b ∷ es) all d N = never_stops P e k es all d (said e (b ∷ []) N)
+never_stops P e k (Send to m ∷ es) all d N = λ more quiet. never_stops P e k es all d (said e more (posted (record { from = k; to = to; message = m }) N))
+never_stops P e k (Do w ∷ es) all d N = absurd (never all refl)
 
 -- a walk without work is over at its end alone
 pub no_work : (e k : ℕ) (M : Seen) (P R : Seen → Type 0) (E F : Disk → Seen → Type 0) (d : Disk) → ((L : Seen) → L.nodes ≡ M.nodes → E d L → F d L) → (es : List Effect) → AreAll is_no_work es → (N : Seen) → N.nodes ≡ M.nodes → Walks P e k es E d N → Walks R e k es F d N

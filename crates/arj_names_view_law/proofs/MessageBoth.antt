@@ -1,13 +1,15 @@
 -- A message, walked with both halves.
-use Rattle.std.proofs.Common.{◌≡◌, ◌⊎◌, ◌==◌, ℕ, List, [], ◌∷◌, ◌++◌, Bool, true, false, Option, Some, None, refl, sym, ◌∙◌, ap, subst, inl, inr, ⊎_elim, is_some, filter, map}
+use Rattle.std.proofs.Common.{◌≡◌, ◌⊎◌, ◌==◌, ℕ, List, [], ◌∷◌, ◌++◌, Bool, true, false, Option, Some, None, refl, sym, ◌∙◌, ap, subst, inl, inr, ⊎_elim, is_some, filter, map, not}
 use Rattle.std.specs.Prelude.{⊤, if◌then◌else◌, option_map}
 use Rattle.std.specs.List.{list_all}
 use Rattle.std.proofs.lemmas.Bool.{and_parts, or_parts}
-use Rattle.arj_protocol.specs.Words.{Uid, Ask, Asked, Binding, BoundReply, End, Head, Message, ObjectState, What, asks, object}
+use Rattle.arj_protocol.specs.Words.{Uid, Ask, Asked, Binding, BoundReply, Cause, End, Head, Kind, Message, ObjectState, Path, What, asks, object}
 use Rattle.arj_protocol.specs.Words.ask
 use Rattle.arj_protocol.specs.Words.body
 use Rattle.arj_protocol.specs.Words.cause
+use Rattle.arj_protocol.specs.Words.confirmed
 use Rattle.arj_protocol.specs.Words.ending
+use Rattle.arj_protocol.specs.Words.kind
 use Rattle.arj_protocol.specs.Words.loaded
 use Rattle.arj_protocol.specs.Words.message
 use Rattle.arj_protocol.specs.Words.prepared
@@ -18,10 +20,10 @@ use Rattle.arj_protocol.specs.Asking.{heard, heard_by, heard_doing, heard_none, 
 use Rattle.arj_protocol.specs.Commit as commit
 use Rattle.arj_protocol.specs.Commit.{CommitStep, Aborts, Stays, Machine, Voting, Preparing, Confirming, plainly, votes_left, with_states}
 use Rattle.arj_protocol.specs.Confirm.{confirm}
-use Rattle.arj_protocol.specs.Coord.{Calling, Committing, Coord, Doing, Idle, Now, doing_of, root_at, top_uses}
-use Rattle.arj_protocol.specs.Tree.{root_of}
-use Rattle.arj_protocol.specs.Effect.{Disk, Effect, Look, Prep, Ready, Already, Old, InDoubt, Say, Send, Do, Served, Prepare, held_at, holder_of, is_prepared, prepare_answer}
-use Rattle.arj_protocol.specs.Ending.{acked, answer_query}
+use Rattle.arj_protocol.specs.Coord.{Calling, Committing, Coord, Doing, Idle, Now, doing_of, nodes_sent, root_at, servers_told, top_uses}
+use Rattle.arj_protocol.specs.Tree.{Branch, branch_of, ends_of, is_open_branch, root_of}
+use Rattle.arj_protocol.specs.Effect.{Disk, Effect, Intent, Look, Prep, Ready, Already, Old, InDoubt, Say, Send, Do, Served, Prepare, held_at, holder_of, is_prepared, prepare_answer}
+use Rattle.arj_protocol.specs.Ending.{acked, answer_query, ended, is_deferred, says, tell_all, tolds_by, tolds_of, tolds_of_branch, up_to}
 use Rattle.arj_protocol.specs.Naming as naming
 use Rattle.arj_protocol.specs.Naming.{Naming}
 use Rattle.arj_protocol.specs.Node.{Handled, Parts, by_reply, Took, Void, ack_told, coord_heard, end_states, handle, handle_answer, handle_ask, handle_ends, handle_hello, handle_other, handle_told, holders, if_naming, is_earlier, load_by, load_held, naming_hello, naming_told, prepare_by, query_about, sends_answer, serve, served, store_told, with_coord, with_naming, with_server}
@@ -48,25 +50,25 @@ use Rattle.arj_view_law.specs.Walks.{Walks, Up}
 use Rattle.arj_view_law.proofs.Together.{walks_to}
 use Rattle.arj_disk_view_law.specs.Coordinating.{ConfirmsAreBooked, KnowsNode, NotesMessage, commit_note}
 use Rattle.arj_disk_view_law.specs.Knows.{KnowsKinds, KnowsMachine}
-use Rattle.arj_disk_view_law.specs.Sees.{ClaimsAnswered, ClaimsAsk, ClaimsAsked, ClaimsLast, ClaimsOther, IsNested, Kinds, SeesDisks, Walk, followed}
+use Rattle.arj_disk_view_law.specs.Sees.{ClaimsReply, ClaimsAnswered, ClaimsAsk, ClaimsAsked, ClaimsLast, ClaimsOther, IsNested, Kinds, SeesDisks, Walk, followed}
 use Rattle.arj_disk_view_law.specs.Stores.{ClaimsAbort}
 use Rattle.arj_disk_view_law.proofs.CommitWalks.{aborts}
 use Rattle.arj_disk_view_law.proofs.Followed.{coord_on, kinds_on}
 use Rattle.arj_disk_view_law.proofs.Frames.{node_here, sends_seen}
-use Rattle.arj_disk_view_law.proofs.DecideWalks.{confirming_of}
+use Rattle.arj_disk_view_law.proofs.DecideWalks.{confirmed_stops, confirming_of}
 use Rattle.arj_disk_view_law.proofs.HeardWalks.{is_say, preparing_of}
 use Rattle.arj_disk_view_law.proofs.ServedWalks.{bind_says}
 use Rattle.arj_disk_view_law.specs.Plans.{plan_at}
 use Rattle.arj_disk_view_law.proofs.Later.{effects_are_later, later_on}
 use Rattle.arj_disk_view_law.proofs.StoreWalks.{took_is}
 use Rattle.arj_disk_view_law.proofs.ToldWalks.{ends_are_walked}
-use Rattle.arj_names_view_law.specs.Both.{BothWalk, DisksWalk, HasNoPart, IsOver, IsSeenFrom, OnlyMemory, SeesBoth, has_part, is_no_work, leaves_the_inc}
+use Rattle.arj_names_view_law.specs.Both.{IsOpenByDisks, BothWalk, DisksWalk, HasNoPart, IsOver, IsSeenFrom, OnlyMemory, SeesBoth, has_part, is_no_work, leaves_the_inc}
 use Rattle.arj_names_view_law.specs.Calls.{ClaimsBound, ClaimsTop, HasGiven}
-use Rattle.arj_names_view_law.specs.Handlers.{Answering, Change, CountsOn, Deciding, IsSeenAfter, MayGoOn, MessagesKeepBoth, Quietly, answer_change, asked_change, bind_change, change_by, doing_change, now_change, reply_change, root_retains}
+use Rattle.arj_names_view_law.specs.Handlers.{Answering, Change, CountsOn, Deciding, IsOpenAfter, IsSeenAfter, MayGoOn, MessagesKeepBoth, MessagesStopOpen, Quietly, answer_change, asked_change, bind_change, change_by, doing_change, now_change, reply_change, root_retains}
 use Rattle.arj_names_view_law.specs.Memory.{SeesNaming}
-use Rattle.arj_names_view_law.proofs.CommitBoth.{GoesOn, begun_both, coord_leaves, going_both, left_goes, plain_both}
+use Rattle.arj_names_view_law.proofs.CommitBoth.{says_work as commit_says, GoesOn, begun_both, coord_leaves, going_both, left_goes, plain_both}
 use Rattle.arj_names_view_law.proofs.ConfirmBoth.{confirms_keep_both}
-use Rattle.arj_names_view_law.proofs.CoordBoth.{decisions_keep_both, no_work}
+use Rattle.arj_names_view_law.proofs.CoordBoth.{decisions_keep_both, decisions_stop, never_stops, no_work}
 use Rattle.arj_names_view_law.proofs.NamingWalks.{binds_keep_both, hellos_keep_both, notes_keep_both, queries_leave}
 use Rattle.arj_names_view_law.proofs.StepsBoth.{walks_start}
 use Rattle.arj_names_view_law.proofs.StepsFollowed.{messages_are_followed}
@@ -151,6 +153,25 @@ told_bare x tops A M t unwalked bare both = record {
 }
 
 -- an end that naming is told of
+-- tolds are no work
+tells_work : (root : Uid) (ack : Bool) (ends : List (Uid × End)) (ns : List ℕ) → AreAll is_no_work (tell_all root ack ends ns)
+tells_work root ack ends [] = refl
+tells_work root ack ends (n ∷ ns) = tells_work root ack ends ns
+
+tolds_work : (intents : List (Uid × Intent)) (c : Coord) (u : Uid) → AreAll is_no_work (tolds_of intents c u)
+tolds_work intents c u = by (branch_of u c.tree)
+  where
+    by_kind : (k : Kind) (p : Path) → AreAll is_no_work (tolds_by u k p intents c)
+    by_kind kind.Nested p = tells_work (root_of p) false (up_to u (ends_of (root_of p) c.tree)) (servers_told u (root_at (root_of p) c) c)
+    by_kind kind.Serial p = tells_work u false ((u, ending.Abort) ∷ []) (filter (λ n. not (is_deferred u intents n)) (nodes_sent u (root_at u c)))
+    by_kind kind.Top p = tells_work (root_of p) false ((u, ending.Abort) ∷ []) (nodes_sent u (root_at (root_of p) c))
+    by_kind kind.Independent p = tells_work (root_of p) false ((u, ending.Abort) ∷ []) (nodes_sent u (root_at (root_of p) c))
+    by_kind kind.Constituent p = tells_work (root_of p) false ((u, ending.Abort) ∷ []) (nodes_sent u (root_at (root_of p) c))
+
+    by : (o : Option Branch) → AreAll is_no_work (tolds_of_branch u intents c o)
+    by None = refl
+    by (Some b) = by_kind b.kind b.path
+
 module _ (x : ℕ) (tops : Kinds) (unwalked : tops.walk ≡ None) (e : ℕ) (d : Disk) (t v : Parts) (n : Naming) (from : ℕ) (ack : Bool) (ends : List (Uid × End)) (u : Uid) (outs : List Effect) (A : Office) (M : Seen) (named : t.naming ≡ Some n) (kinds : KnowsKinds tops)
     (there : is_some (at_number x n.objects) ≡ true) (both : SeesBoth x tops A (up 1 d t M)) (walk : (f : Note → Bool) (B : Office) → SeesBoth x tops B (up 1 d t M) → (ack ≡ true → f (Acks (uid_number u)) ≡ true) → DisksWalk f x tops B e 1 outs v d M) where
   of_top : (how : End) → handle_told 1 d t from ack ends u how ≡ Took v outs → tops.is_top (uid_number u) ≡ true → (B : Office) → SeesBoth x tops B (up 1 d t M) → ClaimsTop B (uid_number u) how → BothWalk x tops B e 1 outs v d M
@@ -189,6 +210,12 @@ module _ (x : ℕ) (tops : Kinds) (unwalked : tops.walk ≡ None) (e : ℕ) (d :
 
 module _ (x : ℕ) (tops : Kinds) (unwalked : tops.walk ≡ None) (e k : ℕ) (d : Disk) (t v : Parts) (from : ℕ) (m : Message) (outs : List Effect) (A : Office) (M : Seen) (knows : KnowsNode tops k d t M) (sent : seen.In (record { from = from; to = k; message = m }) M.sent)
     (counts : (n : Naming) → t.naming ≡ Some n → CountsOn x tops d n m A) (may : MayGoOn x A v.coord) (handled : handle k d t from m ≡ Took v outs) (both : SeesBoth x tops A (up k d t M)) where
+  -- nothing is decided
+  abbrev IsCalm : Change → Type 0
+  IsCalm Quietly = ⊤
+  IsCalm (Answering u r) = ⊤
+  IsCalm (Deciding u keeps) = ⊥
+
   abbrev Calm : Type 0
   Calm = BothWalk x tops A e k outs v d M
 
@@ -364,6 +391,9 @@ module _ (x : ℕ) (tops : Kinds) (unwalked : tops.walk ≡ None) (e k : ℕ) (d
     abbrev Answered : Change → Type 0
     Answered o = Walks (IsSeenAfter o x tops A) e k outs (Up (IsSeenAfter o x tops A) k v) d M
 
+    abbrev Stopping : Change → Type 0
+    Stopping o = Walks (IsOpenAfter o x tops A) e k outs (λ c N. ⊤) d M
+
     abbrev top : ℕ
     top = uid_number a.act
 
@@ -407,20 +437,60 @@ module _ (x : ℕ) (tops : Kinds) (unwalked : tops.walk ≡ None) (e k : ℕ) (d
           begun_both x tops unwalked e k d t A M both top v outs (preparing_of x tops A.world.disk top (let b = h.branch in b.kind) q.now p left h.top now works).begun leaves.1 leaves.0
           (answer_walk (only_begins top) (λ w y also now_then. subst (λ z. only_begins top (commit_note z top) ≡ true) (one_machine (Preparing p left) now w y also now_then) (test_same top)))
 
-      confirming : (p : commit.Plan) → q.now ≡ Committing (Confirming p) → Answered (Deciding top (root_retains x a.act p t.coord))
-      confirming p now = decisions_keep_both x tops e k d (Some t) v outs (λ z. z == top) (λ z. root_retains x a.act p t.coord) A M unwalked leaves.1 no_part mine both
-          (answer_walk (only_decides (λ z. z == top)) (λ w y also now_then. subst (λ z. only_decides (λ n. n == top) (commit_note z top) ≡ true) (one_machine (Confirming p) now w y also now_then) (test_same top)))
-        where
-          no_part : (z : ℕ) → (z == top) ≡ true → root_retains x a.act p t.coord ≡ false → HasNoPart A.world.disk z
-          no_part z same off =
-              let h = knows_it (Confirming p) now in
-              let works = (both.disks.coords k (record { number = k; disk = d; live = Some t }) t (node_here M k (record { number = k; disk = d; live = Some t })) refl).working a.act h.branch q h.found h.unended does in
-              let sees = confirming_of x tops A.world.disk top (let b = h.branch in b.kind) q.now p h.top now works in
-              let parts = or_parts (top_uses a.act x (root_at (root_of p.path) t.coord) t.coord) (has_part (plan_at x p)) off in
-              subst (HasNoPart A.world.disk) (sym (test_is z top same)) (sees.begun, ap has_part sees.plan ∙ parts.1)
+      no_part : (p : commit.Plan) → q.now ≡ Committing (Confirming p) → (z : ℕ) → (z == top) ≡ true → root_retains x a.act p t.coord ≡ false → HasNoPart A.world.disk z
+      no_part p now z same off =
+          let h = knows_it (Confirming p) now in
+          let works = (both.disks.coords k (record { number = k; disk = d; live = Some t }) t (node_here M k (record { number = k; disk = d; live = Some t })) refl).working a.act h.branch q h.found h.unended does in
+          let sees = confirming_of x tops A.world.disk top (let b = h.branch in b.kind) q.now p h.top now works in
+          let parts = or_parts (top_uses a.act x (root_at (root_of p.path) t.coord) t.coord) (has_part (plan_at x p)) off in
+          subst (HasNoPart A.world.disk) (sym (test_is z top same)) (sees.begun, ap has_part sees.plan ∙ parts.1)
 
-          mine : (o : Naming) → k ≡ 1 → v.naming ≡ Some o → SeesNaming x tops o A.world.disk A.names
-          mine o one is = both.names.memory (record { number = k; disk = d; live = Some t }) t o (ap (λ j. (up k d t M).nodes j) (sym one) ∙ node_here M k (record { number = k; disk = d; live = Some t })) refl (sym leaves.0 ∙ is)
+      naming_same : (o : Naming) → k ≡ 1 → v.naming ≡ Some o → SeesNaming x tops o A.world.disk A.names
+      naming_same o one is = both.names.memory (record { number = k; disk = d; live = Some t }) t o (ap (λ j. (up k d t M).nodes j) (sym one) ∙ node_here M k (record { number = k; disk = d; live = Some t })) refl (sym leaves.0 ∙ is)
+
+      confirming : (p : commit.Plan) → q.now ≡ Committing (Confirming p) → Answered (Deciding top (root_retains x a.act p t.coord))
+      confirming p now = decisions_keep_both x tops e k d (Some t) v outs (λ z. z == top) (λ z. root_retains x a.act p t.coord) A M unwalked leaves.1 (no_part p now) naming_same both
+          (answer_walk (only_decides (λ z. z == top)) (λ w y also now_then. subst (λ z. only_decides (λ n. n == top) (commit_note z top) ≡ true) (one_machine (Confirming p) now w y also now_then) (test_same top)))
+
+      -- wherever a stop falls there, nobody was decided
+      abbrev Followed : Kinds
+      Followed = followed tops A.world (only_decides (λ z. z == top))
+
+      abbrev Opened : Seen → Type 0
+      Opened = IsOpenByDisks x Followed A.world
+
+      said_so : ClaimsReply x A.world from a.act r
+      said_so = subst (λ o. ClaimsAnswered x tops A.world M.lines from k m o) it (subst (λ o. ClaimsAsked x tops A.world M.lines from k m o) none (both.disks.posts (record { from = from; to = k; message = m }) sent))
+
+      aborts_stop : (why : Cause) (p : commit.Plan) → Walks Opened e k (let did = moved_commit a.act (plainly (Aborts why p)) d.intents t.coord in did.outs) (λ c N. ⊤) d M
+      aborts_stop why p = never_stops Opened e k (let did = moved_commit a.act (plainly (Aborts why p)) d.intents t.coord in did.outs)
+          (let z = ended a.act ending.Abort t.coord in all_both is_no_work (says a.act (λ l. body.Aborted l why) t.coord) (tolds_of d.intents z a.act) (commit_says a.act (λ l. body.Aborted l why) t.coord) (tolds_work d.intents z a.act)) d M
+
+      answer_stops : (p : commit.Plan) → q.now ≡ Committing (Confirming p) → (s : Reply) → ClaimsReply x A.world from a.act s → Walks Opened e k (let did = moved_commit a.act (commit.answered from (Confirming p) s) d.intents t.coord in did.outs) (λ c N. ⊤) d M
+      answer_stops p now (Reply.Confirmed confirmed.Yes) claim =
+          let h = knows_it (Confirming p) now in
+          confirmed_stops x Followed e k d t from a.act p M
+          (record { branch = h.branch; found = h.found; unended = h.unended; doing = q; at_work = does; now = now; path = h.plan.actor_is; unrecorded = knows.coord.unrecorded a.act (ap is_open_branch h.found ∙ ap (λ o. is_open_branch (Some (record h.branch { ended = o }))) h.unended); changes = h.changes })
+          h.top (test_same top) A.world (walks_start x tops (only_decides (λ z. z == top)) A (up k d t M) both) claim
+      answer_stops p now (Reply.Confirmed (confirmed.Conflict holder mode)) claim = aborts_stop (cause.Conflict holder mode 1) p
+      answer_stops p now (Reply.Confirmed (confirmed.Changed w)) claim = aborts_stop (cause.Changed 1 (differs w)) p
+      answer_stops p now (Reply.Confirmed (confirmed.NoStores y)) claim = aborts_stop (cause.NoStores y) p
+      answer_stops p now (Reply.Confirmed (confirmed.Listed y s)) claim = aborts_stop (cause.Listed y s) p
+      answer_stops p now (Reply.Bound s) claim = tt
+      answer_stops p now (Reply.Loaded s) claim = tt
+      answer_stops p now (Reply.Activated s) claim = tt
+      answer_stops p now (Reply.Noted s) claim = tt
+      answer_stops p now (Reply.Invoked s) claim = tt
+      answer_stops p now (Reply.Voted s) claim = tt
+      answer_stops p now (Reply.Prepared s) claim = tt
+
+      confirming_stops : (p : commit.Plan) → q.now ≡ Committing (Confirming p) → coord_heard t (heard_now from a r d.intents t.coord (Committing (Confirming p))) ≡ Took v outs → Stopping (Deciding top (root_retains x a.act p t.coord))
+      confirming_stops p now g = decisions_stop (λ z. z == top) (λ z. root_retains x a.act p t.coord) A both.named (no_part p now) x tops unwalked e k d (Some t) v M naming_same both outs leaves.1 (by (waits_for_commit from a r (Confirming p)) g)
+        where
+          by : (b : Bool) → coord_heard t (if b then heard_by (moved_commit a.act (commit.answered from (Confirming p) r) d.intents t.coord) else heard_none t.coord) ≡ Took v outs → Walks Opened e k outs (λ c N. ⊤) d M
+          by false g = absurd (cc g)
+          by true g = let did = moved_commit a.act (commit.answered from (Confirming p) r) d.intents t.coord in
+              took_is x k tops e (λ w es. Walks Opened e k es (λ c N. ⊤) d M) (with_coord t did.part) did.outs v outs g (answer_stops p now r said_so)
 
       module _ (p : commit.Plan) (left : List ℕ) (now : q.now ≡ Committing (Voting p left)) where
         abbrev Took_by : Reply → Type 0
@@ -474,6 +544,20 @@ module _ (x : ℕ) (tops : Kinds) (unwalked : tops.walk ≡ None) (e k : ℕ) (d
       by_now (Committing (Voting p left)) is g = subst Answered (sym (decided ∙ ap (doing_change x a.act t.coord) does ∙ ap (now_change x a.act t.coord) is)) (voting p left is r g)
       by_now (Committing (Preparing p left)) is g = subst Answered (sym (decided ∙ ap (doing_change x a.act t.coord) does ∙ ap (now_change x a.act t.coord) is)) (preparing p left is)
       by_now (Committing (Confirming p)) is g = subst Answered (sym (decided ∙ ap (doing_change x a.act t.coord) does ∙ ap (now_change x a.act t.coord) is)) (confirming p is)
+
+      stops_now : (now : Now) → q.now ≡ now → coord_heard t (heard_now from a r d.intents t.coord now) ≡ Took v outs → IsCalm (change_by x d t m) ⊎ Stopping (change_by x d t m)
+      stops_now Idle is g = inl (subst IsCalm (sym (decided ∙ ap (doing_change x a.act t.coord) does ∙ ap (now_change x a.act t.coord) is)) tt)
+      stops_now (Calling s) is g = inl (subst IsCalm (sym (decided ∙ ap (doing_change x a.act t.coord) does ∙ ap (now_change x a.act t.coord) is)) tt)
+      stops_now (Committing (Voting p left)) is g = inl (subst IsCalm (sym (decided ∙ ap (doing_change x a.act t.coord) does ∙ ap (now_change x a.act t.coord) is)) tt)
+      stops_now (Committing (Preparing p left)) is g = inl (subst IsCalm (sym (decided ∙ ap (doing_change x a.act t.coord) does ∙ ap (now_change x a.act t.coord) is)) tt)
+      stops_now (Committing (Confirming p)) is g = inr (subst Stopping (sym (decided ∙ ap (doing_change x a.act t.coord) does ∙ ap (now_change x a.act t.coord) is)) (confirming_stops p is g))
+
+    stops_answer : IsCalm (change_by x d t m) ⊎ Stopping (change_by x d t m)
+    stops_answer = by (doing_of a.act t.coord) refl took
+      where
+        by : (o : Option Doing) → doing_of a.act t.coord ≡ o → coord_heard t (heard_doing from a r d.intents t.coord o) ≡ Took v outs → IsCalm (change_by x d t m) ⊎ Stopping (change_by x d t m)
+        by None is g = absurd (cc g)
+        by (Some q) is g = stops_now q is q.now refl g
 
     by_answer : Answered (change_by x d t m)
     by_answer = by (doing_of a.act t.coord) refl took
@@ -588,30 +672,26 @@ module _ (x : ℕ) (tops : Kinds) (unwalked : tops.walk ≡ None) (e k : ℕ) (d
   calmly : change_by x d t m ≡ Quietly → Calm → So
   calmly quiet walk = subst (λ o. Walks (IsSeenAfter o x tops A) e k outs (Up (IsSeenAfter o x tops A) k v) d M) (sym quiet) walk
 
-  -- nothing is decided
-  abbrev IsCalm : Change → Type 0
-  IsCalm Quietly = ⊤
-  IsCalm (Answering u r) = ⊤
-  IsCalm (Deciding u keeps) = ⊥
+  -- a Bind's answer decides nothing
+  module _ (h : Head) (y : ℕ) (include : Bool) (avoid : Binding) where
+    answer_calm : (o : Option BoundReply) → IsCalm (answer_change x y (top_of h.path) o)
+    answer_calm None = tt
+    answer_calm (Some r) = by (y == x)
+      where
+        by : (b : Bool) → IsCalm (if b then Answering (uid_number (top_of h.path)) r else Quietly)
+        by true = tt
+        by false = tt
+
+    bind_calm : (o : Option Naming) → IsCalm (bind_change x y include avoid h d o)
+    bind_calm None = tt
+    bind_calm (Some n) = answer_calm (let s = naming.bind h.path y include avoid d.names n in s.reply)
 
   -- a Bind's walk has no work on which a stop could fall
   bind_so : (h : Head) (y : ℕ) (include : Bool) (avoid : Binding) → asks m ≡ Some (h, ask.Bind y include avoid) → serve k d t from h (ask.Bind y include avoid) ≡ Took v outs → So
   bind_so h y include avoid it is = subst (λ o. Walks (IsSeenAfter o x tops A) e k outs (Up (IsSeenAfter o x tops A) k v) d M) (sym (ap (asked_change x d t m) it))
       (no_work e k M (IsSeenFrom x tops A) (IsSeenAfter (bind_change x y include avoid h d t.naming) x tops A) (λ c N. (B : Office) × OnlyMemory A B × SeesBoth x tops B (up k c v N) × Answered_so (bind_change x y include avoid h d t.naming) B)
-      (Up (IsSeenAfter (bind_change x y include avoid h d t.naming) x tops A) k v) d (λ L same s. turned (bind_change x y include avoid h d t.naming) (bind_calm t.naming) s) outs (bind_work h y include avoid is) M refl (by_bind h y include avoid it is))
+      (Up (IsSeenAfter (bind_change x y include avoid h d t.naming) x tops A) k v) d (λ L same s. turned (bind_change x y include avoid h d t.naming) (bind_calm h y include avoid t.naming) s) outs (bind_work h y include avoid is) M refl (by_bind h y include avoid it is))
     where
-      answer_calm : (o : Option BoundReply) → IsCalm (answer_change x y (top_of h.path) o)
-      answer_calm None = tt
-      answer_calm (Some r) = by (y == x)
-        where
-          by : (b : Bool) → IsCalm (if b then Answering (uid_number (top_of h.path)) r else Quietly)
-          by true = tt
-          by false = tt
-
-      bind_calm : (o : Option Naming) → IsCalm (bind_change x y include avoid h d o)
-      bind_calm None = tt
-      bind_calm (Some n) = answer_calm (let s = naming.bind h.path y include avoid d.names n in s.reply)
-
       turned : {N : Seen} (o : Change) → IsCalm o → (B : Office) × OnlyMemory A B × SeesBoth x tops B N × Answered_so o B → IsSeenAfter o x tops A N
       turned Quietly calm s = (s.0, s.1, s.2)
       turned (Answering u r) calm s = (s.0, (s.1, s.3), s.2)
@@ -638,5 +718,42 @@ module _ (x : ℕ) (tops : Kinds) (unwalked : tops.walk ≡ None) (e k : ℕ) (d
       by None none = by_answers none (answers m) refl
       by (Some a) it = asked_so a.0 a.1 it (sym (ap (handle_ask k d t from m) it) ∙ handled)
 
+  -- ---- where stops fall
+
+  abbrev Stopped_so : Type 0
+  Stopped_so = Walks (IsOpenAfter (change_by x d t m) x tops A) e k outs (λ c N. ⊤) d M
+
+  calm_stops : (o : Change) → IsCalm o → Walks (IsSeenAfter o x tops A) e k outs (Up (IsSeenAfter o x tops A) k v) d M → Walks (IsOpenAfter o x tops A) e k outs (λ c N. ⊤) d M
+  calm_stops Quietly calm walk = walks_to (IsSeenAfter Quietly x tops A) (IsOpenAfter Quietly x tops A) e k outs (Up (IsSeenAfter Quietly x tops A) k v) (λ c N. ⊤) d M (λ N s. (s.0, s.1, (let o = s.1 in o.tops), s.2)) (λ c N s. tt) walk
+  calm_stops (Answering u r) calm walk = walks_to (IsSeenAfter (Answering u r) x tops A) (IsOpenAfter (Answering u r) x tops A) e k outs (Up (IsSeenAfter (Answering u r) x tops A) k v) (λ c N. ⊤) d M (λ N s. (s.0, s.1, (let o = s.1.0 in o.tops), s.2)) (λ c N s. tt) walk
+  calm_stops (Deciding u keeps) calm walk = absurd calm
+
+  calmly_stops : IsCalm (change_by x d t m) → Stopped_so
+  calmly_stops calm = calm_stops (change_by x d t m) calm message_both
+
+  asks_calm : (h : Head) (a : Ask) → asks m ≡ Some (h, a) → IsCalm (change_by x d t m)
+  asks_calm h (ask.Bind y include avoid) it = subst IsCalm (sym (ap (asked_change x d t m) it)) (bind_calm h y include avoid t.naming)
+  asks_calm h (ask.Load y) it = subst IsCalm (sym (ap (asked_change x d t m) it)) tt
+  asks_calm h (ask.Activate b st) it = subst IsCalm (sym (ap (asked_change x d t m) it)) tt
+  asks_calm h (ask.Record y b i g0) it = subst IsCalm (sym (ap (asked_change x d t m) it)) tt
+  asks_calm h (ask.Invoke y b i ends op) it = subst IsCalm (sym (ap (asked_change x d t m) it)) tt
+  asks_calm h (ask.Vote i ties ends) it = subst IsCalm (sym (ap (asked_change x d t m) it)) tt
+  asks_calm h (ask.Prepare states) it = subst IsCalm (sym (ap (asked_change x d t m) it)) tt
+  asks_calm h (ask.Confirm grants excluded included) it = subst IsCalm (sym (ap (asked_change x d t m) it)) tt
+
+  pub message_stops : Stopped_so
+  message_stops = by (asks m) refl
+    where
+      by_answers : asks m ≡ None → (o : Option (Asked × Reply)) → answers m ≡ o → Stopped_so
+      by_answers none None also = calmly_stops (subst IsCalm (sym (ap (asked_change x d t m) none ∙ ap (reply_change x t.coord) also)) tt)
+      by_answers none (Some a) it = ⊎_elim (λ calm. calmly_stops calm) (λ stops. stops) (stops_answer a.0 a.1 it none (sym (ap (handle_answer k d t from m) it) ∙ (sym (ap (handle_ask k d t from m) none) ∙ handled)))
+
+      by : (o : Option (Head × Ask)) → asks m ≡ o → Stopped_so
+      by None none = by_answers none (answers m) refl
+      by (Some a) it = calmly_stops (asks_calm a.0 a.1 it)
+
 pub messages_keep_both : MessagesKeepBoth
 messages_keep_both x tops e k d t v from m outs A M unwalked knows sent counts may handled both = message_both x tops unwalked e k d t v from m outs A M knows sent counts may handled both
+
+pub messages_stop_open : MessagesStopOpen
+messages_stop_open x tops e k d t v from m outs A M unwalked knows sent counts may handled both = message_stops x tops unwalked e k d t v from m outs A M knows sent counts may handled both

@@ -1,6 +1,6 @@
 -- A node's restart, walked with both halves.
 use Rattle.std.proofs.Common.{◌≡◌, ◌⊎◌, ◌==◌, ◌&&◌, ◌+◌, ◌≤◌, arith, ℕ, List, [], ◌∷◌, ◌++◌, map, Bool, true, false, Option, Some, None, refl, sym, ◌∙◌, ap, subst, inl, inr, ⊎_elim}
-use Rattle.std.specs.Prelude.{if◌then◌else◌}
+use Rattle.std.specs.Prelude.{⊤, if◌then◌else◌}
 use Rattle.arj_protocol.specs.Words.{Uid, Header}
 use Rattle.arj_protocol.specs.Words.body
 use Rattle.arj_protocol.specs.Confirm.{recovered_naming}
@@ -25,12 +25,13 @@ use Rattle.arj_view_law.specs.Walks.{Walks, Up, halted}
 use Rattle.arj_view_law.proofs.Together.{walks_to}
 use Rattle.arj_disk_view_law.specs.Sees.{IsSeenByDisks, Kinds, followed}
 use Rattle.arj_disk_view_law.proofs.Frames.{node_cases, node_here, says_seen}
-use Rattle.arj_disk_view_law.proofs.RestartWalks.{back_says, map_says, raised}
-use Rattle.arj_names_view_law.specs.Both.{IsFrom, IsSeenAgain, IsSeenIn, OnlyAtNode, OnlyRoots, RestartsKeepBoth, SeesBoth, SeesNames, leaves_the_inc}
+use Rattle.arj_disk_view_law.proofs.RestartWalks.{back_says, map_says, raised, restarts_stop}
+use Rattle.arj_names_view_law.specs.Both.{IsFrom, IsOpenAgain, IsOpenByDisks, IsOpenIn, IsSeenAgain, IsSeenIn, OnlyAtNode, OnlyRoots, RestartsKeepBoth, RestartsStopOpen, SeesBoth, SeesNames, leaves_the_inc}
 use Rattle.arj_names_view_law.specs.Memory.{SeesNaming}
 use Rattle.arj_names_view_law.specs.Restarts.{AreEntries, has_prepared}
-use Rattle.arj_names_view_law.proofs.CoordBoth.{decisions_keep_both, stops}
+use Rattle.arj_names_view_law.proofs.CoordBoth.{decisions_keep_both, decisions_stop, stops, stops_same}
 use Rattle.arj_names_view_law.proofs.NamingWalks.{queries_leave, says_leave}
+use Rattle.arj_names_view_law.proofs.StepsBoth.{walks_start}
 use Rattle.arj_names_view_law.proofs.RestartActs.{restarts_are_acts}
 
 -- of naming's half this has changed since before the restart
@@ -204,5 +205,40 @@ module _ (x : ℕ) (tops : Kinds) (unwalked : tops.walk ≡ None) (e k : ℕ) (h
     ),
   )
 
+  -- ---- where stops fall
+
+  abbrev Openly : Seen → Type 0
+  Openly = IsOpenByDisks x (followed tops A.world (only_decides g)) A.world
+
+  early_open : Openly (halted e k d M) → IsOpenAgain g x tops A (halted e k d M)
+  early_open p = let r = stops_same g (λ t. true) A both.named (λ t on off. absurd (never refl off)) x tops unwalked e k d None Nobody M (no_naming A.names) both d M refl refl p in (r.0, record { only = again g A A.names refl refl refl r.0 r.1.only; from = from_again g A A.names refl r.0 (let o = r.1.only in o.from); along = r.1.along; inc = (memory_on A.names r.0 r.1.only (omega arith) (λ same t on. on)).0; confd = (memory_on A.names r.0 r.1.only (omega arith) (λ same t on. on)).1 }, r.2, r.3)
+
+  late_open : Openly (halted e k d1 M) → IsOpenAgain g x tops A (halted e k d1 M)
+  late_open p = let r = stops_same g (λ t. true) Now_office risen.named (λ t on off. absurd (never refl off)) x tops unwalked e k d1 None Nobody M (no_naming risen.names) both_risen d1 M refl refl p in (r.0, record { only = again g A risen.names risen.had risen.kept risen.answers r.0 r.1.only; from = from_again g A risen.names risen.had r.0 (let o = r.1.only in o.from); along = r.1.along; inc = (memory_on risen.names r.0 r.1.only risen.inc risen.confd).0; confd = (memory_on risen.names r.0 r.1.only risen.inc risen.confd).1 }, r.2, r.3)
+
+  looks_open : (how : Stop) → Openly (halted e k (stopped how Look d) M) → IsOpenAgain g x tops A (halted e k (stopped how Look d) M)
+  looks_open Before p = early_open p
+  looks_open After p = early_open p
+  looks_open (InPart which) p = early_open p
+
+  rises_open : (how : Stop) → Openly (halted e k (stopped how (PutInc (d.inc + 1)) d) M) → IsOpenAgain g x tops A (halted e k (stopped how (PutInc (d.inc + 1)) d) M)
+  rises_open Before p = early_open p
+  rises_open After p = late_open p
+  rises_open (InPart which) p = early_open p
+
+  pub restart_open : Walks Openly e k (restart_outs hd k (d.inc + 1) d) (λ c N. ⊤) d M → Walks (IsOpenAgain g x tops A) e k (restart_outs hd k (d.inc + 1) d) (λ c N. ⊤) d M
+  restart_open walk = (
+    λ how. looks_open how (walk.0 how),
+    (
+      λ how. rises_open how (walk.1.0 how),
+      walks_to (IsOpenIn g (λ t. true) x tops Now_office) (IsOpenAgain g x tops A) e k Rest (λ c N. ⊤) (λ c N. ⊤) d1 (said e (body.Up k (d.inc + 1) ∷ []) M)
+          (λ N r. (r.0, record { only = again g A risen.names risen.had risen.kept risen.answers r.0 r.1.only; from = from_again g A risen.names risen.had r.0 (let o = r.1.only in o.from); along = r.1.along; inc = (memory_on risen.names r.0 r.1.only risen.inc risen.confd).0; confd = (memory_on risen.names r.0 r.1.only risen.inc risen.confd).1 }, r.2, r.3)) (λ c N s. tt)
+          (decisions_stop g (λ t. true) Now_office both_said.named (λ t on off. absurd (never refl off)) x tops unwalked e k d1 None (parts_in k (d.inc + 1) d) (said e (body.Up k (d.inc + 1) ∷ []) M) risen.memory both_said Rest rest_leaves walk.1.1),
+    ),
+  )
+
 pub restarts_keep_both : RestartsKeepBoth
 restarts_keep_both x tops e k hd d g A M unwalked entries both walk = restart_both x tops unwalked e k hd d g A M entries both walk
+
+pub restarts_stop_open : RestartsStopOpen
+restarts_stop_open x tops e k hd d g A M unwalked entries both = restart_open x tops unwalked e k hd d g A M entries both (restarts_stop x (followed tops A.world (only_decides g)) e k hd d M A.world (walks_start x tops (only_decides g) A (down k d M) both))

@@ -1,5 +1,5 @@
 -- Both halves of an object's machine in what is seen, of one state: stores, entry and coordinators, and naming's memory.
-use Rattle.std.specs.Prelude.{◌≡◌, ◌⊎◌, ◌+◌, ◌==◌, ◌≤◌, ◌||◌, not, ℕ, Bool, true, false, List, [], ◌∷◌, Option, Some, None, is_some}
+use Rattle.std.specs.Prelude.{⊤, ◌≡◌, ◌⊎◌, ◌+◌, ◌==◌, ◌≤◌, ◌||◌, not, ℕ, Bool, true, false, List, [], ◌∷◌, Option, Some, None, is_some}
 use Rattle.arj_protocol.specs.Words.{Uid, Binding, Body, BoundReply, End, Head, Header, Label, ObjectState, is_on, object}
 use Rattle.arj_protocol.specs.Words.ask
 use Rattle.arj_protocol.specs.Words.ending
@@ -243,6 +243,14 @@ pub record OnlyDecided (g keeps : ℕ → Bool) (A B : Office) : Type 0 where
 abbrev pub IsSeenIn : (ℕ → Bool) → (ℕ → Bool) → ℕ → Kinds → Office → Seen → Type 0
 IsSeenIn g keeps x tops A M = (B : Office) × OnlyDecided g keeps A B × SeesBoth x tops B M
 
+-- the disk half is seen, and who is decided there was so before
+abbrev pub IsOpenByDisks : ℕ → Kinds → World → Seen → Type 0
+IsOpenByDisks x tops V M = (W : World) × (W.disk.tops ≡ V.disk.tops) × SeesDisks x tops W M
+
+-- so it is of both halves, where some may be decided behind that
+abbrev pub IsOpenIn : (ℕ → Bool) → (ℕ → Bool) → ℕ → Kinds → Office → Seen → Type 0
+IsOpenIn g keeps x tops A M = (B : Office) × OnlyDecided g keeps A B × (B.world.disk.tops ≡ A.world.disk.tops) × SeesBoth x tops B M
+
 -- A node decides some of these tops, or ends their commits without a record, and naming's memory is as it was. The root of each
 -- retains what the top has, or doesn't where the top has no part in the object.
 abbrev pub DecisionsKeepBoth : Type 0
@@ -289,6 +297,10 @@ pub record OnlyFound (g : ℕ → Bool) (A B : Office) : Type 0 where
 -- some half that only found decisions is seen
 abbrev pub IsSeenAgain : (ℕ → Bool) → ℕ → Kinds → Office → Seen → Type 0
 IsSeenAgain g x tops A M = (B : Office) × OnlyFound g A B × SeesBoth x tops B M
+
+-- and who is decided was so before
+abbrev pub IsOpenAgain : (ℕ → Bool) → ℕ → Kinds → Office → Seen → Type 0
+IsOpenAgain g x tops A M = (B : Office) × OnlyFound g A B × (B.world.disk.tops ≡ A.world.disk.tops) × SeesBoth x tops B M
 
 -- A node restarts, which decides some of these tops; at naming what is held is held under the names of entries.
 abbrev pub RestartsKeepBoth : Type 0
@@ -356,3 +368,10 @@ CallsKeepBoth = (x g : ℕ) (tops : Kinds) (e k : ℕ) (d : Disk) (t v : Parts) 
     → ((C : Office) (z : Disk) (N : Seen) → HasGoneOn A C → SeesDisks x tops C.world (up k z v N) → C.world.disk.stage (uid_number top) ≡ Idle) → In (Bound (uid_number top) g false known.stores) A.names.answers
     → SeesGrants x root c r A.world.disk A.names → SeesLists x tops root c r A.names → IsLasting x c r → IsTopOf tops root top → tops.root (uid_number root) ≡ uid_number root → IsNamedNow x c r g known free → AfterAnswer x g top known at free r q → StaysRetained x c r c q
     → SeesBoth x tops A (up k d t M) → DisksWalk (λ n. false) x tops A e k outs v d M → Walks (IsSeenFrom x tops A) e k outs (IsAnswered x tops k v A (λ D. SeesGrants x root c q D.world.disk D.names × SeesLists x tops root c q D.names × OnlyAtNode (λ n. n == uid_number top) A D)) d M
+
+-- ---- where stops fall
+
+-- Wherever a stop falls on a restart, who is decided was so before.
+abbrev pub RestartsStopOpen : Type 0
+RestartsStopOpen = (x : ℕ) (tops : Kinds) (e k : ℕ) (hd : Header) (d : Disk) (g : ℕ → Bool) (A : Office) (M : Seen) → tops.walk ≡ None → (k ≡ 1 → AreEntries d.names) → SeesBoth x tops A (down k d M)
+    → Walks (IsOpenAgain g x tops A) e k (restart_outs hd k (d.inc + 1) d) (λ c N. ⊤) d M

@@ -1,5 +1,5 @@
 -- Whole handlers from where both halves are seen: a message, an input about an action, an action that begins, a tick.
-use Rattle.std.specs.Prelude.{◌≡◌, ◌==◌, ◌||◌, ℕ, Bool, true, false, List, Option, Some, None, is_some, if◌then◌else◌}
+use Rattle.std.specs.Prelude.{⊤, ◌≡◌, ◌==◌, ◌||◌, ℕ, Bool, true, false, List, Option, Some, None, is_some, if◌then◌else◌}
 use Rattle.arj_protocol.specs.Words.{Uid, Asked, Binding, BoundReply, Head, Ask, Header, Kind, Label, Message, asks}
 use Rattle.arj_protocol.specs.Words.ask
 use Rattle.arj_protocol.specs.Ask.{Reply, answers, top_of}
@@ -131,6 +131,10 @@ BeginsLater x A u p = (C : Office) → Named C → C.names ≡ A.names → IsLat
 abbrev pub MayGoOn : ℕ → Office → Coord → Type 0
 MayGoOn x A c = (u : Uid) (q : Doing) (m : Machine) → doing_of u c ≡ Some q → q.now ≡ Committing m → is_voting m ≡ false → BeginsLater x A u (plan_of m)
 
+-- and who is decided was so before
+abbrev pub IsOpenAfter : Change → ℕ → Kinds → Office → Seen → Type 0
+IsOpenAfter o x tops A M = (B : Office) × Changes o A B × (B.world.disk.tops ≡ A.world.disk.tops) × SeesBoth x tops B M
+
 -- ---- handlers
 
 -- A message that was sent is taken, whichever it is.
@@ -138,6 +142,12 @@ abbrev pub MessagesKeepBoth : Type 0
 MessagesKeepBoth = (x : ℕ) (tops : Kinds) (e k : ℕ) (d : Disk) (t v : Parts) (from : ℕ) (m : Message) (outs : List Effect) (A : Office) (M : Seen) → tops.walk ≡ None → KnowsNode tops k d t M → In (record { from = from; to = k; message = m }) M.sent
     → ((n : Naming) → t.naming ≡ Some n → CountsOn x tops d n m A) → MayGoOn x A v.coord → handle k d t from m ≡ Took v outs → SeesBoth x tops A (up k d t M)
     → Walks (IsSeenAfter (change_by x d t m) x tops A) e k outs (Up (IsSeenAfter (change_by x d t m) x tops A) k v) d M
+
+-- Wherever a stop falls on it, who is decided was so before.
+abbrev pub MessagesStopOpen : Type 0
+MessagesStopOpen = (x : ℕ) (tops : Kinds) (e k : ℕ) (d : Disk) (t v : Parts) (from : ℕ) (m : Message) (outs : List Effect) (A : Office) (M : Seen) → tops.walk ≡ None → KnowsNode tops k d t M → In (record { from = from; to = k; message = m }) M.sent
+    → ((n : Naming) → t.naming ≡ Some n → CountsOn x tops d n m A) → MayGoOn x A v.coord → handle k d t from m ≡ Took v outs → SeesBoth x tops A (up k d t M)
+    → Walks (IsOpenAfter (change_by x d t m) x tops A) e k outs (λ c N. ⊤) d M
 
 -- a coordinator's part of a step
 abbrev pub DidKeepsBoth : ℕ → Kinds → Office → ℕ → ℕ → Disk → Parts → Did Coord → Seen → Type 0

@@ -1,13 +1,13 @@
 // Both halves, walked together.
-ghost use Rattle.arj_names_view_law.specs.Both.{BeginningsKeepBoth, BindsKeepBoth, CallsKeepBoth, ConfirmsKeepBoth, DecisionsKeepBoth, FormatsHaveBoth, HellosKeepBoth, LabelsKeepBoth, LinesKeepBoth, LoadsKeepBoth, NotesKeepBoth, OtherEndsKeepBoth, OtherRootsStay, QuietWalksKeepBoth, RestartsKeepBoth, RootsStay, StopsKeepBoth, TopEndsKeepBoth, WalksStart};
+ghost use Rattle.arj_names_view_law.specs.Both.{BeginningsKeepBoth, BindsKeepBoth, CallsKeepBoth, ConfirmsKeepBoth, DecisionsKeepBoth, FormatsHaveBoth, HellosKeepBoth, LabelsKeepBoth, LinesKeepBoth, LoadsKeepBoth, NotesKeepBoth, OtherEndsKeepBoth, OtherRootsStay, QuietWalksKeepBoth, RestartsKeepBoth, RestartsStopOpen, RootsStay, StopsKeepBoth, TopEndsKeepBoth, WalksStart};
 ghost use Rattle.arj_names_view_law.specs.Steps.{ActionsAreFollowed, InputsAreFollowed, MessagesAreFollowed, RestartsAreFollowed, TicksAreFollowed};
 
 /// A walk that keeps the disk half keeps naming's half beside it, of one state of the machine, wherever a stop falls: where
 /// naming has no part in it and its memory is as it was; and where naming takes a Bind, a Record, a Confirm, the end of an
 /// action, or the word that a node is up again. Of naming's half nothing but naming's memory changes. So it is where a
 /// coordinator decides tops, which changes grants and lists of their roots alone; where a commit begins that may; where a
-/// store answers a Load, and a coordinator takes naming's answer to a call, by acts behind the walk; and where a node restarts.
-/// It does nothing when it runs.
+/// store answers a Load, and a coordinator takes naming's answer to a call, by acts behind the walk; and where a node restarts,
+/// which decides nobody where a stop falls on it (`stops`). It does nothing when it runs.
 pub fn walks_keep_both()
     ensures quiet { QuietWalksKeepBoth }
     ensures binds { BindsKeepBoth }
@@ -21,6 +21,7 @@ pub fn walks_keep_both()
     ensures loads { LoadsKeepBoth }
     ensures calls { CallsKeepBoth }
     ensures restarts { RestartsKeepBoth }
+    ensures stops { RestartsStopOpen }
 {}
 
 /// A walk may be followed from wherever both halves are seen; and both are seen still when lines are said that keep the disk

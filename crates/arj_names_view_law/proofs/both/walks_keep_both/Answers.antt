@@ -2,7 +2,7 @@ use Rattle.arj_names_view_law.proofs.CoordBoth.{beginnings_keep_both, calls_keep
 use Rattle.arj_names_view_law.proofs.ConfirmBoth.{confirms_keep_both}
 use Rattle.arj_names_view_law.proofs.NamingWalks.{binds_keep_both, hellos_keep_both, notes_keep_both}
 use Rattle.arj_names_view_law.proofs.Pairing.{quiet_walks_keep_both}
-use Rattle.arj_names_view_law.proofs.RestartBoth.{restarts_keep_both}
+use Rattle.arj_names_view_law.proofs.RestartBoth.{restarts_keep_both, restarts_stop_open}
 use Rattle.arj_names_view_law.proofs.ToldBoth.{other_ends_keep_both, top_ends_keep_both}
 use Rattle.arj_names_view_law.proofs.both.walks_keep_both.Goals as goal
 
@@ -41,3 +41,6 @@ returns-clause-loads c = loads_keep_both
 
 pub returns-clause-calls : goal.returns-clause-calls
 returns-clause-calls c = calls_keep_both
+
+pub returns-clause-stops : goal.returns-clause-stops
+returns-clause-stops c = restarts_stop_open

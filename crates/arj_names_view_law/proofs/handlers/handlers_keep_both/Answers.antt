@@ -1,5 +1,5 @@
 use Rattle.arj_names_view_law.proofs.InputBoth.{inputs_keep_both}
-use Rattle.arj_names_view_law.proofs.MessageBoth.{messages_keep_both}
+use Rattle.arj_names_view_law.proofs.MessageBoth.{messages_keep_both, messages_stop_open}
 use Rattle.arj_names_view_law.proofs.StepsKept.{actions_keep_both, ticks_keep_both}
 use Rattle.arj_names_view_law.proofs.handlers.handlers_keep_both.Goals as goal
 
@@ -14,3 +14,6 @@ returns-clause-inputs c = inputs_keep_both
 
 pub returns-clause-messages : goal.returns-clause-messages
 returns-clause-messages c = messages_keep_both
+
+pub returns-clause-stops : goal.returns-clause-stops
+returns-clause-stops c = messages_stop_open
