@@ -35,8 +35,8 @@ abbrev pub MayExclude : State → Names → ℕ → Type 0
 MayExclude S N t = (s : ℕ) → target (S.plan t) s ≡ true → S.got t s ≡ false
     → (has s S.entry.content ≡ true) ⊎ ((h : Hold) × (S.entry_pend ≡ Some h) × (has s h.new.content ≡ true)) → HasRow N t 1
 
--- A commit begins: none of its root's outcomes is open; what it wrote is by a new writer; its list has each store of the kept one, as long as its grants are of the present incarnation; what it includes was loaded, or
--- its root has it newer.
+-- A commit begins: none of its root's outcomes is open; what it wrote is by a new writer; its list has each store of the kept one, as long as
+-- its grants are of the present incarnation; what it includes was loaded, or its root has it newer.
 pub record MayBegin (A : Office) (t : ℕ) (p : Plan) : Type 0 where
   pub idle : A.world.disk.stage t ≡ Idle
   pub root : is_gone (A.world.disk.stage (A.world.disk.root t)) ≡ false

@@ -1,13 +1,10 @@
 -- At a message: the ends that come with it raise copies to what was planned, and a Yes is sent by a server only.
 use Rattle.std.proofs.Common.{false, ◌≡◌, ◌∙◌, ℕ, List, [], ◌∷◌, true, Option, None, Some, refl, sym, inl, inr}
-use Rattle.std.specs.Prelude.{⊤}
 use Rattle.std.specs.List.{AllByRecursion}
 use Rattle.arj_lock.proofs.Members as list
-use Rattle.arj_protocol.specs.Words.{Ask, Asked, Binding, Head, Message, ObjectState, Uid, asks}
+use Rattle.arj_protocol.specs.Words.{Ask, Binding, Head, Message, Uid, asks}
 use Rattle.arj_protocol.specs.Words.ask
 use Rattle.arj_protocol.specs.Words.message
-use Rattle.arj_protocol.specs.Words.voted
-use Rattle.arj_protocol.specs.Ask.{Reply, answers}
 use Rattle.arj_protocol.specs.Copy.{Base}
 use Rattle.arj_protocol.specs.Order.{binding_number}
 use Rattle.arj_protocol.specs.Coord.{Coord}

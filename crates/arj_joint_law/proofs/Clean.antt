@@ -1,5 +1,5 @@
 -- Files are clean after each run, by both machines of each object, with what is named.
-use Rattle.std.proofs.Common.{Contains, ◌≡◌, ◌⊎◌, ◌<◌, ◌≤◌, ◌==◌, ◌&&◌, ◌||◌, ℕ, Bool, not, cond, false, eqb-true, eq-eqb, List, [], ◌∷◌, ◌++◌, length, true, is_some, refl, subst, inl, inr, ⊎_elim, filter, ap, sym, ◌∙◌, Option, Some, None}
+use Rattle.std.proofs.Common.{Contains, ◌≡◌, ◌⊎◌, ◌<◌, ◌≤◌, ◌==◌, ◌&&◌, ◌||◌, ℕ, Bool, not, cond, false, eqb-true, eq-eqb, List, [], ◌∷◌, length, true, is_some, refl, subst, inl, inr, ⊎_elim, filter, ap, sym, ◌∙◌, Option, Some, None}
 use Rattle.arj_journal.specs.ScriptForm.{HeaderInForm}
 use Rattle.arj_lock.proofs.Members.{In, in_find_none, in_from, in_to}
 use Rattle.arj_model.specs.Actions.{Act, acts}
@@ -43,7 +43,6 @@ use Rattle.arj_serial_law.proofs.Including.{are_decided}
 use Rattle.arj_serial_law.proofs.Shown.{files_clean}
 use Rattle.arj_serial_law.proofs.Ties.{Ties, ties_of}
 use Rattle.arj_joint_law.specs.Cleaned.{AreLockTied, AreNamed, DecideSo, OthersAreIdle, RunsAreClean, WholeRunsAreClean, disk_of, is_one_of, number_of}
-use Rattle.arj_disk_run_law.specs.Decided.{AreOnce}
 use Rattle.arj_joint_law.specs.Includers.{IncludersTakeTurns, JoinersAreNewestFirst, TakesTurnsSo}
 use Rattle.arj_joint_law.specs.Ordered.{AreTurnsOf, IsOrderedSo}
 use Rattle.arj_joint_law.specs.Shown.{FilesAre, IncludesAreThere}

@@ -1,12 +1,10 @@
 -- What stands in a front of a journal is read of it.
-use Rattle.std.proofs.Common.{◌≡◌, ◌<◌, ◌++◌, ◌+◌, ℕ, List, [], ◌∷◌, true, length, Option, refl, sym, ◌∙◌, ap, subst, arith}
+use Rattle.std.proofs.Common.{◌≡◌, ◌<◌, ◌++◌, ℕ, List, [], ◌∷◌, true, length, Option, refl, sym, ◌∙◌, ap, subst, arith}
 use Rattle.std.specs.Prelude.{take}
 use Rattle.arj_base.specs.Rows.{is_on}
 use Rattle.arj_lock.proofs.Members as list
 use Rattle.arj_model.specs.Actions.{Act, Placed, acts, acts_after, acts_from, read}
 use Rattle.arj_protocol.specs.Words.{Body, Line}
-use Rattle.arj_protocol.specs.Words.body
-use Rattle.arj_protocol.specs.World.{journal}
 use Rattle.arj_line_law.specs.Book.{book, new_book}
 use Rattle.arj_line_law.specs.Laws.{called, called_of}
 use Rattle.arj_line_law.specs.Right.{AreRight}

@@ -1,5 +1,5 @@
 -- Where a top that counts is about to be decided, each other one at its commit won't count, or uses nothing of the object that conflicts with it.
-use Rattle.std.proofs.Common.{◌≡◌, ◌≢◌, ◌⊎◌, ◌≤◌, ◌<◌, ◌+◌, ◌==◌, ◌&&◌, ◌||◌, ◌∙◌, not, ℕ, zero, suc, Bool, true, false, List, [], ◌∷◌, Option, Some, None, is_some, ap, arith, inl, inr, refl, subst, sym, ⊎_elim}
+use Rattle.std.proofs.Common.{◌≡◌, ◌≢◌, ◌⊎◌, ◌≤◌, ◌<◌, ◌==◌, ◌&&◌, ◌||◌, ◌∙◌, not, ℕ, zero, suc, true, false, List, [], ◌∷◌, Option, Some, None, is_some, ap, arith, inl, inr, refl, subst, sym, ⊎_elim}
 use Rattle.arj_protocol.specs.Words.{Kind, Line, ObjectState, Uid}
 use Rattle.arj_protocol.specs.Words.kind
 use Rattle.arj_protocol.specs.Commit as commit
@@ -18,19 +18,17 @@ use Rattle.arj_disk_law.specs.Guards.{HasRow, IsGranted, IsPresent, IsUntold}
 use Rattle.arj_disk_law.specs.Named.{Named}
 use Rattle.arj_disk_law.specs.Names.{Loaded, Names, Office}
 use Rattle.arj_disk_law.specs.State.{Hold, Idle, Packed, State, decided, is_gone, is_idle, is_open, undecided}
-use Rattle.arj_disk_law.specs.State as disk
 use Rattle.arj_disk_law.specs.Words.{has}
 use Rattle.arj_disk_law.proofs.Base.{bool_cases, falls_to, never, or_left, or_right, some_is, test_same}
 use Rattle.arj_disk_law.proofs.Kin.{Kin, kin_granted, near, not_over, open_untold}
 use Rattle.arj_view_law.specs.Seen.{Seen}
 use Rattle.arj_disk_view_law.specs.Deciding.{SeesRecords, nodes_of}
-use Rattle.arj_disk_view_law.specs.Plans.{plan_at, used_at}
+use Rattle.arj_disk_view_law.specs.Plans.{used_at}
 use Rattle.arj_disk_view_law.specs.Sees.{Kinds, SeesCoord, Works, WorksBy}
 use Rattle.arj_names_view_law.specs.Both.{SeesBoth}
 use Rattle.arj_names_view_law.specs.Loads.{HasLoaded}
-use Rattle.arj_disk_run_law.specs.Heard.{IsHadBy, IsListFor, SeesHeard, SeesPlan}
+use Rattle.arj_disk_run_law.specs.Heard.{IsHadBy, SeesHeard, SeesPlan}
 use Rattle.arj_run_law.specs.Worlds.{IsGood, IsMemory}
-use Rattle.arj_joint_law.specs.Includers.{IncludesNone}
 use Rattle.arj_joint_law.specs.Joined.{IsRecordedAt}
 use Rattle.arj_joint_law.proofs.JoinTurns.{IsFine, IsStale, Settled, UsesNone, changes_nothing, counts_on_old, includes_none, root_is_gone}
 

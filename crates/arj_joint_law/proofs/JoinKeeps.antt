@@ -1,25 +1,24 @@
 -- Each handler keeps what keeps tops from counting beside a decided one that conflicts with them.
-use Rattle.std.proofs.Common.{◌≡◌, ◌≢◌, ◌⊎◌, ◌==◌, ◌++◌, ◌∙◌, ◌+◌, ◌&&◌, ◌||◌, not, ℕ, zero, suc, Bool, true, false, List, [], ◌∷◌, Option, Some, None, is_some, ap, cond, eq-eqb, eqb-true, inl, inr, refl, subst, sym, ⊎_elim}
+use Rattle.std.proofs.Common.{◌≡◌, ◌≢◌, ◌⊎◌, ◌==◌, ◌∙◌, ◌+◌, ◌&&◌, ◌||◌, not, ℕ, zero, suc, Bool, true, false, List, [], ◌∷◌, Option, Some, None, is_some, ap, cond, eq-eqb, eqb-true, inl, inr, refl, subst, sym, ⊎_elim}
 use Rattle.std.proofs.lemmas.Bool.{and_parts}
 use Rattle.arj_base.specs.Rows.{is_on}
 use Rattle.arj_lock.proofs.Members as list
-use Rattle.arj_protocol.specs.Words.{Asked, Body, Header, Kind, Label, Line, Message, Uid}
-use Rattle.arj_protocol.specs.Ask.{Reply, actor}
-use Rattle.arj_protocol.specs.Asking.{again_all, begin_action, heard, last_req}
-use Rattle.arj_protocol.specs.Commit as commit
+use Rattle.arj_protocol.specs.Words.{Body, Header, Kind, Label, Message, Uid}
+use Rattle.arj_protocol.specs.Ask.{actor}
+use Rattle.arj_protocol.specs.Asking.{again_all, begin_action, last_req}
 use Rattle.arj_protocol.specs.Commit.{Confirming, Machine, Used, plan_of}
 use Rattle.arj_protocol.specs.Coord.{Calling, Committing, Coord, Doing, Idle, Now, doing_of, plan_for, root_at}
 use Rattle.arj_protocol.specs.Effect.{Disk, Effect, Intent}
 use Rattle.arj_protocol.specs.Follow.{tick_outs}
 use Rattle.arj_protocol.specs.Node.{Parts, Took, handle, with_coord}
-use Rattle.arj_protocol.specs.Order.{at_uid, uid_number}
+use Rattle.arj_protocol.specs.Order.{uid_number}
 use Rattle.arj_protocol.specs.Step as input
 use Rattle.arj_protocol.specs.Step.{Input, Node, acts, branch_named, commit_reasons, first_disk, is_committing_now, parent_of, parts_in, refusal_up, refused_by, restart_outs, waits_above, waits_below}
 use Rattle.arj_protocol.specs.Tree.{Branch, at_place, branch_of, is_own, root_of}
 use Rattle.arj_protocol.specs.World.{format, is_serial_kind, numbered}
 use Rattle.arj_protocol.proofs.Numbers.{number_tells}
 use Rattle.arj_part_law.specs.Actions.{AreBegun, paths_of}
-use Rattle.arj_part_law.specs.Coords.{IsCommitting, IsGoodCoord}
+use Rattle.arj_part_law.specs.Coords.{IsGoodCoord}
 use Rattle.arj_part_law.proofs.Begun.{begun_tree, path_found}
 use Rattle.arj_part_law.proofs.CoordInputs.{named_found, off}
 use Rattle.arj_part_law.proofs.Keys.{in_at}
@@ -28,8 +27,7 @@ use Rattle.arj_disk_law.specs.Effects as machine
 use Rattle.arj_disk_law.specs.Effects.{World}
 use Rattle.arj_disk_law.specs.Guards.{only_decides}
 use Rattle.arj_disk_law.specs.Names.{Office}
-use Rattle.arj_disk_law.specs.State.{Done, State, decided, is_gone, is_open, undecided}
-use Rattle.arj_disk_law.specs.State as disk
+use Rattle.arj_disk_law.specs.State.{State, decided, is_gone, is_open, undecided}
 use Rattle.arj_disk_law.specs.Words.{In}
 use Rattle.arj_disk_law.proofs.Base.{falls_to, never, or_cases, or_right, some_is}
 use Rattle.arj_view_law.specs.Keeps.{is_act}
@@ -39,33 +37,33 @@ use Rattle.arj_view_law.proofs.Together.{walks_both, walks_to}
 use Rattle.arj_disk_view_law.specs.Asking.{SeesConfirming}
 use Rattle.arj_disk_view_law.specs.Coordinating.{KnowsNode}
 use Rattle.arj_disk_view_law.specs.Deciding.{SeesRecords, nodes_of}
-use Rattle.arj_disk_view_law.specs.Knows.{CommitsAt, KnowsKinds, KnowsMachine}
-use Rattle.arj_disk_view_law.specs.Sees.{Along, Kinds, SeesCoord, SeesDisks}
+use Rattle.arj_disk_view_law.specs.Knows.{KnowsKinds, KnowsMachine}
+use Rattle.arj_disk_view_law.specs.Sees.{Along, Kinds, SeesCoord}
 use Rattle.arj_disk_view_law.proofs.DecideWalks.{confirming_of}
 use Rattle.arj_disk_view_law.proofs.FirstSeen.{first_at}
 use Rattle.arj_disk_view_law.proofs.Frames.{node_here}
-use Rattle.arj_names_view_law.specs.Both.{OnlyAnswers, OnlyFound, SeesBoth}
+use Rattle.arj_names_view_law.specs.Both.{OnlyFound, SeesBoth}
 use Rattle.arj_names_view_law.specs.Handlers.{Answering, Change, Changes, Deciding, Quietly, change_by}
 use Rattle.arj_names_view_law.proofs.Onward.{none_confirmed}
 use Rattle.arj_disk_run_law.specs.Decided.{SeesDecided}
 use Rattle.arj_disk_run_law.specs.Heard.{SeesHeard, SeesPlan}
 use Rattle.arj_disk_run_law.specs.Part.{KeepsPart, are_recorded}
-use Rattle.arj_disk_run_law.proofs.Grows.{called_there, effects_grow, found_there, quietly, who_decides}
+use Rattle.arj_disk_run_law.proofs.Grows.{called_there, effects_grow, quietly, who_decides}
 use Rattle.arj_disk_run_law.proofs.RecordWalks.{restart_plain}
 use Rattle.arj_run_law.specs.Worlds.{IsGood, IsMemory}
 use Rattle.arj_line_law.specs.Book.{book}
 use Rattle.arj_line_law.specs.Knows.{IsKept, KnowsUp}
 use Rattle.arj_disk_line_law.proofs.Steps.{IsNear, IsStep, near_same, nothing_more, step_halted, step_walk}
-use Rattle.arj_lock_fact_law.proofs.CommitCoords.{AreAt, IsNext, at_acked, at_again, at_begins, at_heard}
+use Rattle.arj_lock_fact_law.proofs.CommitCoords.{AreAt, at_acked, at_again, at_begins, at_heard}
 use Rattle.arj_lock_whole_law.proofs.CoordCases as cases
 use Rattle.arj_lock_whole_law.proofs.CoordCases.{CoordCase, coord_case}
 use Rattle.arj_joint_law.specs.Includers.{IncludersTakeTurns}
 use Rattle.arj_joint_law.specs.Joined.{IsRecordedAt}
 use Rattle.arj_joint_law.proofs.Comes.{came_acts, waits_not}
-use Rattle.arj_joint_law.proofs.Ending.{ends_of, message_ends, record_of}
+use Rattle.arj_joint_law.proofs.Ending.{ends_of, message_ends}
 use Rattle.arj_joint_law.proofs.JoinFresh.{fine, not_some}
-use Rattle.arj_joint_law.proofs.JoinStep.{AreAgainst, EachUp, IsAgainst, IsCounted, IsEither, IsGrown, KeepTurns, OthersUp, keeps, others_up, plan_includes_none, ups_at, ups_walk}
-use Rattle.arj_joint_law.proofs.JoinTurns.{IsFine, IsFurther, Settled, called_first, further_answers, further_by, further_found, includes_none}
+use Rattle.arj_joint_law.proofs.JoinStep.{AreAgainst, EachUp, IsAgainst, IsCounted, IsEither, IsGrown, KeepTurns, keeps, others_up, plan_includes_none, ups_at, ups_walk}
+use Rattle.arj_joint_law.proofs.JoinTurns.{IsFurther, Settled, called_first, further_answers, further_by, further_found, includes_none}
 use Rattle.arj_joint_law.proofs.MarkRuns.{own_doing}
 use Rattle.arj_joint_law.proofs.JoinUses.{UsesSo, answered_uses, given_uses, start_uses}
 use Rattle.arj_joint_law.proofs.Recording.{AreOfTheirs, AreRecordedBy, IsConfirming, acts_put, anyone, here_then, message_puts, others_then, plainly, recorded_at, records_walk, tick_puts}

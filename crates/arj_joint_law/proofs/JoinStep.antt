@@ -1,34 +1,29 @@
 -- A step of the disk machine keeps what keeps tops from counting, and so includers stand in the order of their commit calls.
 use Rattle.std.proofs.Common.{◌≡◌, ◌≢◌, ◌⊎◌, ◌==◌, ◌++◌, ◌∙◌, ℕ, Bool, true, false, cond, List, [], ◌∷◌, Option, Some, None, is_some, ap, inl, inr, refl, subst, sym, ⊎_elim}
 use Rattle.std.specs.Prelude.{option_map}
-use Rattle.arj_base.specs.Rows.{is_on}
 use Rattle.arj_base.proofs.Uids.{uid_is}
 use Rattle.arj_lock.proofs.Members.{in_find}
 use Rattle.arj_protocol.specs.Words.{Line, ObjectState, Uid, object, uid_eq}
 use Rattle.arj_protocol.specs.Commit as commit
 use Rattle.arj_protocol.specs.Commit.{Confirming, Used, changed_of, plan_of}
-use Rattle.arj_protocol.specs.Coord.{Committing, Doing, doing_of}
 use Rattle.arj_protocol.specs.Effect.{Disk, Do, Effect, Say, Send, stopped, worked}
 use Rattle.arj_protocol.specs.Node.{Parts}
-use Rattle.arj_protocol.specs.Order as order
 use Rattle.arj_protocol.specs.Order.{uid_number}
 use Rattle.arj_protocol.specs.Step.{Node}
-use Rattle.arj_protocol.specs.World.{numbered}
 use Rattle.arj_protocol.proofs.Numbers.{number_tells}
 use Rattle.arj_disk_law.specs.Core.{Core}
 use Rattle.arj_disk_law.specs.Effects.{World}
 use Rattle.arj_disk_law.specs.Names.{Office}
 use Rattle.arj_disk_law.specs.State.{Done, Plan, State, decided, decided_in, undecided}
-use Rattle.arj_disk_law.specs.Words as disk
 use Rattle.arj_disk_law.specs.Words.{In, has}
 use Rattle.arj_disk_law.proofs.Base.{falls_to, never, some_is}
 use Rattle.arj_disk_law.proofs.History.{in_decided}
 use Rattle.arj_view_law.specs.Seen.{Seen, at, posted, said, up}
 use Rattle.arj_view_law.specs.Walks.{Up, Walks, halted}
 use Rattle.arj_disk_view_law.specs.Asking.{SeesConfirming}
-use Rattle.arj_disk_view_law.specs.Pairs.{Among, packed}
+use Rattle.arj_disk_view_law.specs.Pairs.{packed}
 use Rattle.arj_disk_view_law.specs.Plans.{IsTidy, Uses, plan_by, used_at}
-use Rattle.arj_disk_view_law.specs.Sees.{Kinds, SeesDisks}
+use Rattle.arj_disk_view_law.specs.Sees.{Kinds}
 use Rattle.arj_disk_view_law.proofs.Planned.{has_same}
 use Rattle.arj_names_view_law.specs.Both.{SeesBoth}
 use Rattle.arj_disk_run_law.specs.Decided.{AreOnce}

@@ -1,5 +1,5 @@
 -- What keeps a top from counting once another one was decided that conflicts with it, and that it stays so.
-use Rattle.std.proofs.Common.{◌≡◌, ◌≢◌, ◌⊎◌, ◌≤◌, ◌<◌, ◌++◌, ◌∙◌, ◌==◌, ℕ, Bool, true, false, List, [], ◌∷◌, Option, Some, None, is_some, ap, arith, inl, inr, refl, subst, sym, ⊎_elim}
+use Rattle.std.proofs.Common.{◌≡◌, ◌⊎◌, ◌≤◌, ◌<◌, ◌++◌, ◌∙◌, ◌==◌, ℕ, Bool, true, false, List, Some, None, is_some, ap, arith, inl, inr, refl, subst, sym, ⊎_elim}
 use Rattle.std.proofs.lemmas.List.{append_assoc}
 use Rattle.arj_protocol.specs.Words.{Line, Uid}
 use Rattle.arj_protocol.specs.Commit.{Used}
@@ -9,10 +9,10 @@ use Rattle.arj_disk_law.specs.Guards.{IsPresent, only_decides}
 use Rattle.arj_disk_law.specs.Names.{Names, Office}
 use Rattle.arj_disk_law.specs.State.{Plan, is_gone}
 use Rattle.arj_disk_law.specs.Words.{has}
-use Rattle.arj_disk_law.proofs.Base.{bool_cases, falls_to, never}
+use Rattle.arj_disk_law.proofs.Base.{falls_to, never}
 use Rattle.arj_disk_view_law.specs.Plans.{used_at}
-use Rattle.arj_disk_view_law.specs.Sees.{Along, IsLater}
-use Rattle.arj_disk_view_law.proofs.Later.{effects_are_later, later_on, later_same}
+use Rattle.arj_disk_view_law.specs.Sees.{IsLater}
+use Rattle.arj_disk_view_law.proofs.Later.{effects_are_later}
 use Rattle.arj_names_view_law.specs.Both.{GoesOnward, OnlyAnswers, OnlyDecided, OnlyFound, OnlyMemory}
 use Rattle.arj_names_view_law.specs.Handlers.{Answering, Change, Changes, Deciding, Quietly}
 use Rattle.arj_names_view_law.proofs.Onward.{goes_onward}

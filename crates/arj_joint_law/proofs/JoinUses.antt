@@ -1,5 +1,5 @@
 -- What a commit uses stays the same at each of its steps.
-use Rattle.std.proofs.Common.{◌≡◌, ◌≢◌, ◌∙◌, ℕ, List, [], ◌∷◌, Option, Some, None, ap, refl, subst, sym}
+use Rattle.std.proofs.Common.{ℕ, List, [], ◌∷◌}
 use Rattle.arj_protocol.specs.Words.{PreparedReply, Uid, VotedReply}
 use Rattle.arj_protocol.specs.Words.confirmed
 use Rattle.arj_protocol.specs.Words.prepared

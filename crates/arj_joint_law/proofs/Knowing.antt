@@ -1,6 +1,6 @@
 -- Where decided tops that only include a store knew those that wrote the object before them, none of these is behind a top that is new in the
 -- last event.
-use Rattle.std.proofs.Common.{Contains, ◌≡◌, ◌⊎◌, ◌≤◌, ◌<◌, ◌++◌, ◌+◌, ℕ, List, [], ◌∷◌, Bool, true, false, cond, filter, length, Option, Some, None, is_some, refl, sym, ◌∙◌, ap, subst, inl, inr, arith}
+use Rattle.std.proofs.Common.{Contains, ◌≡◌, ◌⊎◌, ◌≤◌, ◌<◌, ◌++◌, ℕ, List, [], ◌∷◌, Bool, true, false, cond, filter, length, Option, Some, None, is_some, refl, sym, ◌∙◌, ap, subst, inl, inr, arith}
 use Rattle.arj_base.specs.Rows.{is_on}
 use Rattle.arj_lock.proofs.Members as list
 use Rattle.arj_lock.proofs.Members.{in_from}
@@ -13,7 +13,7 @@ use Rattle.arj_protocol.specs.Words.body
 use Rattle.arj_protocol.specs.Order.{uid_number}
 use Rattle.arj_protocol.specs.World.{Asked, format, journal, run_all}
 use Rattle.arj_disk_law.specs.Order.{counts_of}
-use Rattle.arj_disk_law.specs.State.{Done, Packed, State, decided}
+use Rattle.arj_disk_law.specs.State.{Done, Packed, State}
 use Rattle.arj_disk_law.specs.Words as disk
 use Rattle.arj_disk_law.proofs.History.{in_decided}
 use Rattle.arj_line_law.specs.Book.{Book, book, book_from, is_decided, new_book}

@@ -1,5 +1,5 @@
 -- What a store gives to a call that waits, it may give by the lock machine, where that is the last committed state.
-use Rattle.std.proofs.Common.{◌≡◌, ◌≤◌, ◌⊎◌, ◌∙◌, ◌==◌, ℕ, List, Bool, cond, true, false, eqb-true, Option, Some, None, refl, sym, ap, subst, ⊎_elim, arith}
+use Rattle.std.proofs.Common.{◌≡◌, ◌≤◌, ◌⊎◌, ◌∙◌, ℕ, List, cond, Some, sym, ap, subst, ⊎_elim, arith}
 use Rattle.arj_protocol.specs.Words.{Asked, ObjectState, Op, Uid}
 use Rattle.arj_protocol.specs.Ask.{actor, top_of}
 use Rattle.arj_protocol.specs.Call.{AtLoad, Known, Run, Steps}

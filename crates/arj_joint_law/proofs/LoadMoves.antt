@@ -1,6 +1,6 @@
 -- What stores gave to calls that wait for it stays so by the lock machine, through each step of a node: who waits behind it waited before, or
 -- nothing was given to it yet.
-use Rattle.std.proofs.Common.{◌≡◌, ◌≤◌, ◌<◌, ◌⊎◌, ◌∙◌, ℕ, List, [], ◌∷◌, Option, Some, None, true, refl, sym, ap, subst, inl, inr, ⊎_elim, arith}
+use Rattle.std.proofs.Common.{◌≡◌, ◌≤◌, ◌<◌, ◌⊎◌, ◌∙◌, ℕ, List, [], ◌∷◌, Option, Some, None, refl, sym, ap, subst, inl, inr, ⊎_elim, arith}
 use Rattle.arj_lock.proofs.Members as list
 use Rattle.arj_protocol.specs.Words.{Asked, Body, ObjectState, Uid}
 use Rattle.arj_protocol.specs.Words.loaded
