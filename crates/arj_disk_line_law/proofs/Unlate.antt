@@ -202,8 +202,8 @@ module _ (hd : Header) (x : ℕ) (R G : Seen → Type 0) (P : Kinds → Office �
       found_by : (tops : Kinds) (k : ℕ) (d : Disk) (M : Seen) (A : Office) → SeesBoth x tops A (down k d M) → (B : Office) → OnlyFound (are_recorded d.intents) A B → (u : Uid) → decided B.world.disk (uid_number u) ≡ true → (decided A.world.disk (uid_number u) ≡ true) ⊎ (u.node ≡ k)
       found_by tops k d M A both B c u on = ⊎_elim (λ old. inl old)
           (λ new.
-              let e = recorded_there d.intents (uid_number u) new in
-              let b = both.disks in
-              let s = b.records k (record { number = k; disk = d; live = None }) (node_here M k (record { number = k; disk = d; live = None })) in
-              inr (ap (λ (z : Uid). z.node) (number_tells u (let y = e.0 in y.0) (sym e.2)) ∙ s.own (let y = e.0 in y.0) (let y = e.0 in y.1) (in_at e.0 d.intents s.sorted (in_from e.0 d.intents e.1))))
+          let e = recorded_there d.intents (uid_number u) new in
+          let b = both.disks in
+          let s = b.records k (record { number = k; disk = d; live = None }) (node_here M k (record { number = k; disk = d; live = None })) in
+          inr (ap (λ (z : Uid). z.node) (number_tells u (let y = e.0 in y.0) (sym e.2)) ∙ s.own (let y = e.0 in y.0) (let y = e.0 in y.1) (in_at e.0 d.intents s.sorted (in_from e.0 d.intents e.1))))
           (newly (are_recorded d.intents) A.world B.world c.along (uid_number u) on)

@@ -451,12 +451,20 @@ module _ (x : ℕ) (tops : Kinds) (e k : ℕ) (hd : Header) (d : Disk) (M : Seen
       let up_now : Seen = said e (body.Up k (d.inc + 1) ∷ []) M in
       let up_seen = says_seen x tops W (down k d M) (numbered e (body.Up k (d.inc + 1) ∷ [])) s in
       let unworked = all_both is_said_or_sent founds rest (map_unstopped (λ (z : Uid × Intent). Say (body.Recovered k z.0)) d.intents (λ z. refl))
-          (all_both is_said_or_sent tolds (queries ++ hellos) (all_flat is_said_or_sent (λ (z : Uid × Intent). tell_all z.1.root true ((z.0, ending.Commit) ∷ []) z.1.nodes) d.intents (λ z. map_unstopped (λ n. tell z.1.root true ((z.0, ending.Commit) ∷ []) n) z.1.nodes (λ n. refl)))
-          (all_both is_said_or_sent queries hellos (map_unstopped query_about hs (λ u. refl)) (map_unstopped (hello_to k (d.inc + 1)) (without_number k (numbers_to hd.nodes)) (λ n. refl)))) in
+      (all_both is_said_or_sent tolds (queries ++ hellos) (all_flat is_said_or_sent (λ (z : Uid × Intent). tell_all z.1.root true ((z.0, ending.Commit) ∷ []) z.1.nodes) d.intents (λ z. map_unstopped (λ n. tell z.1.root true ((z.0, ending.Commit) ∷ []) n) z.1.nodes (λ n. refl)))
+      (all_both is_said_or_sent queries hellos (map_unstopped query_about hs (λ u. refl)) (map_unstopped (hello_to k (d.inc + 1)) (without_number k (numbers_to hd.nodes)) (λ n. refl)))) in
       subst (λ es. Walks Open e k es (λ c L. ⊤) d M)
-      (sym (append_assoc ((first ++ next) ++ tolds) queries hellos ∙ append_assoc (first ++ next) tolds (queries ++ hellos) ∙ append_assoc first next (tolds ++ (queries ++ hellos))))
-      (look_down M s, (rise M s, (look_risen up_now up_seen, says_on back (next ++ rest) (back_says (naming_at k (d.inc + 1) d.names))
-          (λ N seen. (look_risen N seen, unstopped Open e k (founds ++ rest) unworked (record d { inc = d.inc + 1 }) N)) up_now up_seen)))
+      (sym (append_assoc ((first ++ next) ++ tolds) queries hellos ∙ append_assoc (first ++ next) tolds (queries ++ hellos) ∙ append_assoc first next (tolds ++ (queries ++ hellos)))) (
+        look_down M s,
+        (
+          rise M s,
+          (
+            look_risen up_now up_seen,
+            says_on back (next ++ rest) (back_says (naming_at k (d.inc + 1) d.names))
+                (λ N seen. (look_risen N seen, unstopped Open e k (founds ++ rest) unworked (record d { inc = d.inc + 1 }) N)) up_now up_seen,
+          ),
+        ),
+      )
 
 pub restarts_are_walked : RestartsAreWalked
 restarts_are_walked x tops e k hd d M begun noted W sees =

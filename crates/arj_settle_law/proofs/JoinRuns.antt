@@ -306,16 +306,26 @@ joins_kept = record {
   new = λ s inc telling fresh. (askers_kept.new s inc telling fresh, (new_so T keep s.node inc telling, no_doing s inc telling));
   apart = λ s c p other q. (askers_kept.apart s c p other q.0, (q.1.0, λ w d x found now. joins_more s.node p s.sent w x (own_plan s c q.1.0 w d x found now) (λ z is y n i. inl (⊎_elim (λ old. old) (λ new. absurd (other new.0)) (confirm_cases s.node p s.sent w y n i))) (λ n ss new. absurd (other new.0)) (λ new. absurd (other new.0)) (q.1.1 w d x found now)));
   sends = λ s c to m stands so all q. (says_more s c to m so all q.1.0 q.1.1, ((askers_kept.sends s c to m stands so tt q.0).1, (q.1.0, at_more s c to m so all q.1.0 q.1.1)));
-  hears = λ s c place from a r intents posted fits meant q. (askers_kept.hears s c place from a r intents posted fits meant q.0, ((states.hears_so T keep from a r intents c q.1.0 meant (any_reply r)).0,
-      at_heard (Joins s.node s.sent) c q.1.1 from a r intents (λ d m found now waits j. answer_joins s.node s.sent a.act from m r (λ yes. (record { from = from; to = s.node; message = posted.0 }, posted.1, refl, a, posted.2 ∙ ap (λ (y : Reply). Some (a, y)) yes, refl)) (own_plan s c q.1.0 a.act d m found now) j)));
+  hears = λ s c place from a r intents posted fits meant q. (
+    askers_kept.hears s c place from a r intents posted fits meant q.0,
+    (
+      (states.hears_so T keep from a r intents c q.1.0 meant (any_reply r)).0,
+      at_heard (Joins s.node s.sent) c q.1.1 from a r intents (λ d m found now waits j. answer_joins s.node s.sent a.act from m r (λ yes. (record { from = from; to = s.node; message = posted.0 }, posted.1, refl, a, posted.2 ∙ ap (λ (y : Reply). Some (a, y)) yes, refl)) (own_plan s c q.1.0 a.act d m found now) j),
+    ),
+  );
   acks = λ s c place from u intents q. (askers_kept.acks s c place from u intents q.0, ((acks_so T keep from u intents c q.1.0).0, at_acked (Joins s.node s.sent) c q.1.1 from u intents));
-  does = λ s c place intents hd i free other q. (askers_kept.does s c place intents hd i free other q.0, ((states.acts_so T keep i intents c q.1.0).0,
+  does = λ s c place intents hd i free other q. (
+    askers_kept.does s c place intents hd i free other q.0,
+    (
+      (states.acts_so T keep i intents c q.1.0).0,
       λ w d m found now. ⊎_elim (λ old. q.1.1 w old.0 m old.1 old.2) (λ new. new) (came_acts (Joins s.node s.sent) c i intents other
-      (λ l b e z same named there at_it. giveup_joins s.node s.sent (actor b.path) z (own_plan s c q.1.0 (actor b.path) e z there at_it) (q.1.1 (actor b.path) e z there at_it))
-      (λ l b same named. start_joins s.node s.sent (actor b.path) b.path (last_req (doing_of (actor b.path) c)) (root_at (root_of b.path) c) c
-      (λ n ss asked. unasked s c place hd i free q.0 l b same named asked.0 asked.4 (ask.Prepare ss) asked.1 asked.2 asked.5 refl asked.6)
-      (λ x n asked. unasked s c place hd i free q.0 l b same named asked.0 asked.3 (ask.Confirm asked.4 asked.5 asked.6) asked.1 asked.2 asked.7 refl asked.8))
-      w m (d, found, now))));
+          (λ l b e z same named there at_it. giveup_joins s.node s.sent (actor b.path) z (own_plan s c q.1.0 (actor b.path) e z there at_it) (q.1.1 (actor b.path) e z there at_it))
+          (λ l b same named. start_joins s.node s.sent (actor b.path) b.path (last_req (doing_of (actor b.path) c)) (root_at (root_of b.path) c) c
+          (λ n ss asked. unasked s c place hd i free q.0 l b same named asked.0 asked.4 (ask.Prepare ss) asked.1 asked.2 asked.5 refl asked.6)
+          (λ x n asked. unasked s c place hd i free q.0 l b same named asked.0 asked.3 (ask.Confirm asked.4 asked.5 asked.6) asked.1 asked.2 asked.7 refl asked.8))
+          w m (d, found, now)),
+    ),
+  );
   begins = λ s c place l how parent q. (askers_kept.begins s c place l how parent q.0, ((states.begins_so T keep l how parent (parent_of parent c) c q.1.0).0, at_begins (Joins s.node s.sent) c q.1.1 l how parent));
   asks = λ s c place q. (askers_kept.asks s c place q.0, ((states.ticks_so T keep c q.1.0).0, at_again (Joins s.node s.sent) c.doings c q.1.1));
 }

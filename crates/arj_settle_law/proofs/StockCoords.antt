@@ -135,7 +135,6 @@ module _ (k : ℕ) (d : Disk) (t : Parts) (M : Seen) (right : IsRight (up k d t 
     pub still_stock : (outs : List Effect) → AllCalm (Unasked k d t M right) t.coord v.coord outs → AllByRecursion IsPlainSend outs → AllSo v.coord outs → Walks IsRight e k outs (Up IsRight k v) d M → Walks IsStocked e k outs (Up IsStocked k v) d M
     still_stock outs calm plain so known = still_by IsRight IsStocked k M Mild (Sends v.coord) (quiet_mild (Unasked k d t M right) (let B = book M.lines in B.acts)) tt Same v e outs d (no_work (Unasked k d t M right) t.coord v.coord outs calm) (fits outs calm plain so) refl each known
       where
-
         each : (b : Disk) (N : Seen) → IsRight (up k b v N) → (w : Went k M Mild (Sends v.coord) (UpBy k M Mild (Sends v.coord) (quiet_mild (Unasked k d t M right) (let B = book M.lines in B.acts)) tt Same v) (up k b v N)) → IsStocked (up k b v N)
         each b N known_it w = stocked_on k d (Some t) M Mild (Sends v.coord) (UpBy k M Mild (Sends v.coord) (quiet_mild (Unasked k d t M right) (let B = book M.lines in B.acts)) tt Same v) (up k b v N) w stock
             (store_fed k d (Some t) M Mild (Sends v.coord) (UpBy k M Mild (Sends v.coord) (quiet_mild (Unasked k d t M right) (let B = book M.lines in B.acts)) tt Same v) (up k b v N) w (ap (λ (c : Disk). c.store) w.fits.0) done lists confirms (λ p so_it u is. so_it.1 u is))
@@ -198,10 +197,13 @@ module _ (k : ℕ) (d : Disk) (t : Parts) (M : Seen) (right : IsRight (up k d t 
         new : (x n : ℕ) → IsIncluded (up k d t M) u x n → (IsHeld Z n u × Lists Z u n) × (IsAcked M.sent n u → ⊥)
         new x n included =
             let on = joins u q p found now x n home included in
-            let watched = decides.watched k d t M right e u q p found now in
-            ((held_stays k d (Some t) M Lines Tells (Either Is v) Z w (λ y there. ap (is_prepared y) same_store ∙ there) n u (watched.held u n home (q, Confirming p, found, now) (says_it.said u.node u x n included)),
-            (the_node k w.disk w.live, i, ap Z.nodes home ∙ w.here, ap (λ (b : Disk). at_uid u b.intents) disk_is ∙ puts n on, decides.listed k d t M right e u q p found now n on)),
-            decides.unacked k d t M right e u q p found now n)
+            let watched = decides.watched k d t M right e u q p found now in (
+              (
+                held_stays k d (Some t) M Lines Tells (Either Is v) Z w (λ y there. ap (is_prepared y) same_store ∙ there) n u (watched.held u n home (q, Confirming p, found, now) (says_it.said u.node u x n included)),
+                (the_node k w.disk w.live, i, ap Z.nodes home ∙ w.here, ap (λ (b : Disk). at_uid u b.intents) disk_is ∙ puts n on, decides.listed k d t M right e u q p found now n on),
+              ),
+              decides.unacked k d t M right e u q p found now n,
+            )
 
         done : (x : Uid) (y n : ℕ) → IsIncluded (up k d t M) x y n → IsDone Z x → IsDone (up k d t M) x ⊎ ((IsHeld Z n x × Lists Z x n) × (IsAcked M.sent n x → ⊥))
         done x y n included (inl on) = ⊎_elim (λ old. inl (inl old)) (λ one. its x y n included one) (mild_decides (λ z. z ≡ u) M.lines w.more w.said_so x (subst (λ ls. is_decided (book ls) x ≡ true) w.lines on))
