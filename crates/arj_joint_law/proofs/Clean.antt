@@ -15,7 +15,6 @@ use Rattle.arj_line_law.specs.Knows.{IsKept}
 use Rattle.arj_line_law.proofs.Runs.{lines_keep, run_written}
 use Rattle.arj_disk_law.specs.Order.{counts_of}
 use Rattle.arj_disk_law.specs.State.{Done, Packed, decided as decided_so, decided_in, target}
-use Rattle.arj_disk_law.specs.State as disk_state
 use Rattle.arj_disk_law.specs.Words as disk
 use Rattle.arj_disk_law.proofs.Listing.{filter_none}
 use Rattle.arj_disk_line_law.specs.Said.{IsJournalled}
@@ -32,7 +31,7 @@ use Rattle.arj_view_law.specs.Seen.{Seen, see}
 use Rattle.arj_view_law.proofs.Happens.{runs_hold}
 use Rattle.arj_binding_law.specs.Scripts.{most_events}
 use Rattle.arj_disk_run_law.specs.Rest.{KeepsHeard}
-use Rattle.arj_serial_law.specs.Cleaned.{AreDecidedOrLate, HaveForm, IsCleanIn}
+use Rattle.arj_serial_law.specs.Cleaned.{HaveForm, IsCleanIn}
 use Rattle.arj_serial_law.specs.Decided.{AreDecided, AreDecisions, AreNewestFirst, DecideChanges, Joined, Wrote, WroteSo}
 use Rattle.arj_lock_fact_law.specs.Entries.{HasObject}
 use Rattle.arj_lock_whole_law.proofs.WholeRuns.{runs_call_objects, runs_include_objects}
@@ -164,10 +163,6 @@ ordered_of hd es x h = record { sent = h.sent; stands = h.stands; holds = (let o
 abbrev pub Decides : (hd : Header) (es : List Asked) → Held hd es → Type 0
 Decides hd es held = (x : ℕ) (there : is_some (object_line hd x) ≡ true) → OthersAreIdle hd (journal hd es) x (disk_of (let h = ordered_of hd es x (held x there) in h.holds)) × AreWritten (first_values hd) (journal hd es) x (let S = disk_of (let h = ordered_of hd es x (held x there) in h.holds) in S.tops)
     × AreBareSo (journal hd es) x (disk_of (let h = ordered_of hd es x (held x there) in h.holds))
-
--- none is late
-abbrev pub none_late : (hd : Header) (lines : List Line) (x : ℕ) (S : disk_state.State) → AreDecided hd lines x S.tops → AreDecidedOrLate hd lines x S
-none_late hd lines x S d = record { late = []; others = S.tops; are = refl; decided = d; unmoved = λ e w s i. absurd i; unlisted = λ free. refl }
 
 module _ (hd : Header) (es : List Asked) (form : HeaderInForm hd) (tied : AreLockTied hd (journal hd es)) (held : Held hd es) (decide : Decides hd es held) where
   abbrev w : World
@@ -361,7 +356,7 @@ module _ (hd : Header) (es : List Asked) (form : HeaderInForm hd) (tied : AreLoc
         let o = h.holds in
         let b = o.begun in
         let j = b.journalled in
-        is_clean hd (journal hd es) right ties x j.tops j.machine (see h.sent w) j.sees (none_late hd (journal hd es) x (let W = j.machine in W.disk) decided) b.begins formed
+        is_clean hd (journal hd es) right ties x j.tops j.machine (see h.sent w) j.sees decided b.begins formed
 
     pub clean_of : IsCleanIn hd (journal hd es) x (see [] (run_all es (format hd)))
     clean_of = record { names = clean_seen.names; stores = clean_seen.stores }

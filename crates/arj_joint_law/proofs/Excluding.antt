@@ -1,5 +1,5 @@
 -- Where the newest decided top is one that is new in an event, each store that the naming node has for what it wrote is in time.
-use Rattle.std.proofs.Common.{◌≡◌, ◌⊎◌, ◌≤◌, ◌<◌, ℕ, ◌==◌, List, [], ◌∷◌, ◌++◌, filter, Bool, true, false, cond, Option, Some, None, is_some, unwrap_or, refl, sym, ◌∙◌, ap, subst, inl, inr, ⊎_elim, arith, eq-eqb, eqb-true, Contains}
+use Rattle.std.proofs.Common.{◌≡◌, ◌⊎◌, ◌≤◌, ◌<◌, ℕ, ◌==◌, List, [], ◌∷◌, filter, Bool, true, false, cond, Option, Some, None, is_some, refl, sym, ◌∙◌, ap, subst, inl, inr, ⊎_elim, arith, eq-eqb, eqb-true, Contains}
 use Rattle.std.proofs.lemmas.Bool.{and_parts}
 use Rattle.std.specs.List.{AllByRecursion, list_any}
 use Rattle.std.specs.Option.{option_map}
@@ -29,7 +29,7 @@ use Rattle.arj_disk_law.specs.Core.{Core}
 use Rattle.arj_disk_law.specs.Effects.{World}
 use Rattle.arj_disk_law.specs.Laws.{IsExcludedInTime}
 use Rattle.arj_disk_law.specs.Order.{counts_of}
-use Rattle.arj_disk_law.specs.State.{Done, Hold, IsExcused, Packed, Plan, decided_in, is_latest, is_latest_in, last, last_in}
+use Rattle.arj_disk_law.specs.State.{Done, Hold, IsExcused, Packed, Plan, decided_in, is_latest, is_latest_in, last}
 use Rattle.arj_disk_law.specs.Words.{In, has}
 use Rattle.arj_disk_law.proofs.History.{in_decided}
 use Rattle.arj_disk_law.proofs.Results.{in_time}
@@ -38,8 +38,7 @@ use Rattle.arj_view_law.specs.Seen.{Seen}
 use Rattle.arj_disk_view_law.specs.Entries.{SeesEntry}
 use Rattle.arj_disk_view_law.specs.Pairs.{Among, Holder, IsOf, packed, packed_entry}
 use Rattle.arj_disk_view_law.specs.Stores.{SeesStore}
-use Rattle.arj_serial_law.specs.Cleaned.{AreDecidedOrLate}
-use Rattle.arj_serial_law.specs.Decided.{AreDecisions, AreNewestFirst, IsDecision, WroteSo, Wrote}
+use Rattle.arj_serial_law.specs.Decided.{AreDecided, AreDecisions, AreNewestFirst, IsDecision, WroteSo, Wrote}
 use Rattle.arj_serial_law.specs.Runs.{IsSeenDecided}
 use Rattle.arj_serial_law.proofs.Cleaning.{has_among, held_some, one_state, run_class, state_same}
 use Rattle.arj_serial_law.proofs.Order.{listed, place_of_top, root_of_top}
@@ -70,16 +69,6 @@ first_is_latest (z ∷ ds) d es e = by z.counts e (first_is_latest ds d es)
     by : (b : Bool) → cond b (z ∷ filter counts_of ds) (filter counts_of ds) ≡ d ∷ es → (filter counts_of ds ≡ d ∷ es → is_latest_in ds d.top ≡ true) → cond b (z.top == d.top) (is_latest_in ds d.top) ≡ true
     by true f ih = let same : z ≡ d = cc f in eq-eqb z.top d.top (ap (λ (y : Done). y.top) same)
     by false f ih = ih f
-
--- and those before it don't count
-latest_behind : (late others : List Done) (t : ℕ) → ((z : Done) → In z late → z.counts ≡ false) → is_latest_in others t ≡ true → is_latest_in (late ++ others) t ≡ true
-latest_behind [] others t none is = is
-latest_behind (z ∷ late) others t none is = ap (λ b. cond b (z.top == t) (is_latest_in (late ++ others) t)) (none z (inl refl)) ∙ latest_behind late others t (λ y i. none y (inr i)) is
-
--- nor did they write
-last_behind : (first : Packed) (late others : List Done) → ((z : Done) → In z late → z.plan.writes ≡ None) → last_in first (late ++ others) ≡ last_in first others
-last_behind first [] others none = refl
-last_behind first (z ∷ late) others none = ap (λ o. unwrap_or o (last_in first (late ++ others))) (none z (inl refl)) ∙ last_behind first late others (λ y i. none y (inr i))
 
 counted_in : (ds : List Done) (d : Done) (es : List Done) → filter counts_of ds ≡ d ∷ es → In d ds
 counted_in [] d es e = absurd (cc e)
@@ -115,7 +104,7 @@ module _ (header : Header) (e : ℕ) (M : Seen) (right : AreRight new_book M.lin
   abbrev W : World
   W = seen.world
 
-  abbrev decided : AreDecidedOrLate header M.lines x W.disk
+  abbrev decided : AreDecided header M.lines x W.disk.tops
   decided = seen.decided
 
   core : Core W.disk
@@ -125,37 +114,33 @@ module _ (header : Header) (e : ℕ) (M : Seen) (right : AreRight new_book M.lin
   T = uid_number (uid_of M.lines t)
 
   -- it is one of the tops that count
-  there : members.In t decided.decided.those
+  there : members.In t decided.those
   there =
       let c = wrote in
-      let w = decided.decided.all c.0 c.1 c.2 in
+      let w = decided.all c.0 c.1 c.2 in
       let apart : AreApart (tops M.lines) = let l = listed M.lines right in l.apart in
-      let i = in_from w.0 decided.decided.those w.1 in
-      let a = in_from w.0 (tops M.lines) (let q = (each_decision (first_values header) M.lines x (filter counts_of decided.others) decided.decided.those decided.decided.each w.0 i).2 in q.listed) in
+      let i = in_from w.0 decided.those w.1 in
+      let a = in_from w.0 (tops M.lines) (let q = (each_decision (first_values header) M.lines x (filter counts_of W.disk.tops) decided.those decided.each w.0 i).2 in q.listed) in
       let b = in_from t (tops M.lines) new.0 in
       let id : w.0.id ≡ t.id = sym w.2 ∙ c.3 in
       let place : w.0.at ≡ t.at = sym (place_of_top (tops M.lines) w.0 apart a) ∙ ap (top_place (tops M.lines)) id ∙ place_of_top (tops M.lines) t apart b in
       let root : w.0.root ≡ t.root = sym (root_of_top (tops M.lines) w.0 apart a) ∙ ap (root_of (tops M.lines)) id ∙ root_of_top (tops M.lines) t apart b in
-      subst (λ z. members.In z decided.decided.those) (λ i. record { id = id i; root = root i; at = place i }) i
+      subst (λ z. members.In z decided.those) (λ i. record { id = id i; root = root i; at = place i }) i
 
-  front : (us : List Top) × (decided.decided.those ≡ t ∷ us)
-  front = newest_first decided.decided.those t decided.decided.called there (λ u i. newest.last u (in_to u decided.decided.those i))
+  front : (us : List Top) × (decided.those ≡ t ∷ us)
+  front = newest_first decided.those t decided.called there (λ u i. newest.last u (in_to u decided.those i))
 
-  its : (d : Done) × (es : List Done) × (filter counts_of decided.others ≡ d ∷ es) × IsDecision (first_values header) M.lines x d t
-  its = first_decision (first_values header) M.lines x (filter counts_of decided.others) t front.0 (subst (AreDecisions (first_values header) M.lines x (filter counts_of decided.others)) front.1 decided.decided.each)
+  its : (d : Done) × (es : List Done) × (filter counts_of W.disk.tops ≡ d ∷ es) × IsDecision (first_values header) M.lines x d t
+  its = first_decision (first_values header) M.lines x (filter counts_of W.disk.tops) t front.0 (subst (AreDecisions (first_values header) M.lines x (filter counts_of W.disk.tops)) front.1 decided.each)
 
   number : its.0.top ≡ T
   number = let q = its.3 in q.number
 
   latest : is_latest W.disk T ≡ true
-  latest = ap (λ ds. is_latest_in ds T) decided.are ∙ latest_behind decided.late decided.others T newest.late (ap (is_latest_in decided.others) (sym number) ∙ first_is_latest decided.others its.0 its.1 its.2)
+  latest = ap (is_latest_in W.disk.tops) (sym number) ∙ first_is_latest W.disk.tops its.0 its.1 its.2
 
   inside : In its.0 W.disk.tops
-  inside = subst (In its.0) (sym decided.are) (behind decided.late (counted_in decided.others its.0 its.1 its.2))
-    where
-      behind : (ds : List Done) → In its.0 decided.others → In its.0 (ds ++ decided.others)
-      behind [] i = i
-      behind (d ∷ ds) i = inr (behind ds i)
+  inside = counted_in W.disk.tops its.0 its.1 its.2
 
   has_written : is_some (W.disk.plan T).writes ≡ true
   has_written = ap (λ n. is_some (W.disk.plan n).writes) (sym number) ∙ ap (λ (p : Plan). is_some p.writes) (sym (core.journal.plan its.0 inside)) ∙ by its.0.plan.writes (let q = its.3 in q.wrote)
@@ -165,15 +150,7 @@ module _ (header : Header) (e : ℕ) (M : Seen) (right : AreRight new_book M.lin
       by (Some w) some = refl
 
   last_is : last W.disk ≡ packed (last_state header M.lines x)
-  last_is =
-      ap (last_in W.disk.first) decided.are
-      ∙ last_behind W.disk.first decided.late decided.others (λ z i. core.journal.plain z (subst (In z) (sym decided.are) (front_in decided.late z i)) (newest.late z i))
-      ∙ state_same header M.lines right tied x seen.kinds W M seen.sees decided seen.begins seen.form
-    where
-      front_in : (ds : List Done) (z : Done) → In z ds → In z (ds ++ decided.others)
-      front_in [] z i = absurd i
-      front_in (d ∷ ds) z (inl same) = inl same
-      front_in (d ∷ ds) z (inr i) = inr (front_in ds z i)
+  last_is = state_same header M.lines right tied x seen.kinds W M seen.sees decided seen.begins seen.form
 
   -- ---- at a store
 
@@ -264,10 +241,9 @@ wrote_or_not values lines x d u q = by d.plan.writes q.wrote
 pub newest_by_calls : (header : Header) (e : ℕ) (M : Seen) → AreRight new_book M.lines → AreTied (first_values header) M.lines → CommitsBeginIt e M.lines → (x : ℕ) (is : IsSeenSo header e x M) (t : Top) → IsNew e M.lines t → Wrote M.lines x t
     → IsBehindIncludes header M.lines x (let v = is.seen in let V = v.world in V.disk) (let v = is.seen in v.decided) t → IsNewest header M.lines x (let v = is.seen in let V = v.world in V.disk) (let v = is.seen in v.decided) t
 newest_by_calls header e M right tied begins x is t new wrote b = record {
-  late = b.late;
   last = λ u c.
       let d = is.seen.decided in
-      let q = each_decision (first_values header) M.lines x (filter counts_of d.others) d.decided.those d.decided.each u (in_from u d.decided.those c) in
+      let q = each_decision (first_values header) M.lines x (filter counts_of (let v = is.seen in let V = v.world in V.disk.tops)) d.those d.each u (in_from u d.those c) in
       let w = wrote in
       let s = tied x (was_called (first_values header) M.lines x w.0 (in_from w.0 (committed_calls M.lines) w.1) w.2) in
       ⊎_elim

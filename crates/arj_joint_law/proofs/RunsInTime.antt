@@ -8,7 +8,7 @@ use Rattle.arj_view_law.specs.Seen.{see}
 use Rattle.arj_joint_law.specs.Cleaned.{AreLockTied}
 use Rattle.arj_joint_law.specs.Excluded.{AreExcludedInTime, IsSeenSo}
 use Rattle.arj_joint_law.specs.InTime.{AreInTime, RunsExcludeInTime, WholeRunsExcludeInTime}
-use Rattle.arj_joint_law.proofs.Clean.{Decides, Held, decided, decides_in, formed, held_in, joined_at, lock_tied, none_late, ordered_held, ordered_of, right, ties}
+use Rattle.arj_joint_law.proofs.Clean.{Decides, Held, decided, decides_in, formed, held_in, joined_at, lock_tied, ordered_held, ordered_of, right, ties}
 use Rattle.arj_joint_law.proofs.CommitCalls.{commits_begin}
 use Rattle.arj_joint_law.proofs.Excluding.{is_in_time, newest_by_calls, nodes_have_form}
 use Rattle.arj_joint_law.proofs.Knowing.{none_last}
@@ -25,7 +25,7 @@ module _ (hd : Header) (es : List Asked) (form : HeaderInForm hd) (tied : AreLoc
       let b = h.holds.begun in
       let j = b.journalled in
       record {
-        seen = record { kinds = j.tops; world = j.machine; sees = j.sees; decided = none_late hd (journal hd es) x (let W = j.machine in W.disk) (decided hd es form tied held decide x there); begins = b.begins; form = formed hd es form tied held decide x there };
+        seen = record { kinds = j.tops; world = j.machine; sees = j.sees; decided = (decided hd es form tied held decide x there); begins = b.begins; form = formed hd es form tied held decide x there };
         forms = nodes_have_form hd x form es h.sent;
         takers = takers hd es x h;
       }
@@ -35,7 +35,7 @@ module _ (hd : Header) (es : List Asked) (form : HeaderInForm hd) (tied : AreLoc
       let r = right hd es form tied held decide in
       let h = ordered_of hd es x (held x there) in
       let i = seen_so x there in
-      let newest = newest_by_calls hd w.event (see h.sent w) r tied.called (commits_begin hd es) x i t new wrote (record { late = λ z j. absurd j; last = none_last hd es x h (let a = behind x there in a.know h) (decided hd es form tied held decide x there) t new wrote }) in
+      let newest = newest_by_calls hd w.event (see h.sent w) r tied.called (commits_begin hd es) x i t new wrote (record { last = none_last hd es x h (let a = behind x there in a.know h) (decided hd es form tied held decide x there) t new wrote }) in
       is_in_time hd w.event (see h.sent w) r (ties hd es form tied held decide) x i t new wrote newest s n m st at_naming at_store held_there has_it
 
 pub runs_exclude : RunsExcludeInTime

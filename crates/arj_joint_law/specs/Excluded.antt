@@ -24,12 +24,10 @@ use Rattle.arj_protocol.specs.Values.{state_entry}
 use Rattle.arj_protocol.specs.World.{Asked, format, journal, run_all}
 use Rattle.arj_disk_law.specs.State as disk
 use Rattle.arj_disk_law.specs.State.{Done, Hold, State}
-use Rattle.arj_disk_law.specs.Words.{In}
 use Rattle.arj_disk_view_law.specs.Pairs.{IsOf}
 use Rattle.arj_view_law.specs.Keeps.{Holds}
 use Rattle.arj_view_law.specs.Seen.{Post, Seen, see}
-use Rattle.arj_serial_law.specs.Cleaned.{AreDecidedOrLate}
-use Rattle.arj_serial_law.specs.Decided.{Wrote}
+use Rattle.arj_serial_law.specs.Decided.{AreDecided, Wrote}
 use Rattle.arj_serial_law.specs.Runs.{AreSeenTied, IsSeenDecided}
 use Rattle.arj_serial_law.specs.Tied.{IsTied}
 use Rattle.arj_joint_law.specs.Forms.{NodeIsSo, kind_of}
@@ -89,11 +87,10 @@ abbrev pub TakersAreCommitted : ℕ → List Line → State → Type 0
 TakersAreCommitted e lines S = (t : Top) (h : Hold) → IsNew e lines t → disk.decided S (uid_number (uid_of lines t)) ≡ true → S.entry_pend ≡ Some h → disk.decided S h.top ≡ true → S.root h.top ≡ S.root (uid_number (uid_of lines t))
     → (b : Top) × Contains (tops lines) b × (uid_number (uid_of lines b) ≡ h.top) × (b.root ≡ t.root)
 
--- A top that is new in the event and wrote the object is the newest that counts: none of the decided tops that have no line yet does, and of
--- the others the commit of none was called behind its own.
-pub record IsNewest (header : Header) (lines : List Line) (x : ℕ) (S : State) (d : AreDecidedOrLate header lines x S) (t : Top) : Type 0 where
-  pub late : (z : Done) → In z d.late → z.counts ≡ false
-  pub last : (u : Top) → Contains (let o = d.decided in o.those) u → u.at ≤ t.at
+-- A top that is new in the event and wrote the object is the newest that counts: of the decided tops that do the commit of none was called
+-- behind its own.
+pub record IsNewest (header : Header) (lines : List Line) (x : ℕ) (S : State) (d : AreDecided header lines x S.tops) (t : Top) : Type 0 where
+  pub last : (u : Top) → Contains d.those u → u.at ≤ t.at
 
 -- what stands of the object on nodes is of its class, on disks and in memory
 abbrev pub NodesAreSo : Header → ℕ → Seen → Type 0
@@ -127,11 +124,9 @@ abbrev pub NewWritersAreLast : Type 0
 NewWritersAreLast = (values : Values) (lines : List Line) (x : ℕ) (S : machine.State) (e : ℕ) → AreRight new_book lines → IsTied values lines x S → CommitsBeginIt e lines
     → (t u : Top) → IsNew e lines t → Wrote lines x t → Contains (tops lines) u → Wrote lines x u → u.at ≤ t.at
 
--- None of the decided tops that have no line yet counts, and of the others that count and didn't write the object, but include a store of it,
--- the commit of none was called behind the top's.
-pub record IsBehindIncludes (header : Header) (lines : List Line) (x : ℕ) (S : State) (d : AreDecidedOrLate header lines x S) (t : Top) : Type 0 where
-  pub late : (z : Done) → In z d.late → z.counts ≡ false
-  pub last : (u : Top) → Contains (let o = d.decided in o.those) u → (Wrote lines x u → ⊥) → u.at ≤ t.at
+-- Of the decided tops that count and didn't write the object, but include a store of it, the commit of none was called behind the top's.
+pub record IsBehindIncludes (header : Header) (lines : List Line) (x : ℕ) (S : State) (d : AreDecided header lines x S.tops) (t : Top) : Type 0 where
+  pub last : (u : Top) → Contains d.those u → (Wrote lines x u → ⊥) → u.at ≤ t.at
 
 -- the same, where a top that is new is behind such ones
 abbrev pub AreSeenByCalls : Header → ℕ → Seen → Type 0

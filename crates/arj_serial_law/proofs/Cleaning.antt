@@ -1,5 +1,5 @@
 -- The disks that are seen hold the journal's last state and entry, where nothing is in doubt.
-use Rattle.std.proofs.Common.{inl, inr, ⊎_elim, ◌⊎◌, subst, unwrap_or, ◌≡◌, ℕ, ◌+◌, ◌-◌, ◌==◌, ◌||◌, List, [], ◌∷◌, ◌++◌, length, Bool, true, false, cond, nat_lt, Option, Some, None, refl, sym, ◌∙◌, ap, eqb-true}
+use Rattle.std.proofs.Common.{◌≡◌, ℕ, ◌+◌, ◌-◌, ◌==◌, ◌||◌, List, [], ◌∷◌, ◌++◌, length, Bool, true, false, cond, nat_lt, Option, Some, None, refl, sym, ◌∙◌, ap, eqb-true}
 use Rattle.std.specs.Prelude.{option_map}
 use Rattle.arj_base.specs.declared.state.ObjectState.{ObjectState}
 use Rattle.arj_base.specs.Uid.{entry, object}
@@ -20,11 +20,10 @@ use Rattle.arj_protocol.specs.Effect.{held_at, holder_of}
 use Rattle.arj_protocol.specs.Step.{Node}
 use Rattle.arj_protocol.specs.Values.{state_entry}
 use Rattle.arj_protocol.proofs.Numbers.{number_tells}
-use Rattle.arj_disk_law.specs.Core.{Chain}
 use Rattle.arj_disk_law.specs.Effects.{World}
 use Rattle.arj_disk_law.specs.Laws.{IsClean}
-use Rattle.arj_disk_law.specs.State.{Done, Packed, last, last_entry, last_in}
-use Rattle.arj_disk_law.specs.Words.{In, has}
+use Rattle.arj_disk_law.specs.State.{Packed, last, last_entry}
+use Rattle.arj_disk_law.specs.Words.{has}
 use Rattle.arj_disk_law.proofs.Results.{clean}
 use Rattle.arj_view_law.specs.Seen.{Seen}
 use Rattle.arj_disk_view_law.specs.Entries.{SeesEntry}
@@ -32,7 +31,8 @@ use Rattle.arj_disk_view_law.specs.Pairs.{packed, packed_entry}
 use Rattle.arj_disk_view_law.specs.Sees.{Kinds, SeesDisks}
 use Rattle.arj_disk_view_law.specs.Stores.{SeesStore}
 use Rattle.arj_disk_view_law.proofs.StoreSteps.{place_free}
-use Rattle.arj_serial_law.specs.Cleaned.{AreDecidedOrLate, BeginsSo, HaveForm, IsCleanIn}
+use Rattle.arj_serial_law.specs.Decided.{AreDecided}
+use Rattle.arj_serial_law.specs.Cleaned.{BeginsSo, HaveForm, IsCleanIn}
 use Rattle.arj_serial_law.proofs.Entries.{entry_is_last, stores_back}
 use Rattle.arj_serial_law.proofs.States.{state_is_last}
 use Rattle.arj_serial_law.proofs.Ties.{Ties}
@@ -90,43 +90,20 @@ pub has_among : (s : ℕ) (ns : List ℕ) → has s ns ≡ is_among ns s
 has_among s [] = refl
 has_among s (n ∷ ns) = ap (λ b. (n == s) || b) (has_among s ns)
 
-module _ (header : Header) (lines : List Line) (right : AreRight new_book lines) (tied : Ties (first_values header) lines) (x : ℕ) (kinds : Kinds) (W : World) (M : Seen) (sees : SeesDisks x kinds W M) (decided : AreDecidedOrLate header lines x W.disk) (begins : BeginsSo header x W.disk) (form : HaveForm header x M) where
+module _ (header : Header) (lines : List Line) (right : AreRight new_book lines) (tied : Ties (first_values header) lines) (x : ℕ) (kinds : Kinds) (W : World) (M : Seen) (sees : SeesDisks x kinds W M) (decided : AreDecided header lines x W.disk.tops) (begins : BeginsSo header x W.disk) (form : HaveForm header x M) where
   clean_so : IsClean W.disk
   clean_so = clean W sees.whole
 
-  -- the tops of the journal alone
-  pub chain_behind : (ds es : List Done) → Chain W.disk.first (ds ++ es) → Chain W.disk.first es
-  chain_behind [] es c = c
-  chain_behind (d ∷ ds) es c = chain_behind ds es c.1
-
-  pub in_behind : (ds es : List Done) (d : Done) → In d es → In d (ds ++ es)
-  in_behind [] es d i = i
-  in_behind (e ∷ ds) es d i = inr (in_behind ds es d i)
-
-  pub state_same : last_in W.disk.first decided.others ≡ packed (last_state header lines x)
+  pub state_same : last W.disk ≡ packed (last_state header lines x)
   state_same =
       let core = let w = sees.whole in w.core in
-      state_is_last header lines right tied x W.disk.first decided.others (chain_behind decided.late decided.others (subst (Chain W.disk.first) decided.are core.history.chain))
-      (λ d i c. core.journal.plain d (subst (In d) (sym decided.are) (in_behind decided.late decided.others d i)) c) decided.decided begins.state
+      state_is_last header lines right tied x W.disk.first W.disk.tops core.history.chain core.journal.plain decided begins.state
 
-  entry_same : W.disk.entry_pend ≡ None → last_entry W.disk ≡ packed_entry (entry_state header lines x)
-  entry_same free = decided.unlisted free ∙ entry_is_last header lines x W.disk.first_entry decided.others decided.decided begins.entry
-
-  -- the last state is a late one's, or that of the journal
-  newest : (ds es : List Done) → (last_in W.disk.first (ds ++ es) ≡ last_in W.disk.first es) ⊎ ((d : Done) × (w : Packed) × In d ds × (d.plan.writes ≡ Some w) × (last_in W.disk.first (ds ++ es) ≡ w))
-  newest [] es = inl refl
-  newest (d ∷ ds) es = by d.plan.writes refl (newest ds es)
-    where
-      by : (o : Option Packed) → d.plan.writes ≡ o → (last_in W.disk.first (ds ++ es) ≡ last_in W.disk.first es) ⊎ ((e : Done) × (w : Packed) × In e ds × (e.plan.writes ≡ Some w) × (last_in W.disk.first (ds ++ es) ≡ w))
-          → (unwrap_or d.plan.writes (last_in W.disk.first (ds ++ es)) ≡ last_in W.disk.first es) ⊎ ((e : Done) × (w : Packed) × In e (d ∷ ds) × (e.plan.writes ≡ Some w) × (unwrap_or d.plan.writes (last_in W.disk.first (ds ++ es)) ≡ w))
-      by None is (inl same) = inl (ap (λ o. unwrap_or o (last_in W.disk.first (ds ++ es))) is ∙ same)
-      by None is (inr (e, w, i, wrote, same)) = inr (e, w, inr i, wrote, ap (λ o. unwrap_or o (last_in W.disk.first (ds ++ es))) is ∙ same)
-      by (Some w) is rest = inr (d, w, inl refl, is, ap (λ o. unwrap_or o (last_in W.disk.first (ds ++ es))) is)
+  entry_same : last_entry W.disk ≡ packed_entry (entry_state header lines x)
+  entry_same = entry_is_last header lines x W.disk.first_entry W.disk.tops decided begins.entry
 
   held_is : (s : ℕ) → W.disk.held s ≡ Some (last W.disk) → W.disk.held s ≡ Some (packed (last_state header lines x))
-  held_is s held = ⊎_elim
-      (λ same. held ∙ ap Some (ap (last_in W.disk.first) decided.are ∙ same ∙ state_same))
-      (λ (d, w, i, wrote, same). absurd (decided.unmoved d w s i wrote (held ∙ ap Some (ap (last_in W.disk.first) decided.are ∙ same)))) (newest decided.late decided.others)
+  held_is s held = held ∙ ap Some state_same
 
   entry_free : (n : Node) → M.nodes 1 ≡ Some n → holder_of (entry x) n.disk.names ≡ None → W.disk.entry_pend ≡ None
   entry_free n is free = let e : SeesEntry x n.disk.names W.disk = sees.entry n is in place_free (entry x) n.disk.names packed_entry (Some W.disk.entry) W.disk.entry_pend e.pair free
@@ -137,7 +114,7 @@ module _ (header : Header) (lines : List Line) (right : AreRight new_book lines)
       let e : SeesEntry x n.disk.names W.disk = sees.entry n is in
       let p = e.pair in
       let h = held_some (held_at (entry x) n.disk.names) W.disk.entry packed_entry p.held_is in
-      let same : packed_entry h.0 ≡ packed_entry (entry_state header lines x) = h.2 ∙ clean_so.entry (entry_free n is free) ∙ entry_same (entry_free n is free) in
+      let same : packed_entry h.0 ≡ packed_entry (entry_state header lines x) = h.2 ∙ clean_so.entry (entry_free n is free) ∙ entry_same in
       let f = form.entries n h.0 is h.1 in
       let stores : (state_entry h.0).stores ≡ listed header lines x = ap (λ (q : Packed). q.content) same ∙ stores_back (servers_of_line (object_line header x)) (listed header lines x) in
       h.1 ∙ ap Some (λ i. record {
@@ -154,7 +131,7 @@ module _ (header : Header) (lines : List Line) (right : AreRight new_book lines)
       let o : SeesStore x s m.disk.store W.disk = sees.stores s m there in
       let p = o.pair in
       let pend = entry_free n is free in
-      let content : W.disk.entry.content ≡ listed header lines x = ap (λ (q : Packed). q.content) (clean_so.entry pend ∙ entry_same pend) ∙ stores_back (servers_of_line (object_line header x)) (listed header lines x) in
+      let content : W.disk.entry.content ≡ listed header lines x = ap (λ (q : Packed). q.content) (clean_so.entry pend ∙ entry_same) ∙ stores_back (servers_of_line (object_line header x)) (listed header lines x) in
       let on : has s W.disk.entry.content ≡ true = ap (has s) content ∙ has_among s (listed header lines x) ∙ among in
       let held : W.disk.held s ≡ Some (packed (last_state header lines x)) = held_is s (clean_so.stores pend s on (place_free (object x) m.disk.store packed (W.disk.held s) (W.disk.pend s) p clear)) in
       let h = held_some (held_at (object x) m.disk.store) (packed (last_state header lines x)) packed (p.held_is ∙ held) in

@@ -1,5 +1,5 @@
 -- Disks that are seen, of one object: they hold its last state and its entry, by the journal.
-use Rattle.std.specs.Prelude.{◌≡◌, ℕ, true, List, [], ◌++◌, None, Some}
+use Rattle.std.specs.Prelude.{◌≡◌, ℕ, true, List, [], None, Some}
 use Rattle.arj_base.specs.declared.state.Class.TheVariants as class
 use Rattle.arj_base.specs.declared.state.ObjectState.{ObjectState}
 use Rattle.arj_base.specs.Uid.{entry, nobody, object}
@@ -12,26 +12,14 @@ use Rattle.arj_protocol.specs.Effect.{held_at, holder_of}
 use Rattle.arj_protocol.specs.Order.{uid_number}
 use Rattle.arj_protocol.specs.Step.{Node}
 use Rattle.arj_protocol.specs.Values.{state_entry}
-use Rattle.arj_disk_law.specs.State.{Done, Packed, State, entry_in, last_entry}
-use Rattle.arj_disk_law.specs.Words.{In}
+use Rattle.arj_disk_law.specs.State.{State}
 use Rattle.arj_view_law.specs.Seen.{Seen}
 use Rattle.arj_disk_view_law.specs.Pairs.{packed}
-use Rattle.arj_serial_law.specs.Decided.{AreDecided}
 
 -- the machine began with the object's first value, and with its first stores
 pub record BeginsSo (header : Header) (x : ℕ) (S : State) : Type 0 where
   pub state : S.first ≡ packed (state_after x (first_values header x) [])
   pub entry : S.first_entry ≡ record { version = 0; writer = uid_number nobody; content = first_stores header x }
-
--- The decided tops of the machine: the newest may have no line yet, where their nodes are down with their records; what those wrote stands
--- nowhere, and where no entry is prepared they left it as it was. All others are those of the journal.
-pub record AreDecidedOrLate (header : Header) (lines : List Line) (x : ℕ) (S : State) : Type 0 where
-  pub late : List Done
-  pub others : List Done
-  pub are : S.tops ≡ late ++ others
-  pub decided : AreDecided header lines x others
-  pub unmoved : (d : Done) (w : Packed) (s : ℕ) → In d late → (let p = d.plan in p.writes) ≡ Some w → S.held s ≡ Some w → ⊥
-  pub unlisted : S.entry_pend ≡ None → last_entry S ≡ entry_in S.first_entry others
 
 -- What stands of the object on disks is of its value's class; and its entry is one, with the header's servers.
 pub record HaveForm (header : Header) (x : ℕ) (M : Seen) : Type 0 where

@@ -18,7 +18,8 @@ use Rattle.arj_lock_view_law.specs.Acts.{Acts}
 use Rattle.arj_lock_view_law.specs.Copies.{Codes}
 use Rattle.arj_lock_view_law.specs.Telling.{AreOneTree}
 use Rattle.arj_view_law.specs.Seen.{Seen}
-use Rattle.arj_serial_law.specs.Cleaned.{AreDecidedOrLate, BeginsSo, HaveForm, IsCleanIn}
+use Rattle.arj_serial_law.specs.Decided.{AreDecided}
+use Rattle.arj_serial_law.specs.Cleaned.{BeginsSo, HaveForm, IsCleanIn}
 use Rattle.arj_serial_law.specs.Tied.{AreApart}
 
 -- For an object: a state that its lock machine reaches is tied to the journal so far, where the actions that were begun are one tree
@@ -43,7 +44,7 @@ pub record IsSeenDecided (header : Header) (x : ℕ) (M : Seen) : Type 0 where
   pub kinds : Kinds
   pub world : World
   pub sees : SeesDisks x kinds world M
-  pub decided : AreDecidedOrLate header M.lines x (let w = world in w.disk)
+  pub decided : AreDecided header M.lines x (let w = world in let d = w.disk in d.tops)
   pub begins : BeginsSo header x (let w = world in w.disk)
   pub form : HaveForm header x M
 

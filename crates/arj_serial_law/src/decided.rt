@@ -14,7 +14,7 @@ ghost use Rattle.arj_model.specs.Calls.{Top, tops};
 ghost use Rattle.arj_model.specs.Clean.{Clean, Disks};
 ghost use Rattle.arj_model.specs.Last.{entry_state, first_values, last_state, listed, object_line, uid_of_id};
 ghost use Rattle.arj_model.specs.Serial.{Values};
-ghost use Rattle.arj_serial_law.specs.Cleaned.{AreDecidedOrLate, BeginsSo, IsCleanIn, HaveForm};
+ghost use Rattle.arj_serial_law.specs.Cleaned.{BeginsSo, IsCleanIn, HaveForm};
 ghost use Rattle.arj_serial_law.specs.Decided.{AreDecided, DecideChanges, VotedSo, WroteSo};
 ghost use Rattle.arj_serial_law.specs.Files.{AreShown};
 ghost use Rattle.arj_serial_law.specs.Tied.{AreTied, IsTied};
@@ -51,11 +51,11 @@ pub fn decisions_make_the_last_entry()
         → (last_entry W.disk).content ≡ listed header lines x }
 {}
 
-/// So disks in which the machine is seen are clean, of this object, also while the newest decided tops have no line yet: where no prepared action names its entry, the entry is the
+/// So disks in which the machine is seen are clean, of this object: where no prepared action names its entry, the entry is the
 /// journal's, and each listed store where none names its state holds its last state. It does nothing when it runs.
 pub fn seen_disks_are_clean()
     ensures { (header : Header) (lines : List Line) (x : ℕ) (kinds : Kinds) (W : World) (M : Seen) → AreRight new_book lines → AreTied (first_values header) lines
-        → SeesDisks x kinds W M → AreDecidedOrLate header lines x W.disk → BeginsSo header x W.disk → HaveForm header x M → IsCleanIn header lines x M }
+        → SeesDisks x kinds W M → AreDecided header lines x W.disk.tops → BeginsSo header x W.disk → HaveForm header x M → IsCleanIn header lines x M }
 {}
 
 /// And files that show such disks, of all objects of the header, are clean as `arj_model` has it. It does nothing when it runs.
