@@ -161,15 +161,15 @@ in_doubt = end_of first_office excluding
 abbrev pub recorded : Office
 recorded = end_of in_doubt (Do (Intend 5 (1 ∷ 2 ∷ [])) ∷ [])
 
--- the run in which a top excludes the store 3
+-- what a run leaves in which a top excludes the store 3
 abbrev pub without_three : Office
 without_three = end_of in_doubt excluded
 
--- and then includes it again
+-- and one in which it is then included again
 abbrev pub with_three : Office
 with_three = end_of without_three including
 
--- the run of the first constituent of a serializing action
+-- what the first constituent of a serializing action leaves
 abbrev pub first_constituent : Office
 first_constituent = end_of serial_office serializing
 

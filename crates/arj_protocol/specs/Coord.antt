@@ -291,7 +291,7 @@ nodes_sent u r = nodes_of (filter (λ (w : Went). is_on w.path u) r.went)
 abbrev pub is_invoked_by : Uid → Coord → Went → Bool
 is_invoked_by u c w = w.invoke && survives u w.path c
 
--- the servers that are told of the end of a nested action or top: those that were sent an Invoke of it, or of what was merged into it
+-- the servers that are told of the end of a nested action: those that were sent an Invoke of it, or of what was merged into it
 abbrev pub servers_told : Uid → Root → Coord → List ℕ
 servers_told u r c = nodes_of (filter (is_invoked_by u c) r.went)
 
