@@ -66,6 +66,7 @@ has_row object action rows = list_any (is_row_of object action) rows
 abbrev pub row_of : Uid → Uid → List Row → Option Row
 row_of object action rows = find (is_row_of object action) rows
 
+-- the mode in which the action's own row has the object
 abbrev pub mode_of : Uid → Uid → List Row → Option Mode
 mode_of object action rows = option_map (λ row. row.mode) (row_of object action rows)
 

@@ -29,6 +29,7 @@ uid_eq u w = (u.node == w.node) && ((u.inc == w.inc) && (u.num == w.num))
 abbrev pub object : ℕ → Uid
 object x = record { node = 0; inc = 0; num = x }
 
+-- the Uid of the naming entry of object x
 abbrev pub entry : ℕ → Uid
 entry x = record { node = 0; inc = 1; num = x }
 

@@ -14,15 +14,19 @@ use Rattle.arj_disk.specs.Stored.{stored}
 abbrev pub files_of : MemDisk → FileMap
 files_of d = stored d.files
 
+-- how many of its calls were stopped
 abbrev pub stops_of : MemDisk → ℕ
 stops_of d = d.trigger.stops
 
+-- how many times it was armed
 abbrev pub arms_of : MemDisk → ℕ
 arms_of d = d.trigger.arms.count
 
+-- the arm that was given last: how many calls it lets pass, and how the stopped one ends
 abbrev pub last_arm_of : MemDisk → Option (ℕ × Outcome)
 last_arm_of d = d.trigger.arms.last
 
+-- its stops, its arms, and the last of these
 abbrev pub counts_of : MemDisk → Counts
 counts_of d = counted stops_of arms_of last_arm_of d
 
@@ -31,6 +35,7 @@ abbrev pub armed_by : ℕ → Option (ℕ × Outcome) → Option (ℕ × Outcome
 armed_by left None = None
 armed_by left (Some arm) = if left == 0 then None else Some (left, arm.1)
 
+-- the arm of a disk in memory that waits still
 abbrev pub armed : MemDisk → Option (ℕ × Outcome)
 armed d = armed_by d.trigger.left d.trigger.arms.last
 

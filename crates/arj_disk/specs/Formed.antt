@@ -23,6 +23,7 @@ IsStateOf u bytes = (s : ObjectState) × StateInForm s × (s.uid ≡ u) × (byte
 abbrev pub prepared_bytes : Uid → List Uid → List ℕ
 prepared_bytes a us = codes "ARJP" ++ (uid_bytes a ++ (length us ∷ flat_map uid_bytes us))
 
+-- a prepared file of this action
 abbrev pub IsPreparedOf : Uid → List ℕ → Type 0
 IsPreparedOf a bytes = (us : List Uid) × UidFits a × AllByRecursion UidFits us × (length us ≤ MOST_PREPARED) × (bytes ≡ prepared_bytes a us)
 
@@ -30,6 +31,7 @@ IsPreparedOf a bytes = (us : List Uid) × UidFits a × AllByRecursion UidFits us
 abbrev pub incarnation_bytes : ℕ → List ℕ
 incarnation_bytes n = codes "ARJI" ++ big_bytes 4 n
 
+-- an incarnation file, of a number of four bytes
 abbrev pub IsIncarnation : List ℕ → Type 0
 IsIncarnation bytes = (n : ℕ) × (n < 4294967296) × (bytes ≡ incarnation_bytes n)
 
@@ -37,6 +39,7 @@ IsIncarnation bytes = (n : ℕ) × (n < 4294967296) × (bytes ≡ incarnation_by
 abbrev pub intent_bytes : Uid → Uid → List ℕ → List ℕ
 intent_bytes root top nodes = codes "ARJN" ++ (uid_bytes root ++ (uid_bytes top ++ (length nodes ∷ nodes)))
 
+-- a record of this top, in form
 abbrev pub IsIntentOf : Uid → List ℕ → Type 0
 IsIntentOf top bytes =
     (root : Uid) × (nodes : List ℕ) × UidFits root × UidFits top × (length nodes < 256) × AllByRecursion (λ n. n < 256) nodes × IsStrictlySortedBy nat_cmp nodes × (bytes ≡ intent_bytes root top nodes)

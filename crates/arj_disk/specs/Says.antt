@@ -15,6 +15,7 @@ use Rattle.arj_disk.specs.FileMap.{FileMap}
 abbrev pub role_of : Uid → Role
 role_of u = if (u.node == 0) && (u.inc == 1) then Names else Store
 
+-- it is the same role
 abbrev pub role_eq : Role → Role → Bool
 role_eq Store Store = true
 role_eq Store Names = false
@@ -42,6 +43,7 @@ SameOfRole role old new = (q : Slot) → slot_role q ≡ Some role → new q ≡
 abbrev pub uid_in : List ℕ → Uid
 uid_in bytes = record { node = from_be_bytes w32 (take 4 bytes); inc = from_be_bytes w32 (take 4 (drop 4 bytes)); num = from_be_bytes w64 (take 8 (drop 8 bytes)) }
 
+-- the first n Uids of these bytes, one behind the other
 abbrev pub uids_in : ℕ → List ℕ → List Uid
 uids_in zero bytes = []
 uids_in (suc n) bytes = uid_in (take 16 bytes) ∷ uids_in n (drop 16 bytes)

@@ -14,6 +14,7 @@ abbrev pub role_place : Role → ℕ
 role_place Store = 0
 role_place Names = 1
 
+-- which of two roles comes first
 abbrev pub role_order : Role → Role → Ordering
 role_order r s = nat_cmp (role_place r) (role_place s)
 

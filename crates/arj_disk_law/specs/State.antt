@@ -64,25 +64,28 @@ pub record State : Type 0 where
 abbrev pub naming : ℕ
 naming = 1
 
--- tests of a stage: in its commit; past its prepare step; still working; at its end
+-- tests of a stage: it is in its commit
 abbrev pub is_open : Stage → Bool
 is_open Idle = false
 is_open Preparing = true
 is_open Confirming = true
 is_open Gone = false
 
+-- it is past its prepare step
 abbrev pub is_sealed : Stage → Bool
 is_sealed Idle = false
 is_sealed Preparing = false
 is_sealed Confirming = true
 is_sealed Gone = true
 
+-- it is still working
 abbrev pub is_idle : Stage → Bool
 is_idle Idle = true
 is_idle Preparing = false
 is_idle Confirming = false
 is_idle Gone = false
 
+-- it is at its end
 abbrev pub is_gone : Stage → Bool
 is_gone Idle = false
 is_gone Preparing = false
@@ -145,6 +148,7 @@ abbrev pub last_in : Packed → List Done → Packed
 last_in first [] = first
 last_in first (d ∷ ds) = unwrap_or d.plan.writes (last_in first ds)
 
+-- the entry when these are decided, of which the ones that count changed it in turn
 abbrev pub entry_in : Packed → List Done → Packed
 entry_in first [] = first
 entry_in first (d ∷ ds) = if d.counts then entry_after d.top d.plan d.got (entry_in first ds) else entry_in first ds
@@ -153,6 +157,7 @@ entry_in first (d ∷ ds) = if d.counts then entry_after d.top d.plan d.got (ent
 abbrev pub last : State → Packed
 last S = last_in S.first S.tops
 
+-- the entry, by the journal
 abbrev pub last_entry : State → Packed
 last_entry S = entry_in S.first_entry S.tops
 
@@ -165,6 +170,7 @@ effective_by done some (Some h) held = if done h.top then some h.new else held
 abbrev pub effective : State → ℕ → Option Packed
 effective S s = effective_by (decided S) Some (S.pend s) (S.held s)
 
+-- the entry that the naming node will hold
 abbrev pub effective_entry : State → Packed
 effective_entry S = effective_by (decided S) (λ e. e) S.entry_pend S.entry
 

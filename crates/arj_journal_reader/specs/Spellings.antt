@@ -32,6 +32,7 @@ IsKnown {K} word every = (k : K) → find (λ j. bytes_eq (word j) (word k)) eve
 abbrev pub kinds : List Kind
 kinds = kind.Top ∷ kind.Nested ∷ kind.Independent ∷ kind.Serial ∷ kind.Constituent ∷ []
 
+-- each kind of action has a word of its own
 pub known_kinds : IsKnown kind_text kinds
 known_kinds kind.Top = refl
 known_kinds kind.Nested = refl
@@ -43,6 +44,7 @@ known_kinds kind.Constituent = refl
 abbrev pub parts : List Part
 parts = part.Naming ∷ part.Server ∷ []
 
+-- each part of a node has a word of its own
 pub known_parts : IsKnown part_text parts
 known_parts part.Naming = refl
 known_parts part.Server = refl
@@ -51,6 +53,7 @@ known_parts part.Server = refl
 abbrev pub roles : List Role
 roles = role.Store ∷ role.Names ∷ []
 
+-- each role has a word of its own
 pub known_roles : IsKnown role_text roles
 known_roles role.Store = refl
 known_roles role.Names = refl
@@ -59,6 +62,7 @@ known_roles role.Names = refl
 abbrev pub frame_kinds : List FrameKind
 frame_kinds = frame.Bind ∷ frame.Bound ∷ frame.Load ∷ frame.Loaded ∷ frame.Activate ∷ frame.Activated ∷ frame.Record ∷ frame.Recorded ∷ frame.Invoke ∷ frame.Invoked ∷ frame.Vote ∷ frame.Voted ∷ frame.Prepare ∷ frame.Prepared ∷ frame.Confirm ∷ frame.Confirmed ∷ frame.Told ∷ frame.Acked ∷ frame.Query ∷ frame.Hello ∷ frame.Junk ∷ []
 
+-- each kind of frame has a word of its own
 pub known_frame_kinds : IsKnown frame_text frame_kinds
 known_frame_kinds frame.Bind = refl
 known_frame_kinds frame.Bound = refl
@@ -86,6 +90,7 @@ known_frame_kinds frame.Junk = refl
 abbrev pub limits : List Which
 limits = which.Lines ∷ which.Labels ∷ which.Frames ∷ []
 
+-- each limit has a word of its own
 pub known_limits : IsKnown which_text limits
 known_limits which.Lines = refl
 known_limits which.Labels = refl
@@ -95,6 +100,7 @@ known_limits which.Frames = refl
 abbrev pub cause_kinds : List CauseKind
 cause_kinds = cause.Asked ∷ cause.Doomed ∷ cause.Lost ∷ cause.Conflict ∷ cause.Changed ∷ cause.Old ∷ cause.NoStores ∷ cause.Listed ∷ []
 
+-- each cause has a word of its own
 pub known_cause_kinds : IsKnown cause_word cause_kinds
 known_cause_kinds cause.Asked = refl
 known_cause_kinds cause.Doomed = refl
@@ -109,6 +115,7 @@ known_cause_kinds cause.Listed = refl
 abbrev pub difference_kinds : List DifferenceKind
 difference_kinds = difference.Inc ∷ difference.Bind ∷ []
 
+-- each difference has a word of its own
 pub known_difference_kinds : IsKnown difference_word difference_kinds
 known_difference_kinds difference.Inc = refl
 known_difference_kinds difference.Bind = refl
@@ -117,6 +124,7 @@ known_difference_kinds difference.Bind = refl
 abbrev pub modes : List Mode
 modes = mode.Read ∷ mode.Exclude ∷ mode.Write ∷ []
 
+-- each mode has a word of its own
 pub known_modes : IsKnown mode_text modes
 known_modes mode.Read = refl
 known_modes mode.Exclude = refl
@@ -126,6 +134,7 @@ known_modes mode.Write = refl
 abbrev pub ends : List End
 ends = ending.Abort ∷ ending.Commit ∷ []
 
+-- each end has a word of its own
 pub known_ends : IsKnown end_text ends
 known_ends ending.Abort = refl
 known_ends ending.Commit = refl
@@ -134,6 +143,7 @@ known_ends ending.Commit = refl
 abbrev pub line_kinds : List LineKind
 line_kinds = line.Began ∷ line.Ok ∷ line.Includes ∷ line.Conflict ∷ line.Lost ∷ line.Changed ∷ line.Committing ∷ line.Committed ∷ line.Ended ∷ line.Aborted ∷ line.GaveUp ∷ line.Excluded ∷ line.Granted ∷ line.Lowered ∷ line.Bound ∷ line.Active ∷ line.Told ∷ line.Prepared ∷ line.Done ∷ line.Sent ∷ line.Got ∷ line.Void ∷ line.Dropped ∷ line.Halted ∷ line.Up ∷ line.Armed ∷ line.Recovered ∷ line.Refused ∷ line.Entry ∷ line.Copy ∷ line.Quiet ∷ line.Bad ∷ line.Limit ∷ []
 
+-- each kind of line has a word of its own
 pub known_line_kinds : IsKnown line_word line_kinds
 known_line_kinds line.Began = refl
 known_line_kinds line.Ok = refl

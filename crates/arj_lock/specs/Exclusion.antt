@@ -15,6 +15,7 @@ before u (w ∷ us) = if uid_eq w u then [] else w ∷ before u us
 abbrev pub Agree : List Uid → List Uid → Type 0
 Agree p q = (u : Uid) → is_on p u ≡ true → is_on q u ≡ true → before u p ≡ before u q
 
+-- a path agrees with those of all holders of these rows
 abbrev pub AgreesWithAll : List Uid → List Row → Type 0
 AgreesWithAll path rows = (r : Row) → Contains rows r → Agree path r.holder
 

@@ -24,12 +24,15 @@ has (Against object mode) row = uid_eq row.object object && conflicting row.mode
 
 -- the orders in which an index keeps them, those of `cmp`
 
+-- the order of groups
 abbrev pub group_order : Group → Group → Ordering
 group_order = (group_ord.ghosts).cmp
 
+-- the order of members within a group
 abbrev pub member_order : Member → Member → Ordering
 member_order = (member_ord.ghosts).cmp
 
+-- it is the same group
 abbrev pub same : Group → Group → Bool
 same g h = is_eq (group_order g h)
 

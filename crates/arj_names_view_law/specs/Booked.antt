@@ -35,6 +35,7 @@ pub record CountsOnGrants (x : ℕ) (S : State) (N : Names) (t : ℕ) (grants : 
   pub unsettled : undecided S t ≡ true → NamesGrants x S N t grants
   pub taken : HasPart (S.plan t) → (S.conf t ≡ true) ⊎ (S.light t ≡ true) → (g : ℕ) × HasGrant x g grants × (g ≤ N.inc) × (g ≡ N.inc → N.confd t ≡ true)
 
+-- a Confirm that naming takes newly and for which it prepares an entry is booked in the disk machine
 abbrev pub NewConfirmsAreBooked : Type 0
 NewConfirmsAreBooked = (x : ℕ) (tops : Kinds) (p : Path) (grants : Grants) (excluded included : Marks) (d : Pair) (n : Naming) (A : Office) → Named A → SeesNaming x tops n A.world.disk A.names → SeesEntry x d A.world.disk
     → IsOfTop tops A.world.disk p → ClaimsConfirm x A.world (uid_number (top_of p)) grants excluded included → CountsOnGrants x A.world.disk A.names (uid_number (top_of p)) grants → IsNext A.world.disk (uid_number (top_of p))
