@@ -15,6 +15,7 @@ use Rattle.arj_store.specs.Named.{role_is}
 use Rattle.arj_store.specs.OfFiles.{HasOnly}
 
 module _ (role : Role) (file : FileMap) (none : (q : Slot) → slot_role q ≡ Some role → file q ≡ None) where
+  -- no object has a committed state for the role
   nothing_held : (u : Uid) → held file role u ≡ None
   nothing_held u = by (role_eq (role_of u) role) refl
     where
@@ -22,19 +23,24 @@ module _ (role : Role) (file : FileMap) (none : (q : Slot) → slot_role q ≡ S
       by true e = none (slot.Committed u) (ap Some (role_is (role_of u) role e))
       by false e = refl
 
+  -- no action has anything prepared
   nothing_pends : (a : Uid) → pend file role a ≡ None
   nothing_pends a = ap (option_map _) (none (slot.Prepared role a) refl)
 
+  -- no action names an object
   nothing_named : (a u : Uid) → names (pend file role a) u → ⊥
   nothing_named a u is = subst (λ o. names o u) (nothing_pends a) is
 
+  -- no object is known
   nothing_known : (u : Uid) → IsKnown file role u → ⊥
   nothing_known u = ⊎_elim (λ (h : IsSome (held file role u)). true≢false (sym h ∙ ap is_some (nothing_held u))) (λ (h : (a : Uid) × names (pend file role a) u). nothing_named h.0 u h.1)
 
+  -- so the known objects are few: a list of them is empty
   few : (us : List Uid) → ((u : Uid) → Contains us u → IsKnown file role u) → length us ≤ MOST_KNOWN
   few [] known = leb_yes tt
   few (u ∷ us) known = absurd (nothing_known u (known u (All-head (Contains (u ∷ us)) u us (All-contains_itself (u ∷ us)))))
 
+  -- files among which there is none of the role are formed for it
   pub formed_of_none : FormedFor file role
   formed_of_none = record {
     committed = λ u own. subst (λ o. IfSome o (IsStateOf u)) (sym (none (slot.Committed u) (ap Some own))) tt;
@@ -46,6 +52,7 @@ module _ (role : Role) (file : FileMap) (none : (q : Slot) → slot_role q ≡ S
     few = λ us distinct known. few us known;
   }
 
+  -- they give the empty pair: no committed state, and nothing prepared
   pub only_none : HasOnly role file []
   only_none = record {
     each = tt;

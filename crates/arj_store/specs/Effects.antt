@@ -6,6 +6,7 @@ use Rattle.arj_base.specs.declared.uid.Uid.{Uid}
 use Rattle.arj_disk.specs.Says.{names}
 use Rattle.arj_store.specs.Pair.{Pair, SamePair, Adds, Drops, held_after}
 
+-- a small effect that a call has on the pair
 pub data Effect : Type 0 where
   -- the action becomes prepared with these states
   Keep : Uid → List ObjectState → Effect
@@ -27,6 +28,7 @@ pub record MovesOne (p q : Pair) (act u : Uid) : Type 0 where
 abbrev pub AreMoved : Pair → Uid → Type 0
 AreMoved p act = (u : Uid) → p.held u ≡ held_after (p.pend act) u (p.held u)
 
+-- the effect makes the second pair of the first
 abbrev pub Does : Effect → Pair → Pair → Type 0
 Does (Keep act states) p q = (p.pend act ≡ None) × Adds p q act states
 Does (Move act u) p q = MovesOne p q act u

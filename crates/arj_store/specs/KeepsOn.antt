@@ -28,5 +28,6 @@ keeps_on role actions holdings old new same keeps = record {
     by u None none = λ a. ap (λ o. is_named o u) (objects a) ∙ none a
     by u (Some h) named = ap (λ o. is_named o u) (objects h.act) ∙ named
 
+-- what the store has in memory still fits the files where those of its role are as before
 pub store_keeps_on : (store : ShadowStore) (old new : FileMap) → SameOfRole (role_kept store) old new → StoreKeeps store old → StoreKeeps store new
 store_keeps_on store old new same keeps = keeps_on store.role (at store.pending.actions) (at store.pending.holdings) old new same keeps

@@ -16,6 +16,7 @@ at_uid u entries = lookup (is_at (uid_order u)) entries
 abbrev pub put_uid : {X : Type 0} → Uid → X → List (Uid × X) → List (Uid × X)
 put_uid u value entries = insert_entry uid_order entries u value
 
+-- the entries without any under the Uid
 abbrev pub without_uid : {X : Type 0} → Uid → List (Uid × X) → List (Uid × X)
 without_uid u entries = remove_entry (is_at (uid_order u)) entries
 

@@ -11,9 +11,11 @@ use Rattle.arj_disk.specs.FileMap.{FileMap}
 use Rattle.arj_disk.specs.Says.{role_of, role_eq, held, pend, names, new_of, new_state, named_in, first_file}
 use Rattle.arj_store.specs.Shadow.{is_in, is_named, objects_of}
 
+-- each Uid is equal to itself, as uid_eq tells
 pub uid_same : (u : Uid) → uid_eq u u ≡ true
 uid_same u = λ i. eq-eqb u.node u.node refl i && (eq-eqb u.inc u.inc refl i && eq-eqb u.num u.num refl i)
 
+-- Uids that uid_eq tells equal are the same
 pub uid_is : (u w : Uid) → uid_eq u w ≡ true → u ≡ w
 uid_is u w e =
     let p = and_parts (u.node == w.node) ((u.inc == w.inc) && (u.num == w.num)) e in
@@ -24,6 +26,7 @@ uid_is u w e =
 abbrev pub with_each : (Uid → List ℕ) → List Uid → List (Uid × List ℕ)
 with_each f us = map (λ u. (u, f u)) us
 
+-- the new state of an object of the list is what f gives of it
 pub new_of_each : (f : Uid → List ℕ) (us : List Uid) (u : Uid) → is_in us u ≡ true → new_of (with_each f us) u ≡ Some (f u)
 new_of_each f [] u is = absurd (true≢false (sym is))
 new_of_each f (w ∷ ws) u is = by (uid_eq u w) refl (new_of_each f ws u)
@@ -32,6 +35,7 @@ new_of_each f (w ∷ ws) u is = by (uid_eq u w) refl (new_of_each f ws u)
     by true e rest = rw e (ap (λ x. Some (f x)) (sym (uid_is u w e)))
     by false e rest = rw e (rest (subst (λ (b : Bool). (b || is_in ws u) ≡ true) e is))
 
+-- an object that isn't in the list has no new state there
 pub nothing_of_each : (f : Uid → List ℕ) (us : List Uid) (u : Uid) → is_in us u ≡ false → new_of (with_each f us) u ≡ None
 nothing_of_each f [] u isnt = refl
 nothing_of_each f (w ∷ ws) u isnt = by (uid_eq u w) refl (nothing_of_each f ws u)
@@ -60,10 +64,12 @@ pend_is file role a = by (file (Prepared role a))
     by None = refl
     by (Some bytes) = refl
 
+-- an object in the list, if there is one, is among the states made of it
 names_each : (f : Uid → List ℕ) (o : Option (List Uid)) (u : Uid) → is_named o u ≡ true → names (option_map (with_each f) o) u
 names_each f None u is = absurd (true≢false (sym is))
 names_each f (Some us) u is = ap is_some (new_of_each f us u is)
 
+-- an object among the states made of a list is in that list
 each_names : (f : Uid → List ℕ) (o : Option (List Uid)) (u : Uid) → names (option_map (with_each f) o) u → is_named o u ≡ true
 each_names f None u is = absurd is
 each_names f (Some us) u is = by (is_in us u) refl
@@ -76,6 +82,7 @@ each_names f (Some us) u is = by (is_in us u) refl
 pub names_if : (file : FileMap) (role : Role) (a u : Uid) → is_named (objects_of file role a) u ≡ true → names (pend file role a) u
 names_if file role a u is = rw (pend_is file role a) (names_each (new_state file) (objects_of file role a) u is)
 
+-- the action's file names the object where the action does
 pub named_if : (file : FileMap) (role : Role) (a u : Uid) → names (pend file role a) u → is_named (objects_of file role a) u ≡ true
 named_if file role a u is = each_names (new_state file) (objects_of file role a) u (subst (λ o. names o u) (pend_is file role a) is)
 
@@ -83,6 +90,7 @@ named_if file role a u is = each_names (new_state file) (objects_of file role a)
 pub pend_of : (file : FileMap) (role : Role) (a : Uid) (us : List Uid) → objects_of file role a ≡ Some us → pend file role a ≡ Some (with_each (new_state file) us)
 pend_of file role a us is = pend_is file role a ∙ ap (option_map (with_each (new_state file))) is
 
+-- an action that has no file has nothing prepared
 pub pend_none : (file : FileMap) (role : Role) (a : Uid) → objects_of file role a ≡ None → pend file role a ≡ None
 pend_none file role a is = pend_is file role a ∙ ap (option_map (with_each (new_state file))) is
 
@@ -102,24 +110,29 @@ same_pend old new role a file states = λ i. option_map (λ bytes. map (λ u. (u
 pub same_held : (old new : FileMap) (role : Role) (u : Uid) → new (Committed u) ≡ old (Committed u) → held new role u ≡ held old role u
 same_held old new role u file = λ i. if role_eq (role_of u) role then file i else None
 
+-- where the shadow and the committed file of an object are the same, so is its new state
 pub same_new : (old new : FileMap) (u : Uid) → new (Shadow u) ≡ old (Shadow u) → new (Committed u) ≡ old (Committed u) → new_state new u ≡ new_state old u
 same_new old new u shadow committed = λ i. first_file (shadow i) (committed i)
 
 -- the committed state of an object of the role is its file
+-- (for this: each role is equal to itself, as role_eq tells)
 pub own_role : (role : Role) → role_eq role role ≡ true
 own_role Store = refl
 own_role Names = refl
 
+-- for the role of the object itself, its committed state is its committed file
 pub held_own : (file : FileMap) (role : Role) (u : Uid) → role_of u ≡ role → held file role u ≡ file (Committed u)
 held_own file role u own = subst (λ (r : Role). (if role_eq (role_of u) r then file (Committed u) else None) ≡ file (Committed u)) own (rw (own_role (role_of u)) refl)
 
 -- an object of another role isn't committed here
+-- (for this: roles that role_eq tells equal are the same)
 pub role_is : (a b : Role) → role_eq a b ≡ true → a ≡ b
 role_is Store Store e = refl
 role_is Store Names e = absurd (true≢false (sym e))
 role_is Names Store e = absurd (true≢false (sym e))
 role_is Names Names e = refl
 
+-- an object that has a committed state for a role is of that role, and its committed file is there
 pub held_of_role : (file : FileMap) (role : Role) (u : Uid) → IsSome (held file role u) → (role_of u ≡ role) × IsSome (file (Committed u))
 held_of_role file role u is = by (role_eq (role_of u) role) refl
   where

@@ -36,6 +36,7 @@ pub record SamePair (old new : Pair) : Type 0 where
   pub committed : (u : Uid) → new.held u ≡ old.held u
   pub prepared : (a : Uid) → new.pend a ≡ old.pend a
 
+-- the Uid of the object whose state it is
 abbrev pub uid_of : ObjectState → Uid
 uid_of s = s.uid
 
@@ -160,6 +161,7 @@ pub record FindsPair (p : Pair) (found : Found) : Type 0 where
   pub every_prepared : (a : Uid) → IsSome (p.pend a) → Contains (map (λ e. e.0) found.prepared) a
   pub by_action : IsStrictlySortedBy uid_order (map (λ e. e.0) found.prepared)
 
+-- what is found is empty: no committed state, and no prepared action
 pub record FindsNothing (found : Found) : Type 0 where
   pub committed : found.committed ≡ []
   pub prepared : found.prepared ≡ []

@@ -41,6 +41,7 @@ abbrev pub SortsShadow : Uid → FileMap → (Uid → Option Holding) → FileMa
 SortsShadow u file holdings file' holdings' =
     MatchOption (holdings u) (Sets holdings holdings' u None × Removes file file' (Shadow u)) (λ h. Sets holdings holdings' u (Some (record { act = h.act; shadow = true })) × (file' ≡ file))
 
+-- the shadow of this name is sorted, if its object is of the role; for any other name nothing changes
 abbrev pub SortsSlot : Role → Slot → FileMap → (Uid → Option Holding) → FileMap → (Uid → Option Holding) → Type 0
 SortsSlot role q file holdings file' holdings' =
     ((u : Uid) × (q ≡ Shadow u) × (role_of u ≡ role) × SortsShadow u file holdings file' holdings')
@@ -51,9 +52,11 @@ abbrev pub DropsShadow : Role → (Uid → Option Holding) → FileMap → FileM
 DropsShadow role holdings old new = (new ≡ old) ⊎ ((u : Uid) × (role_of u ≡ role) × (holdings u ≡ None) × Removes old new (Shadow u))
 
 -- only shadows of objects of the role that no action holds are gone
+-- (such an object: it is of the role, and no action holds it)
 abbrev pub IsUnheld : Role → (Uid → Option Holding) → Uid → Type 0
 IsUnheld role holdings u = (role_of u ≡ role) × (holdings u ≡ None)
 
+-- of all files but Tmp only shadows of such objects may have changed: they are gone, or have other states
 abbrev pub DropsShadows : Role → (Uid → Option Holding) → FileMap → FileMap → Type 0
 DropsShadows role holdings old new = ChangesStates place.Shadow (IsUnheld role holdings) old new
 
@@ -87,6 +90,7 @@ abbrev pub entry_at : Slot → List Uid
 entry_at (Committed u) = if role_eq (role_of u) Names then u ∷ [] else []
 entry_at q = []
 
+-- the entries whose committed files are among these names, in the order of the names
 abbrev pub entries_in : List Slot → List Uid
 entries_in names = flat_map entry_at names
 
@@ -107,6 +111,7 @@ abbrev pub first_state : Option ObjectState → Option ObjectState → Option Ob
 first_state (Some s) other = Some s
 first_state None other = other
 
+-- the object's newest state: that of its shadow, or where there is none the committed one
 abbrev pub newest : (Uid → Option ObjectState) → (Uid → Option ObjectState) → Uid → Option ObjectState
 newest shadows committed u = first_state (shadows u) (committed u)
 

@@ -46,6 +46,7 @@ pub record Keeps (role : Role) (actions : Uid → Option (List Uid)) (holdings :
   pub holders_are : (u : Uid) → MatchOption (holdings u) ((a : Uid) → is_named (objects_of file role a) u ≡ false) (λ h. is_named (objects_of file role h.act) u ≡ true)
   pub shadows_are : (u : Uid) → role_of u ≡ role → is_some (file (Shadow u)) ≡ has_shadow (holdings u)
 
+-- the actions and holdings in memory are what the files of the role say
 abbrev pub PendingKeeps : Role → Pending → FileMap → Type 0
 PendingKeeps role pending file = Keeps role (at pending.actions) (at pending.holdings) file
 
@@ -82,6 +83,7 @@ slot_at place.Shadow u = Shadow u
 abbrev pub ChangesStates : Place → (Uid → Type 0) → FileMap → FileMap → Type 0
 ChangesStates kind P old new = (q : Slot) → q ≢ Tmp → (new q ≡ old q) ⊎ ((u : Uid) × P u × (q ≡ slot_at kind u) × IfSome (new q) (IsStateOf u))
 
+-- of objects of the list some files of this kind are gone or have other states; all others but Tmp are as before
 abbrev pub PutsStates : Place → List Uid → FileMap → FileMap → Type 0
 PutsStates kind us old new = ChangesStates kind (λ u. is_in us u ≡ true) old new
 

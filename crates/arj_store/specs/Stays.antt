@@ -13,22 +13,28 @@ use Rattle.arj_store.specs.Shadow.{is_in, objects_of}
 use Rattle.arj_store.specs.Named.{each_same, with_each, new_of_each, nothing_of_each, pend_is, names_if, same_new, role_is}
 
 module _ (role : Role) (old new : FileMap) (same : SameOfRole role old new) (formed : FormedFor old role) where
+  -- each action's file is as before
   prepared_file : (a : Uid) → new (slot.Prepared role a) ≡ old (slot.Prepared role a)
   prepared_file a = same (slot.Prepared role a) refl
 
+  -- so are the objects that it names
   objects : (a : Uid) → objects_of new role a ≡ objects_of old role a
   objects a = ap (option_map named_in) (prepared_file a)
 
+  -- the new state of an object of the role is as before
   states : (u : Uid) → role_of u ≡ role → new_state new u ≡ new_state old u
   states u own = same_new old new u (same (slot.Shadow u) (ap Some own)) (same (slot.Committed u) (ap Some own))
 
+  -- the objects that an action named have the same new states as before
   each : (a : Uid) (o : Option (List Uid)) → objects_of old role a ≡ o → option_map (with_each (new_state new)) o ≡ option_map (with_each (new_state old)) o
   each a None is = refl
   each a (Some us) is = ap Some (each_same (new_state new) (new_state old) us (λ u among. states u (formed.own a u (names_if old role a u (rw is among)))))
 
+  -- what each action has prepared is as before
   prepared : (a : Uid) → pend new role a ≡ pend old role a
   prepared a = pend_is new role a ∙ ap (option_map (with_each (new_state new))) (objects a) ∙ each a (objects_of old role a) refl ∙ sym (pend_is old role a)
 
+  -- each committed state is as before
   committed : (u : Uid) → held new role u ≡ held old role u
   committed u = by (role_eq (role_of u) role) refl
     where
@@ -36,12 +42,15 @@ module _ (role : Role) (old new : FileMap) (same : SameOfRole role old new) (for
       by true e = same (slot.Committed u) (ap Some (role_is (role_of u) role e))
       by false e = refl
 
+  -- so the files give the same pair as before
   pub same_pair_of : SamePair role old new
   same_pair_of = record { committed = committed; prepared = prepared }
 
+  -- an object that an action names now was named by it before
   named : (a u : Uid) → names (pend new role a) u → names (pend old role a) u
   named a u = subst (λ o. names o u) (prepared a)
 
+  -- the files of the role are formed as before
   pub formed_of : FormedFor new role
   formed_of = record {
     committed = λ u own. subst (λ o. IfSome o (IsStateOf u)) (sym (same (slot.Committed u) (ap Some own))) (formed.committed u own);
@@ -70,6 +79,7 @@ module _ (role : Role) (file : FileMap) (formed : FormedFor file role) where
   new_in_form u None (Some bytes) s c there = c
   new_in_form u None None s c there = absurd (true≢false (sym (⊎_elim (λ (h : false ≡ true). h) (λ (h : false ≡ true). h) there)))
 
+  -- each committed state is of an object of the role, and packs a state of it
   committed_sound : (u : Uid) → IfSome (held file role u) (λ bytes. (role_of u ≡ role) × IsStateOf u bytes)
   committed_sound u = by (role_eq (role_of u) role) refl
     where
@@ -81,6 +91,7 @@ module _ (role : Role) (file : FileMap) (formed : FormedFor file role) where
       by true e = let own = role_is (role_of u) role e in with_own (file (slot.Committed u)) own (formed.committed u own)
       by false e = tt
 
+  -- each new state that an action has prepared is of an object of the role, and packs a state of it
   prepared_sound : (a u : Uid) → IfSome (pend file role a) (λ states. IfSome (new_of states u) (λ bytes. (role_of u ≡ role) × IsStateOf u bytes))
   prepared_sound a u = subst (λ o. IfSome o (λ states. IfSome (new_of states u) (λ bytes. (role_of u ≡ role) × IsStateOf u bytes))) (sym (pend_is file role a)) (by (objects_of file role a) refl)
     where
@@ -96,8 +107,10 @@ module _ (role : Role) (file : FileMap) (formed : FormedFor file role) where
       by None is = tt
       by (Some us) is = in_list us (is_in us u) is refl
 
+  -- the pair that formed files give is sound
   pub sound_of : IsSound role (pair_of file role)
   sound_of = record { committed = committed_sound; prepared = prepared_sound; once = formed.once }
 
+-- the same, as the store's law
 pub files_sound : (role : Role) (file : FileMap) → FormedFor file role → IsSound role (pair_of file role)
 files_sound role file formed = sound_of role file formed

@@ -12,6 +12,7 @@ use Rattle.arj_store.specs.Pair.{uid_order}
 abbrev pub uid_cmp : Uid → Uid → Ordering
 uid_cmp = (uid_ord.ghosts).cmp
 
+-- the value that the table has under the Uid, if it has one
 abbrev pub at : {V : Type 0} → Table V → Uid → Option V
 at table u = get uid_cmp table.map u
 
@@ -20,6 +21,7 @@ pub record Sets {V : Type 0} (old new : Uid → Option V) (u : Uid) (value : Opt
   pub here : new u ≡ value
   pub others : (q : Uid) → q ≢ u → new q ≡ old q
 
+-- under each Uid is what was there before
 abbrev pub SameTable : {V : Type 0} → (Uid → Option V) → (Uid → Option V) → Type 0
 SameTable old new = (q : Uid) → new q ≡ old q
 
