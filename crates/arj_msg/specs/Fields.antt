@@ -41,18 +41,23 @@ number8 = one_field (big_bytes 8) (λ n. n < 18446744073709551616) (cut_fixed 8 
 abbrev pub binding_bytes : Binding → List ℕ
 binding_bytes b = big_bytes 4 b.inc ++ big_bytes 4 b.count
 
+-- the binding in eight bytes: four of its incarnation, four of its count
 abbrev pub binding_from : List ℕ → Binding
 binding_from bytes = record { inc = from_be_bytes w32 (take 4 bytes); count = from_be_bytes w32 (drop 4 bytes) }
 
+-- the incarnation and the count of a binding fit four bytes each
 abbrev pub BindingFits : Binding → Type 0
 BindingFits b = (b.inc < 4294967296) × (b.count < 4294967296)
 
+-- a binding: eight bytes, any of them allowed
 unfoldable pub binding : Format Binding
 binding = one_field binding_bytes BindingFits (cut_fixed 8 binding_from (λ _. true))
 
+-- the Uid in sixteen bytes: four of its node, four of its incarnation, eight of its number
 abbrev pub uid_from : List ℕ → Uid
 uid_from bytes = record { node = from_be_bytes w32 (take 4 bytes); inc = from_be_bytes w32 (take 4 (drop 4 bytes)); num = from_be_bytes w64 (drop 8 bytes) }
 
+-- a Uid: sixteen bytes, any of them allowed
 unfoldable pub uid : Format Uid
 uid = one_field uid_bytes UidFits (cut_fixed 16 uid_from (λ _. true))
 
@@ -60,22 +65,28 @@ uid = one_field uid_bytes UidFits (cut_fixed 16 uid_from (λ _. true))
 abbrev pub flag_code : Bool → ℕ
 flag_code b = if b then 1 else 0
 
+-- a yes or no: one byte, 1 or 0
 unfoldable pub flag : Format Bool
 flag = shaped (λ code. code == 1) flag_code (byte 0 1)
 
+-- the mode of a code: 0 read, 1 exclude, else write
 abbrev pub mode_from : ℕ → Mode
 mode_from code = if code == 0 then Read else (if code == 1 then Exclude else Write)
 
+-- a mode of a lock: one byte, 0 to 2
 unfoldable pub mode : Format Mode
 mode = shaped mode_from mode_code (byte 0 2)
 
+-- the end of a code: 0 abort, else commit
 abbrev pub end_from : ℕ → End
 end_from code = if code == 0 then Abort else Commit
 
+-- the code of an end: 0 for abort, 1 for commit
 abbrev pub end_code : End → ℕ
 end_code Abort = 0
 end_code Commit = 1
 
+-- how an action ended: one byte, 0 or 1
 unfoldable pub outcome : Format End
 outcome = shaped end_from end_code (byte 0 1)
 

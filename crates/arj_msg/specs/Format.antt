@@ -15,6 +15,7 @@ pub record Format (A : Type 0) : Type 1 where
   pub read : List ℕ → Result (A × List ℕ) ℕ
 
 infixl 10 ◌>>=◌
+-- goes on with what was read; a failure stays as it is
 abbrev pub ◌>>=◌ : {A B : Type 0} → Result A ℕ → (A → Result B ℕ) → Result B ℕ
 (Ok x) >>= f = f x
 (Err left) >>= f = Err left
@@ -24,6 +25,7 @@ abbrev pub one_of : {A : Type 0} → List ℕ → Option (A × List ℕ) → Res
 one_of bytes None = Err (length bytes)
 one_of bytes (Some x) = Ok x
 
+-- a value that is one field: its spelling, when it has one, and how it is cut from the front of bytes
 abbrev pub one_field : {A : Type 0} → (A → List ℕ) → (A → Type 0) → (List ℕ → Option (A × List ℕ)) → Format A
 one_field spell Fits cut = record { spell = spell; fields = λ a. spell a ∷ []; Fits = Fits; read = λ bytes. one_of bytes (cut bytes) }
 
@@ -31,10 +33,12 @@ one_field spell Fits cut = record { spell = spell; fields = λ a. spell a ∷ []
 abbrev pub between : ℕ → ℕ → ℕ → Bool
 between low high n = nat_le low n && nat_le n high
 
+-- the first byte and those behind it, where there is one and its number is from low to high
 abbrev pub cut_byte : ℕ → ℕ → List ℕ → Option (ℕ × List ℕ)
 cut_byte low high [] = None
 cut_byte low high (b ∷ rest) = if between low high b then Some (b, rest) else None
 
+-- one byte, a number from low to high
 unfoldable pub byte : ℕ → ℕ → Format ℕ
 byte low high = one_field (λ n. n ∷ []) (λ n. between low high n ≡ true) (cut_byte low high)
 
@@ -60,6 +64,7 @@ shaped whole parts f = record {
   read = λ bytes. f.read bytes >>= λ x. Ok (whole x.0, x.1);
 }
 
+-- so many values, each read from where the one before it ended, and the bytes behind the last
 abbrev pub read_many : {A : Type 0} → Format A → ℕ → List ℕ → Result (List A × List ℕ) ℕ
 read_many f zero bytes = Ok ([], bytes)
 read_many f (suc n) bytes = f.read bytes >>= λ x. read_many f n x.1 >>= λ y. Ok (x.0 ∷ y.0, y.1)
@@ -82,6 +87,7 @@ abbrev pub Fails : {A : Type 0} → ReadFault → Result A ℕ → Type 0
 Fails fault.Memory read = ⊤
 Fails (fault.Left n) read = read ≡ Err n
 
+-- a value that a reader returned is, seen by `view`, the one that reading gives; a fault is as `Fails` says
 abbrev pub Gives : {X A : Type 0} → (X → A) → Result X ReadFault → Result A ℕ → Type 0
 Gives view (Ok x) read = read ≡ Ok (view x)
 Gives view (Err e) read = Fails e read
@@ -98,6 +104,7 @@ pub record Case (A : Type 0) : Type 1 where
   pub form : Format Parts
   pub make : Parts → A
 
+-- a case by the format of its parts and how a value is made of them
 abbrev pub case : {A Parts : Type 0} → Format Parts → (Parts → A) → Case A
 case {Parts = Parts} form make = record { Parts = Parts; form = form; make = make }
 
@@ -106,6 +113,7 @@ abbrev pub OneOf : {A : Type 0} → List (Case A) → Type 0
 OneOf [] = ⊥
 OneOf (c ∷ cases) = c.Parts ⊎ OneOf cases
 
+-- the value that is made of the parts, in the way of their case
 abbrev pub made_by : {A : Type 0} (cases : List (Case A)) → OneOf cases → A
 made_by [] s = absurd s
 made_by (c ∷ cases) (inl p) = c.make p
@@ -117,16 +125,19 @@ place [] s = absurd s
 place (c ∷ cases) (inl p) = 0
 place (c ∷ cases) (inr s) = suc (place cases s)
 
+-- the spelling of the parts in the format of their case, without a code before it
 abbrev pub spell_one : {A : Type 0} (cases : List (Case A)) → OneOf cases → List ℕ
 spell_one [] s = absurd s
 spell_one (c ∷ cases) (inl p) = c.form.spell p
 spell_one (c ∷ cases) (inr s) = spell_one cases s
 
+-- the fields of the parts in the format of their case, without a code before them
 abbrev pub fields_of_one : {A : Type 0} (cases : List (Case A)) → OneOf cases → List (List ℕ)
 fields_of_one [] s = absurd s
 fields_of_one (c ∷ cases) (inl p) = c.form.fields p
 fields_of_one (c ∷ cases) (inr s) = fields_of_one cases s
 
+-- the parts have a spelling in the format of their case
 abbrev pub OneFits : {A : Type 0} (cases : List (Case A)) → OneOf cases → Type 0
 OneFits [] s = ⊥
 OneFits (c ∷ cases) (inl p) = c.form.Fits p

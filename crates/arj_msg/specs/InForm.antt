@@ -47,6 +47,7 @@ IsObject x = (1 ≤ x) × (x ≤ 256)
 abbrev pub IsShort : ℕ → Type 0
 IsShort n = n < 4294967296
 
+-- a number of eight bytes
 abbrev pub IsLong : ℕ → Type 0
 IsLong n = n < 18446744073709551616
 
@@ -62,9 +63,11 @@ AreMany P items = (length items < 65536) × AllByRecursion P items
 abbrev pub HeadFits : Head → Type 0
 HeadFits h = AllByRecursion UidFits (uids_of h.path) × IsShort h.req
 
+-- the Uid of who had asked and the request number fit their bytes
 abbrev pub AskedFits : Asked → Type 0
 AskedFits a = UidFits a.act × IsShort a.req
 
+-- at most 255 ends, each of a Uid that fits its bytes
 abbrev pub EndsFit : List (Uid × End) → Type 0
 EndsFit ends = AreFew (λ e. UidFits e.0) ends
 
@@ -72,6 +75,7 @@ EndsFit ends = AreFew (λ e. UidFits e.0) ends
 abbrev pub StateFits : ObjectState → Type 0
 StateFits s = StateInForm s × Restores s.class s.payload
 
+-- numbers of an operation fit eight bytes, and a register is put at most 64 bytes
 abbrev pub OpFits : Op → Type 0
 OpFits Get = ⊤
 OpFits (Add n) = IsLong n
@@ -86,43 +90,52 @@ OpFits (GetKey k) = IsLong k
 OpFits (PutPair k v) = IsLong k × IsLong v
 OpFits (Remove k) = IsLong k
 
+-- a number that an operation answers fits eight bytes, and bytes are at most 64
 abbrev pub AnswerFits : Answer → Type 0
 AnswerFits (answered.Number n) = IsLong n
 AnswerFits (answered.Text bytes) = length bytes ≤ 64
 AnswerFits _ = ⊤
 
+-- what an action had and what it met now, incarnations or bindings, fit their bytes
 abbrev pub WhatFits : What → Type 0
 WhatFits (what.Inc had now) = IsShort had × IsShort now
 WhatFits (what.Bind had now) = BindingFits had × BindingFits now
 
+-- of a reply to a Bind: bindings, incarnations and Uids fit, a server is a node, stores are few nodes
 abbrev pub BoundFits : BoundReply → Type 0
 BoundFits (bound_as.Live binding server server_inc naming_inc stores) = BindingFits binding × IsNode server × IsShort server_inc × IsShort naming_inc × AreFew IsNode stores
 BoundFits (bound_as.Make binding server naming_inc stores) = BindingFits binding × IsNode server × IsShort naming_inc × AreFew IsNode stores
 BoundFits (bound_as.Write naming_inc stores) = IsShort naming_inc × AreFew IsNode stores
 BoundFits (bound_as.Conflict holder mode) = UidFits holder
 
+-- of a reply to a Load: the state fits, or the Uid of the holder
 abbrev pub LoadedFits : LoadedReply → Type 0
 LoadedFits (loaded_as.State state) = StateFits state
 LoadedFits (loaded_as.InDoubt holder) = UidFits holder
 
+-- of a reply to a RecordMsg: what changed fits
 abbrev pub RecordedFits : RecordedReply → Type 0
 RecordedFits recorded_as.Yes = ⊤
 RecordedFits (recorded_as.Changed what) = WhatFits what
 
+-- of a reply to an Invoke: the answer of the operation fits, the Uid of the holder, or what changed
 abbrev pub InvokedFits : InvokedReply → Type 0
 InvokedFits (invoked_as.Answered answer) = AnswerFits answer
 InvokedFits (invoked_as.Conflict holder mode) = UidFits holder
 InvokedFits (invoked_as.Changed what) = WhatFits what
 
+-- of a reply to a Vote: at most 255 states that fit, or what changed
 abbrev pub VotedFits : VotedReply → Type 0
 VotedFits (voted_as.Yes states) = AreFew StateFits states
 VotedFits (voted_as.Changed what) = WhatFits what
 
+-- of a reply to a Prepare: the object is one, and its holder or its held version fits
 abbrev pub PreparedFits : PreparedReply → Type 0
 PreparedFits prepared_as.Yes = ⊤
 PreparedFits (prepared_as.InDoubt x holder) = IsObject x × UidFits holder
 PreparedFits (prepared_as.Old x held) = IsObject x × IsLong held
 
+-- of a reply to a Confirm: the holder fits, or what changed; an object is one, a node is one
 abbrev pub ConfirmedFits : ConfirmedReply → Type 0
 ConfirmedFits confirmed_as.Yes = ⊤
 ConfirmedFits (confirmed_as.Conflict holder mode) = UidFits holder
@@ -130,6 +143,7 @@ ConfirmedFits (confirmed_as.Changed what) = WhatFits what
 ConfirmedFits (confirmed_as.NoStores x) = IsObject x
 ConfirmedFits (confirmed_as.Listed x node) = IsObject x × IsNode node
 
+-- kind by kind: each field of the message is allowed, and fits its bytes
 abbrev pub IsInForm : Message → Type 0
 IsInForm (of.Bind m) = HeadFits m.head × IsObject m.x × BindingFits m.avoid
 IsInForm (of.Bound m) = AskedFits m.asked × BoundFits m.reply

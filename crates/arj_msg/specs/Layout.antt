@@ -15,18 +15,23 @@ use Rattle.arj_msg.specs.declared.fault.MsgFault.TheVariants as fault
 use Rattle.arj_msg.specs.declared.message.Message.{Message}
 use Rattle.arj_msg.specs.declared.message.Message.TheVariants as of
 
+-- tells of ends: the root of the actions, whether an Acked is waited for, and the ends
 unfoldable pub told : Format Told
 told = shaped (λ p. record { root = p.0; ack = p.1.0; ends = p.1.1 }) (λ m. (m.root, (m.ack, m.ends))) (both uid (both flag ends))
 
+-- a Told about this action has been heard: the Uid of the action
 unfoldable pub acked : Format Acked
 acked = shaped (λ p. record { act = p }) (λ m. m.act) uid
 
+-- asks how an action ended: the Uid of the action
 unfoldable pub query : Format Query
 query = shaped (λ p. record { act = p }) (λ m. m.act) uid
 
+-- a node is up again: the node, and its incarnation
 unfoldable pub hello : Format Hello
 hello = shaped (λ p. record { node = p.0; inc = p.1 }) (λ m. (m.node, m.inc)) (both node number4)
 
+-- kinds 1 to 20: each of the eight requests with its answer behind it, then the four without such a head
 abbrev pub message_cases : List (Case Message)
 message_cases =
     case bind of.Bind ∷ case bound of.Bound
@@ -40,6 +45,7 @@ message_cases =
     ∷ case told of.Told ∷ case acked of.Acked
     ∷ case query of.Query ∷ case hello of.Hello ∷ []
 
+-- a message as one of the kinds, by its place among them
 abbrev pub message_parts : Message → OneOf message_cases
 message_parts (of.Bind m) = inl m
 message_parts (of.Bound m) = inr (inl m)
@@ -62,6 +68,7 @@ message_parts (of.Acked m) = inr (inr (inr (inr (inr (inr (inr (inr (inr (inr (i
 message_parts (of.Query m) = inr (inr (inr (inr (inr (inr (inr (inr (inr (inr (inr (inr (inr (inr (inr (inr (inr (inr (inl m))))))))))))))))))
 message_parts (of.Hello m) = inr (inr (inr (inr (inr (inr (inr (inr (inr (inr (inr (inr (inr (inr (inr (inr (inr (inr (inr (inl m)))))))))))))))))))
 
+-- a message: its kind in one byte, from 1 to 20, and what is behind it
 unfoldable pub message : Format Message
 message = choice 1 message_cases message_parts
 
@@ -96,6 +103,7 @@ pub record IsFaultAt (bytes : List ℕ) (p : ℕ) : Type 0 where
   pub here : length (front like count) ≡ p
   pub furthest : (m : Message) (k : ℕ) (more : List ℕ) → MessageInForm m → bytes ≡ front m k ++ more → length (front m k) ≤ p
 
+-- what a fault says of the bytes: one of memory says nothing, one at a place that they fail there
 abbrev pub FaultOf : List ℕ → MsgFault → Type 0
 FaultOf bytes fault.Memory = ⊤
 FaultOf bytes (fault.At p) = IsFaultAt bytes p

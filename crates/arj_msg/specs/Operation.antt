@@ -13,6 +13,7 @@ abbrev pub cut_text : List ℕ → Option (List ℕ × List ℕ)
 cut_text [] = None
 cut_text (n ∷ rest) = if nat_le n 64 && nat_le n (length rest) then Some (take n rest, drop n rest) else None
 
+-- the bytes of a register: their length in one byte, at most 64, and the bytes
 unfoldable pub text : Format (List ℕ)
 text = one_field (λ bytes. length bytes ∷ bytes) (λ bytes. length bytes ≤ 64) cut_text
 
@@ -22,6 +23,7 @@ op_cases =
     case nothing (λ _. Get) ∷ case number8 Add ∷ case number8 Set ∷ case text Put ∷ case number8 Deposit ∷ case number8 Withdraw ∷ case nothing (λ _. Len) ∷ case number8 Push ∷ case nothing (λ _. Pop)
     ∷ case number8 GetKey ∷ case (both number8 number8) (λ p. PutPair p.0 p.1) ∷ case number8 Remove ∷ []
 
+-- an operation as one of the cases, by its place among them, with its arguments
 abbrev pub op_parts : Op → OneOf op_cases
 op_parts Get = inl tt
 op_parts (Add n) = inr (inl n)
@@ -36,6 +38,7 @@ op_parts (GetKey k) = inr (inr (inr (inr (inr (inr (inr (inr (inr (inl k))))))))
 op_parts (PutPair k v) = inr (inr (inr (inr (inr (inr (inr (inr (inr (inr (inl (k, v)))))))))))
 op_parts (Remove k) = inr (inr (inr (inr (inr (inr (inr (inr (inr (inr (inr (inl k)))))))))))
 
+-- an operation: its code in one byte, from 1 to 12, and its arguments
 unfoldable pub operation : Format Op
 operation = choice 1 op_cases op_parts
 
@@ -45,6 +48,7 @@ answer_cases =
     case nothing (λ _. answered.Done) ∷ case number8 answered.Number ∷ case text answered.Text ∷ case nothing (λ _. answered.Over) ∷ case nothing (λ _. answered.Short) ∷ case nothing (λ _. answered.Full)
     ∷ case nothing (λ _. answered.Nothing) ∷ []
 
+-- an answer as one of the cases, by its place among them, with what it tells
 abbrev pub answer_parts : Answer → OneOf answer_cases
 answer_parts answered.Done = inl tt
 answer_parts (answered.Number n) = inr (inl n)
@@ -54,5 +58,6 @@ answer_parts answered.Short = inr (inr (inr (inr (inl tt))))
 answer_parts answered.Full = inr (inr (inr (inr (inr (inl tt)))))
 answer_parts answered.Nothing = inr (inr (inr (inr (inr (inr (inl tt))))))
 
+-- what an operation answers: its code in one byte, from 0 to 6, and what it tells
 unfoldable pub answer : Format Answer
 answer = choice 0 answer_cases answer_parts

@@ -19,6 +19,7 @@ all_read (Ok (a, [])) = Some a
 all_read (Ok (a, b ∷ bytes)) = None
 all_read (Err left) = None
 
+-- the value that the format reads from these bytes, where it leaves none
 abbrev pub in_all : {A : Type 0} → Format A → List ℕ → Option A
 in_all f bytes = all_read (f.read bytes)
 
@@ -27,10 +28,12 @@ abbrev pub rises_from : ℕ → List (ℕ × ℕ) → Bool
 rises_from k [] = true
 rises_from k (p ∷ ps) = nat_lt k p.0 && rises_from p.0 ps
 
+-- the keys of pairs are strictly increasing
 abbrev pub rises : List (ℕ × ℕ) → Bool
 rises [] = true
 rises (p ∷ ps) = rises_from p.0 ps
 
+-- there are pairs, and their keys are strictly increasing
 abbrev pub rise_in : Option (List (ℕ × ℕ)) → Bool
 rise_in None = false
 rise_in (Some ps) = rises ps
@@ -50,9 +53,11 @@ Restores c payload = (v : Value) × (class_of v ≡ c) × ValueInForm v × (payl
 
 -- ---- packed states
 
+-- `ARJ1`, cut from the front of bytes that begin with it
 abbrev pub cut_magic : List ℕ → Option (Unit {0} × List ℕ)
 cut_magic bytes = if starts_with nat_eq bytes (codes "ARJ1") then Some (tt, drop 4 bytes) else None
 
+-- the four bytes `ARJ1` with which each packed state begins
 unfoldable pub magic : Format (Unit {0})
 magic = one_field (λ _. codes "ARJ1") (λ _. Unit {0}) cut_magic
 
@@ -60,6 +65,7 @@ magic = one_field (λ _. codes "ARJ1") (λ _. Unit {0}) cut_magic
 abbrev pub class_from : ℕ → Class
 class_from code = if code == 1 then class.Counter else (if code == 2 then class.Register else (if code == 3 then class.Account else (if code == 4 then class.Queue else class.Table)))
 
+-- the class of an object: one byte, 1 to 5
 unfoldable pub object_class : Format Class
 object_class = shaped class_from class_code_of (byte 1 5)
 
@@ -67,9 +73,11 @@ object_class = shaped class_from class_code_of (byte 1 5)
 abbrev pub bytes_behind_length : ℕ → List ℕ → Option (List ℕ × List ℕ)
 bytes_behind_length n rest = if nat_le n (length rest) then Some (take n rest, drop n rest) else None
 
+-- bytes behind their length of two bytes, cut from the front of bytes that hold all of them
 abbrev pub cut_long : List ℕ → Option (List ℕ × List ℕ)
 cut_long bytes = if nat_lt (length bytes) 2 then None else bytes_behind_length (from_be_bytes w16 (take 2 bytes)) (drop 2 bytes)
 
+-- fewer than 65,536 bytes behind their length of two bytes are one field
 unfoldable pub long_bytes : Format (List ℕ)
 long_bytes = one_field (λ bytes. big_bytes 2 (length bytes) ++ bytes) (λ bytes. length bytes < 65536) cut_long
 
@@ -78,6 +86,7 @@ unfoldable pub packed : Format ObjectState
 packed = shaped (λ p. record { uid = p.1.0; class = p.1.1.0; version = p.1.1.1.0; writer = p.1.1.1.1.0; payload = p.1.1.1.1.1 }) (λ s. (tt, (s.uid, (s.class, (s.version, (s.writer, s.payload))))))
     (both magic (both uid (both object_class (both number8 (both uid long_bytes)))))
 
+-- the state, if there is one and its payload restores in its class
 abbrev pub restored : Option ObjectState → Option ObjectState
 restored None = None
 restored (Some s) = if restores s.class s.payload then Some s else None
@@ -86,10 +95,12 @@ restored (Some s) = if restores s.class s.payload then Some s else None
 unfoldable pub state_from : List ℕ → Option ObjectState
 state_from bytes = restored (in_all packed bytes)
 
+-- the state, if there is one, and the bytes behind it
 abbrev pub with_rest : List ℕ → Option ObjectState → Option (ObjectState × List ℕ)
 with_rest rest None = None
 with_rest rest (Some s) = Some (s, rest)
 
+-- the state that the first bytes of a pair pack, if they pack one, and the second ones behind it
 abbrev pub state_in : Option (List ℕ × List ℕ) → Option (ObjectState × List ℕ)
 state_in None = None
 state_in (Some p) = with_rest p.1 (state_from p.0)
