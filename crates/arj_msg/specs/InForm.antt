@@ -43,7 +43,7 @@ IsNode n = (1 ≤ n) × (n ≤ 16)
 abbrev pub IsObject : ℕ → Type 0
 IsObject x = (1 ≤ x) × (x ≤ 256)
 
--- four bytes and eight bytes
+-- a number of four bytes
 abbrev pub IsShort : ℕ → Type 0
 IsShort n = n < 4294967296
 

@@ -23,7 +23,7 @@ all_read (Err left) = None
 abbrev pub in_all : {A : Type 0} → Format A → List ℕ → Option A
 in_all f bytes = all_read (f.read bytes)
 
--- keys rise from one on, and in a list of pairs
+-- keys rise from one on
 abbrev pub rises_from : ℕ → List (ℕ × ℕ) → Bool
 rises_from k [] = true
 rises_from k (p ∷ ps) = nat_lt k p.0 && rises_from p.0 ps

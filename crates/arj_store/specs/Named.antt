@@ -114,8 +114,7 @@ same_held old new role u file = λ i. if role_eq (role_of u) role then file i el
 pub same_new : (old new : FileMap) (u : Uid) → new (Shadow u) ≡ old (Shadow u) → new (Committed u) ≡ old (Committed u) → new_state new u ≡ new_state old u
 same_new old new u shadow committed = λ i. first_file (shadow i) (committed i)
 
--- the committed state of an object of the role is its file
--- (for this: each role is equal to itself, as role_eq tells)
+-- each role is equal to itself, as role_eq tells
 pub own_role : (role : Role) → role_eq role role ≡ true
 own_role Store = refl
 own_role Names = refl
@@ -124,8 +123,7 @@ own_role Names = refl
 pub held_own : (file : FileMap) (role : Role) (u : Uid) → role_of u ≡ role → held file role u ≡ file (Committed u)
 held_own file role u own = subst (λ (r : Role). (if role_eq (role_of u) r then file (Committed u) else None) ≡ file (Committed u)) own (rw (own_role (role_of u)) refl)
 
--- an object of another role isn't committed here
--- (for this: roles that role_eq tells equal are the same)
+-- roles that role_eq tells equal are the same
 pub role_is : (a b : Role) → role_eq a b ≡ true → a ≡ b
 role_is Store Store e = refl
 role_is Store Names e = absurd (true≢false (sym e))

@@ -51,8 +51,7 @@ SortsSlot role q file holdings file' holdings' =
 abbrev pub DropsShadow : Role → (Uid → Option Holding) → FileMap → FileMap → Type 0
 DropsShadow role holdings old new = (new ≡ old) ⊎ ((u : Uid) × (role_of u ≡ role) × (holdings u ≡ None) × Removes old new (Shadow u))
 
--- only shadows of objects of the role that no action holds are gone
--- (such an object: it is of the role, and no action holds it)
+-- the object is of the role, and no action holds it
 abbrev pub IsUnheld : Role → (Uid → Option Holding) → Uid → Type 0
 IsUnheld role holdings u = (role_of u ≡ role) × (holdings u ≡ None)
 
