@@ -18,3 +18,4 @@ pub mod Joins
 pub mod Includers
 pub mod Based
 pub mod BasedSteps
+pub mod Given
