@@ -18,6 +18,7 @@ use Rattle.arj_disk_view_law.specs.Sees.{Kinds}
 use Rattle.arj_names_view_law.specs.Both.{SeesBoth}
 use Rattle.arj_disk_run_law.specs.Bindings.{AreGoodCounted, KnowsScript}
 use Rattle.arj_disk_run_law.specs.Listed.{IsLoading}
+use Rattle.arj_disk_line_law.specs.Said.{AreNotLate}
 use Rattle.arj_line_law.specs.Knows.{IsKept}
 use Rattle.arj_lock_law.specs.State as lock
 use Rattle.arj_lock_law.specs.Steps.{IsCurrent, LoadsTheLast}
@@ -34,19 +35,21 @@ use Rattle.arj_lock_whole_law.specs.Whole.{KnowsWhole}
 use Rattle.arj_serial_law.specs.Cleaned.{BeginsSo}
 use Rattle.arj_view_law.specs.Seen.{Seen}
 use Rattle.arj_joint_law.specs.Forms.{AreSo, kind_of}
+use Rattle.arj_joint_law.specs.Housed.{AreHoused}
 use Rattle.arj_joint_law.specs.Joined.{ArePlannedSo, SeesRecorded}
 use Rattle.arj_joint_law.specs.Loads.{AreLoadsLast}
 use Rattle.arj_joint_law.specs.Ordered.{AreTurnsOf}
 
--- The object in one state of a run, by both machines: the disk machine, which began as the header says, whose decisions are said, recorded, and
--- ordered as commits were called; this state of the lock machine, with all that goes with it; for all else that may be fixed such a state; and
--- what is known of the protocol alone.
+-- The object in one state of a run, by both machines: the disk machine, which began as the header says, whose decisions are said, none of them
+-- late, recorded, and ordered as commits were called; this state of the lock machine, with all that goes with it; for all else that may be
+-- fixed such a state; and what is known of the protocol alone, with the nodes of all labels there.
 pub record AreBeside (hd : Header) (f : Fixed) (x : ℕ) (begun : List Action) (S : lock.State) (M : Seen) : Type 0 where
   pub tops : Kinds
   pub unwalked : tops.walk ≡ None
   pub office : Office
   pub both : SeesBoth x tops office M
   pub carried : SeesRecorded x tops office M
+  pub early : AreNotLate (let A = office in A.world) M
   pub begins : BeginsSo hd x (let W = office.world in W.disk)
   pub turns : AreTurnsOf M.lines (let W = office.world in let D = W.disk in D.tops)
   pub seen : IsSeenIn (case_of f x begun S) M
@@ -59,6 +62,7 @@ pub record AreBeside (hd : Header) (f : Fixed) (x : ℕ) (begun : List Action) (
   pub whole : KnowsWhole x begun M
   pub known : (AreGoodCounted M × IsKept M) × KnowsScript M
   pub forms : AreSo (kind_of hd x) M
+  pub housed : AreHoused M
 
 -- A store has this state for a call that waits for it under a binding that is current by both machines: its top has the write lock of the entry, which
 -- lists the store, what the store has is the last state by the disk machine, and there nobody who is confirmed is undecided.

@@ -15,6 +15,7 @@ pub mod Joined
 pub mod Recorded
 pub mod Alone
 pub mod Joins
+pub mod Housed
 pub mod Includers
 pub mod Based
 pub mod BasedSteps
