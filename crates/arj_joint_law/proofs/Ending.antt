@@ -15,8 +15,8 @@ use Rattle.arj_disk_law.specs.Effects
 use Rattle.arj_disk_law.specs.Effects.{Allowed, Effect, Follows, Whole, World, after, run}
 use Rattle.arj_disk_law.specs.Guards.{AreOnlyOf, is_only_of, only_decides}
 use Rattle.arj_disk_law.specs.Names.{Office}
-use Rattle.arj_disk_law.specs.State.{Plan}
-use Rattle.arj_disk_law.proofs.Base.{never, put_cases}
+use Rattle.arj_disk_law.specs.State.{Plan, decided, decided_in}
+use Rattle.arj_disk_law.proofs.Base.{never, or_cases, put_cases, test_is}
 use Rattle.arj_disk_law.proofs.Keeps.{effect_keeps}
 use Rattle.arj_disk_view_law.specs.Sees.{Along}
 use Rattle.arj_disk_view_law.proofs.Later.{effects_are_later}
@@ -31,6 +31,10 @@ use Rattle.arj_joint_law.proofs.Recording.{IsConfirming}
 -- Whoever's commit ended without a record had ended so, or is one of these and wrote nothing.
 abbrev pub Ends : (ℕ → Bool) → World → World → Type 0
 Ends g W V = (t : ℕ) → V.disk.bare t ≡ true → (W.disk.bare t ≡ true) ⊎ ((g t ≡ true) × ((let p = V.disk.plan t in p.writes) ≡ None))
+
+-- whoever is decided was so, or is one of these
+abbrev pub NewlyDecides : (ℕ → Bool) → World → World → Type 0
+NewlyDecides g W V = (t : ℕ) → decided V.disk t ≡ true → (decided W.disk t ≡ true) ⊎ (g t ≡ true)
 
 module _ (g : ℕ → Bool) where
   effect_ends : (W : World) (e : Effect) → is_only_of (only_decides g) e ≡ true → Allowed W e → Whole W → Ends g W (after W e)
@@ -71,6 +75,35 @@ module _ (g : ℕ → Bool) where
   pub ends_along : (W V : World) → Whole W → Along (record { from = W; noted = only_decides g }) V → Ends g W V
   ends_along W V whole a = subst (Ends g W) a.here (all_end W a.effects a.only a.allowed whole)
 
+  effect_decides : (W : World) (e : Effect) → is_only_of (only_decides g) e ≡ true → NewlyDecides g W (after W e)
+  effect_decides W (Effects.Decide z) only t d = ⊎_elim (λ (same : (z == t) ≡ true). inr (ap g (sym (test_is z t same)) ∙ only)) (λ (old : decided W.disk t ≡ true). inl old) (or_cases (z == t) (decided W.disk t) d)
+  effect_decides W (Effects.EndBare z) only t d = inl d
+  effect_decides W (Effects.Begin z p) only t d = inl d
+  effect_decides W (Effects.Take z s) only t d = inl d
+  effect_decides W (Effects.Seal z) only t d = inl d
+  effect_decides W (Effects.Intend z nodes) only t d = inl d
+  effect_decides W (Effects.Remove z nodes) only t d = inl d
+  effect_decides W (Effects.Halt z) only t d = inl d
+  effect_decides W (Effects.Keep z s) only t d = inl d
+  effect_decides W (Effects.Move s o) only t d = inl d
+  effect_decides W (Effects.Finish s o) only t d = inl d
+  effect_decides W (Effects.Drop s o) only t d = inl d
+  effect_decides W (Effects.Agree z) only t d = inl d
+  effect_decides W (Effects.Pass z) only t d = inl d
+  effect_decides W (Effects.Enter z) only t d = inl d
+  effect_decides W (Effects.MoveEntry o) only t d = inl d
+  effect_decides W (Effects.FinishEntry o) only t d = inl d
+  effect_decides W (Effects.DropEntry o) only t d = inl d
+  effect_decides W (Effects.Forget r o) only t d = inl d
+  effect_decides W (Effects.Send m) only t d = inl d
+
+  all_decide : (W : World) (es : List Effect) → AreOnlyOf (only_decides g) es → NewlyDecides g W (run W es)
+  all_decide W [] only t d = inl d
+  all_decide W (e ∷ es) only t d = ⊎_elim (λ (here : decided (after W e).disk t ≡ true). effect_decides W e only.0 t here) (λ (new : g t ≡ true). inr new) (all_decide (after W e) es only.1 t d)
+
+  pub decides_along : (W V : World) → Along (record { from = W; noted = only_decides g }) V → NewlyDecides g W V
+  decides_along W V a = subst (NewlyDecides g W) a.here (all_decide W a.effects a.only)
+
 -- ---- a step
 
 -- whom a step may decide
@@ -83,6 +116,11 @@ pub ends_by : (o : Change) (A B : Office) → Whole A.world → Changes o A B �
 ends_by Quietly A B whole c t b = inl (c.bare t b)
 ends_by (Answering z r) A B whole c t b = inl (let o = c.0 in o.bare t b)
 ends_by (Deciding z keeps) A B whole c t b = ends_along (λ y. y == z) A.world B.world whole c.along t b
+
+pub decides_by : (o : Change) (A B : Office) → Changes o A B → NewlyDecides (ends_of o) A.world B.world
+decides_by Quietly A B c t d = inl (ap (λ ds. decided_in ds t) (sym c.tops) ∙ d)
+decides_by (Answering z r) A B c t d = inl (ap (λ ds. decided_in ds t) (sym (let o = c.0 in o.tops)) ∙ d)
+decides_by (Deciding z keeps) A B c t d = decides_along (λ y. y == z) A.world B.world c.along t d
 
 -- by a message it is one whose commit waits for naming
 module _ (x : ℕ) (d : Disk) (t : Parts) (u : Uid) where

@@ -68,7 +68,7 @@ runs_are_joined hd x heard test form there kept rest es short =
 
     -- the disk half, beside states of the lock half
     heard_there : KeepsPart hd x (λ W M. IsCountedWith heard M × (KnowsScript M × HasLocks (first_values hd) x R W M)) (SeesCarried x)
-    heard_there = part_more hd x (λ W M. IsKnownWith heard M × HasStates (first_values hd) x W M) (λ W M. IsCountedWith heard M × (KnowsScript M × HasLocks (first_values hd) x R W M)) (SeesCarried x) (λ W M q. let j = q.1.1 in ((q.0, q.1.0), (j.0, j.1, (λ f a. let z = j.3 f a in (z.0, z.1, z.2, z.3, z.4))))) (heard_beside hd x heard (HasStates (first_values hd) x) (line_there hd x form there).0 kept)
+    heard_there = part_more hd x (λ W M. IsKnownWith heard M × HasStates (first_values hd) x W M) (λ W M. IsCountedWith heard M × (KnowsScript M × HasLocks (first_values hd) x R W M)) (SeesCarried x) (λ W M q. let j = q.1.1 in ((q.0, q.1.0), (j.0, j.1, (λ f a. let z = j.3 f a in (z.0, z.1, z.2, z.3, z.4, z.6))))) (heard_beside hd x heard (HasStates (first_values hd) x) (line_there hd x form there).0 kept)
 
     -- and tied to the journal
     tied : KeepsPart hd x (λ W M. (IsCountedWith heard M × IsKept M) × (KnowsScript M × HasLocks (first_values hd) x R W M)) (SeesTied x)
@@ -79,7 +79,7 @@ runs_are_joined hd x heard test form there kept rest es short =
     recorded = recorded_part hd x (λ W M. (IsCountedWith heard M × IsKept M) × (KnowsScript M × HasLocks (first_values hd) x R W M)) (SeesTied x) (λ W M q. let r = q.1.1 in let k = r.2.0 in let a = k.acks in let w = a.world in w.asked) tied
 
     locked : KeepsPart hd x (λ W M. IsKnownWith heard M) (WithLocks (first_values hd) x R (SeesRecorded x))
-    locked = locks_part hd (first_values hd) x (IsKnownWith heard) KnowsFew R (SeesRecorded x) (λ M r. let s = r.1 in s.0) (kept_beside hd x has E rest.kept) (λ f begins. gives_locks hd x has E f (λ begun S M. IsBeside x heard f begun S M) (first_values hd, begins) (rest_beside (first_values hd) x heard E f begins)) rest.gives (λ b M r. r.0) (λ M few. votes_in M few.1.1) (λ M few. few.1.1) (part_more hd x (λ W M. (IsCountedWith heard M × IsKept M) × (KnowsScript M × HasLocks (first_values hd) x R W M)) (λ W M. IsKnownWith heard M × HasLocks (first_values hd) x R W M) (SeesRecorded x) (λ W M q. let r = q.0 in ((r.0, r.0.0.1), (r.1, q.1))) recorded) (λ tops A M p. p.0.0.0)
+    locked = locks_part hd (first_values hd) x (IsKnownWith heard) KnowsFew R (SeesRecorded x) (λ M r. let s = r.1 in s.0) (kept_beside hd x has E rest.kept) (λ f begins. gives_locks hd x has E f (λ begun S M. IsBeside x heard f begun S M) (first_values hd, begins) (rest_beside (first_values hd) x heard E f begins)) rest.gives (λ b M r. r.0) (λ M few. votes_in M few.1.1) (λ M few. few.1.1) (part_more hd x (λ W M. (IsCountedWith heard M × IsKept M) × (KnowsScript M × HasLocks (first_values hd) x R W M)) (λ W M. IsKnownWith heard M × HasLocks (first_values hd) x R W M) (SeesRecorded x) (λ W M q. let r = q.0 in ((r.0, r.0.0.1), (r.1, q.1))) recorded) (λ tops A M p. p.0.0.0) (λ tops A M p. p.0.1.1)
 
     -- and each two of which one includes a store took turns
     part : KeepsPart hd x (λ W M. IsKnownWith heard M) Joined
@@ -91,7 +91,7 @@ runs_are_joined hd x heard test form there kept rest es short =
       includers = subst (λ (W : World). IncludersTakeTurns M.lines W.disk.tops) same (let k = p.1 in k.turns);
       begun = locks.0;
       alike = locks.1;
-      seen = (λ f a. let z = locks.3 f a in (z.0, z.1, z.2, z.3, z.4));
+      seen = (λ f a. let z = locks.3 f a in (z.0, z.1, z.2, z.3, z.4, z.6));
       requests = requests;
       wrote = (let b = o.begun in let j = b.journalled in wrote hd es x right sent j.tops j.machine j.sees locks.0 locks.1 (λ f a. let z = locks.3 f a in (z.0, z.1, z.2, z.4)) requests);
       bare = (let b = o.begun in let j = b.journalled in bare hd es x right sent j.tops j.machine j.sees locks.0 locks.1 (λ f a. let z = locks.3 f a in (z.0, z.1, z.2, z.4)) requests);

@@ -31,6 +31,7 @@ pub mod Recording
 pub mod Removing
 pub mod Recorded
 pub mod Surviving
+pub mod DecidedTops
 pub mod RestGiven
 pub mod Alone
 pub mod Takers
@@ -74,4 +75,5 @@ pub mod BasedTakes
 pub mod BasedOthers
 pub mod BasedPlans
 pub mod BasedLaws
+pub mod BasedRuns
 pub mod Naming

@@ -1,6 +1,6 @@
 -- Decided tops wrote what their plans have, in the words of the journal.
 use Rattle.std.proofs.Common.{Contains, ◌≡◌, ◌==◌, ◌||◌, ℕ, Bool, true, false, List, [], ◌∷◌, Option, Some, None, refl, sym, ◌∙◌, ap, subst, inl, inr, arith, eq-eqb}
-use Rattle.arj_lock.proofs.Members.{In, in_from, in_to}
+use Rattle.arj_lock.proofs.Members.{In, in_from}
 use Rattle.arj_model.specs.Actions.{acts}
 use Rattle.arj_model.specs.Calls.{Top, tops}
 use Rattle.arj_model.specs.Last.{first_values, uid_of_id}
@@ -16,8 +16,6 @@ use Rattle.arj_disk_view_law.specs.Sees.{Kinds, SeesDisks}
 use Rattle.arj_line_law.specs.Book.{new_book}
 use Rattle.arj_line_law.specs.Paths.{AreAlike, IsAlikeOf}
 use Rattle.arj_line_law.specs.Right.{AreRight}
-use Rattle.arj_line_law.specs.Whose.{IsOfNode}
-use Rattle.arj_line_law.proofs.Owners.{have_nodes}
 use Rattle.arj_lock_law.specs.State.{State}
 use Rattle.arj_lock_run_law.specs.Fixed.{AgreesAs, Fixed}
 use Rattle.arj_lock_run_law.specs.Sees.{SeesLocks}
@@ -141,8 +139,5 @@ module _ (hd : Header) (es : List Asked) (x : ℕ) (right : AreRight new_book (l
       plan : d.plan ≡ W.disk.plan (uid_number (uid_of_id (acts M.lines) u.id))
       plan = (let c = (let w = disks.whole in w.core) in let j = c.journal in j.plan d i) ∙ ap W.disk.plan number
 
-      node : IsOfNode (run_all es (format hd)) k.act
-      node = have_nodes hd es k.act (in_to k.act (acts M.lines) k.there)
-
       planned_its : IsPlannedSo f x S W own
-      planned_its = planned.decisions own node.node node.there (ap (λ (v : Uid). decided_in W.disk.tops (uid_number v)) (sym is_own) ∙ (ap (decided_in W.disk.tops) (sym number) ∙ decided_there W.disk.tops d i))
+      planned_its = planned.decisions own (ap (λ (v : Uid). decided_in W.disk.tops (uid_number v)) (sym is_own) ∙ (ap (decided_in W.disk.tops) (sym number) ∙ decided_there W.disk.tops d i))

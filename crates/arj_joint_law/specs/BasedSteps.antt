@@ -49,6 +49,10 @@ StaysBased f x begun S W Z = (T : lock.State) (V : World) → Run S T → IsLate
 abbrev pub ArePlannedOver : Fixed → ℕ → lock.State → World → Type 0
 ArePlannedOver f x S W = (u : Uid) → (let a = S.action (f.act u) in a.stage) ≡ 3 → (c : Call) → machine.In c S.calls → c.write ≡ true → top c.act ≡ f.act u → Alive S c.act → WasVotedOver f x u S W
 
+-- So much is known of copies and votes, and of committed tops, where the codes of values and of their writers are apart.
+abbrev pub AreBasedSo : Fixed → ℕ → lock.State → World → Seen → Type 0
+AreBasedSo f x S W M = AreApart f.code → AreBased f x S W M × ArePlannedOver f x S W
+
 -- what a store holds of the object was the last state once
 abbrev pub HeldAreKnown : ℕ → World → Disk → Type 0
 HeldAreKnown x W d = (y : ℕ) (st : ObjectState) → held_at (object y) d.store ≡ Some st → st.uid ≡ object x → IsKnownState W st

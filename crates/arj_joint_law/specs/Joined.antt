@@ -37,6 +37,9 @@ use Rattle.arj_lock_run_law.specs.Fixed.{AgreesAs, Fixed}
 use Rattle.arj_lock_run_law.specs.Sees.{SeesLocks}
 use Rattle.arj_lock_run_law.specs.Tied.{AreTied}
 use Rattle.arj_lock_run_law.specs.Votes.{AreVotedAt}
+use Rattle.arj_serial_law.specs.Tied.{AreApart}
+use Rattle.arj_joint_law.specs.Based.{IsVotedOver}
+use Rattle.arj_joint_law.specs.BasedSteps.{AreBasedSo}
 use Rattle.arj_joint_law.specs.Includers.{IncludersTakeTurns}
 use Rattle.arj_joint_law.specs.Loads.{AreLoadsLast}
 use Rattle.arj_joint_law.specs.Ordered.{IsOrderedSo}
@@ -55,7 +58,7 @@ ChangesCalled x u p = (st : ObjectState) → changed_of x p ≡ Some st → (st.
 
 -- The disk machine has a plan of the top that is one of the protocol, with which it waited for naming, in this state of the lock machine, which has gone
 -- on since: its changed state of the object is what the server voted that was called, and none otherwise; and where there is one the lock machine has
--- a call of the top, which wasn't undone.
+-- a call of the top, which wasn't undone, and the vote lay over a known state, where codes are apart.
 pub record IsPlannedSo (f : Fixed) (x : ℕ) (S : lock.State) (W : World) (u : Uid) : Type 0 where
   pub plan : Plan
   pub begun : W.disk.begun (uid_number u) ≡ true
@@ -68,6 +71,7 @@ pub record IsPlannedSo (f : Fixed) (x : ℕ) (S : lock.State) (W : World) (u : U
   pub sees : SeesMachine x (f.act u) (Confirming plan) waiting
   pub changed : ChangesCalled x u plan
   pub counted : (st : ObjectState) → changed_of x plan ≡ Some st → (c : lock.Call) × In c waiting.calls × (top c.act ≡ f.act u) × lock.Alive waiting c.act
+  pub over : AreApart f.code → (st : ObjectState) → changed_of x plan ≡ Some st → IsVotedOver f x u waiting W st
 
 -- ---- all tops
 
@@ -79,23 +83,23 @@ pub record IsRecordedAt (M : Seen) (u : Uid) : Type 0 where
   pub here : M.nodes place ≡ Some node
   pub there : list.In {X = Uid × Intent} (u, intent) (let d = node.disk in d.intents)
 
--- So it is of each top that is decided, at a node that is there, of each that has a record, and of each whose commit ended without one, which wrote
--- nothing.
+-- So it is of each top that is decided, of each that has a record, and of each whose commit ended without one, which wrote nothing.
 pub record ArePlannedSo (f : Fixed) (x : ℕ) (S : lock.State) (W : World) (M : Seen) : Type 0 where
-  pub decisions : (u : Uid) (n : Node) → M.nodes u.node ≡ Some n → decided W.disk (uid_number u) ≡ true → IsPlannedSo f x S W u
+  pub decisions : (u : Uid) → decided W.disk (uid_number u) ≡ true → IsPlannedSo f x S W u
   pub records : (u : Uid) → IsRecordedAt M u → IsPlannedSo f x S W u
   pub bares : (u : Uid) → W.disk.bare (uid_number u) ≡ true → IsPlannedSo f x S W u × ((let p = W.disk.plan (uid_number u) in p.writes) ≡ None)
 
 -- ---- states beside each other
 
 -- The state of the lock machine in which the object is seen stands beside one of its disk machine, of which this holds: commits under way have the
--- votes that came, who is decided had planned so, and what stores gave to calls that wait for it they may give by the lock machine.
+-- votes that came, who is decided had planned so, what stores gave to calls that wait for it they may give by the lock machine, and over which
+-- states copies and votes lie is known.
 abbrev pub IsPaired : ℕ → (Kinds → Office → Seen → Type 0) → Fixed → List Action → lock.State → Seen → Type 0
-IsPaired x P f begun S M = (tops : Kinds) × (tops.walk ≡ None) × (A : Office) × SeesBoth x tops A M × P tops A M × AreVotedAt f x S M × ArePlannedSo f x S A.world M × AreLoadsLast f x S M
+IsPaired x P f begun S M = (tops : Kinds) × (tops.walk ≡ None) × (A : Office) × SeesBoth x tops A M × P tops A M × AreVotedAt f x S M × ArePlannedSo f x S A.world M × AreLoadsLast f x S M × AreBasedSo f x S A.world M
 
 -- The object is seen by its lock machine, for all that may be fixed, agrees and begins with this value, beside this world of its disk machine.
 abbrev pub HasStates : Values → ℕ → World → Seen → Type 0
-HasStates values x W M = (begun : List Action) × IsAlikeOf begun M × ((f : Fixed) → AgreesAs values f x begun M.sent → (S : lock.State) × SeesLocks f x begun S M × AreTied f x M.lines S × AreVotedAt f x S M × ArePlannedSo f x S W M)
+HasStates values x W M = (begun : List Action) × IsAlikeOf begun M × ((f : Fixed) → AgreesAs values f x begun M.sent → (S : lock.State) × SeesLocks f x begun S M × AreTied f x M.lines S × AreVotedAt f x S M × ArePlannedSo f x S W M × AreBasedSo f x S W M)
 
 -- what is still taken of the disk half is asked of such worlds
 abbrev pub KeepsHeardJoined : Header → ℕ → (Seen → Bool) → Type 0
@@ -129,14 +133,14 @@ AreBareSo lines x S = (u : Top) → Contains (tops lines) u → S.bare (uid_numb
 
 -- Both machines of the object at once: the disk machine, whose decisions are those of the journal in their order, also of those that only include
 -- a store; and for all that may be fixed and agrees with what was begun the lock machine, to which the journal is tied, in which commits under
--- way have the votes that came, and by which decided tops had planned. So these wrote what their plans have, and those without a record
--- nothing.
+-- way have the votes that came, by which decided tops had planned, and in which it is known over which states copies and votes lie. So
+-- decided tops wrote what their plans have, and those without a record nothing.
 pub record IsJoinedSo (hd : Header) (x : ℕ) (M : Seen) : Type 0 where
   pub ordered : IsOrderedSo hd x M
   pub includers : IncludersTakeTurns M.lines (let W = world_of ordered in W.disk.tops)
   pub begun : List Action
   pub alike : IsAlikeOf begun M
-  pub seen : (f : Fixed) → AgreesAs (first_values hd) f x begun M.sent → (S : lock.State) × SeesLocks f x begun S M × AreTied f x M.lines S × AreVotedAt f x S M × ArePlannedSo f x S (world_of ordered) M
+  pub seen : (f : Fixed) → AgreesAs (first_values hd) f x begun M.sent → (S : lock.State) × SeesLocks f x begun S M × AreTied f x M.lines S × AreVotedAt f x S M × ArePlannedSo f x S (world_of ordered) M × AreBasedSo f x S (world_of ordered) M
   pub requests : RequestsAreOne M
   pub wrote : AreWritten (first_values hd) M.lines x (let W = world_of ordered in W.disk.tops)
   pub bare : AreBareSo M.lines x (let W = world_of ordered in W.disk)

@@ -51,7 +51,8 @@ pub fn runs_are_clean()
 /// After the run of each script whose header is in form, of at most 1,000,000 events, there are for each object of the header states of both of its
 /// machines at once: of the disk machine, as `decisions_come_behind_calls` has it; and of the lock machine, to which the journal is tied, in
 /// which commits under way have the votes that came. Each top that is decided, or has a record, has in the disk machine the plan with which it
-/// waited for naming in an earlier state of the lock machine: what it changes the object to is what the server voted that was called. So each
+/// waited for naming in an earlier state of the lock machine: what it changes the object to is what the server voted that was called, over a state that
+/// was the last one once; and so it is known of copies and votes, and of committed tops with surviving writes (`AreBasedSo`). So each
 /// decided top of the journal gave to the stores what it wrote, and one whose commit ended without a record wrote nothing. So the run
 /// is serial. What both halves still take is taken, where they stand beside each other: of the lock half what stores give to calls
 /// as they answer, in states beside one of the disk half (`IsBeside`), of the disk half in worlds beside the lock half's (`HasStates`). That
