@@ -94,7 +94,7 @@ answers_memory A D only roots = record {
   answers = only.answers;
   inc = ap (λ (N : Names). N.inc) only.names;
   confd = λ t is. ap (λ (N : Names). N.confd t) only.names ∙ is;
-  onward = onward_still A D A.world (onward_same A.world) (λ z on. on) only.world;
+  onward = onward_still A D A.world (onward_same A.world) (λ z on. on) (λ z on. on) only.world;
 }
 
 -- ---- a request is taken

@@ -32,7 +32,7 @@ use Rattle.arj_run_law.specs.Worlds.{IsGood, IsMemory}
 use Rattle.arj_joint_law.specs.Joined.{IsRecordedAt}
 use Rattle.arj_joint_law.proofs.JoinTurns.{IsFine, IsStale, Settled, UsesNone, changes_nothing, counts_on_old, includes_none, root_is_gone}
 
-some_or_none : (l : List ℕ) → ((s : ℕ) × (has s l ≡ true)) ⊎ ((s : ℕ) → has s l ≡ true → ⊥)
+pub some_or_none : (l : List ℕ) → ((s : ℕ) × (has s l ≡ true)) ⊎ ((s : ℕ) → has s l ≡ true → ⊥)
 some_or_none [] = inr (λ s on. absurd (cc on))
 some_or_none (y ∷ l) = inl (y, or_left (y == y) (has y l) (test_same y))
 
@@ -46,6 +46,33 @@ works_by x tops S t kind.Serial now m top is w = absurd (never top w.0)
 works_by x tops S t kind.Top now m top is w = subst (λ n. WorksBy x S t n) is w.1
 works_by x tops S t kind.Independent now m top is w = subst (λ n. WorksBy x S t n) is w.1
 works_by x tops S t kind.Constituent now m top is w = subst (λ n. WorksBy x S t n) is w.1
+
+pub not_ended : {X : Type 0} (o : Option X) → is_some o ≡ false → o ≡ None
+not_ended None is = refl
+not_ended (Some e) is = absurd (cc is)
+
+-- a commit under way, as the machine has it
+module _ (x : ℕ) (tops : Kinds) (A : Office) (M : Seen) (both : SeesBoth x tops A M) (heard : SeesHeard x tops A M) (good : IsGood M) (j : ℕ) (n : Node) (parts : Parts) (here : M.nodes j ≡ Some n) (live : n.live ≡ Some parts) (u : Uid) (q : Doing) (m : Machine) (works : doing_of u parts.coord ≡ Some q) (now : q.now ≡ Committing m) where
+  begun_acts : AreBegun good.0
+  begun_acts = let g = good.1 in g.begun
+
+  memory : IsMemory good.0 M.sent M.labels j (let d = n.disk in d.inc) (Some parts)
+  memory = subst (IsMemory good.0 M.sent M.labels j (let d = n.disk in d.inc)) live (let g = good.1 in let p = g.places j n here in p.memory)
+
+  coord : IsGoodCoord good.0 (paths_of good.0) parts.coord
+  coord = let g = memory.good (paths_of good.0) (begun_tree good.0 begun_acts) (path_found good.0 begun_acts) in g.coord
+
+  voting : IsVoting parts.coord.tree u (plan_of m)
+  voting = subst (IsBusy parts.coord.tree u) now (coord.busy u q works)
+
+  is_top : tops.is_top (uid_number u) ≡ true
+  is_top = let h = heard.coords j n parts here live in let p = h.plans u q m works now in p.top
+
+  coord_seen : SeesCoord x j (let d = n.disk in d.inc) tops parts.coord A.world.disk
+  coord_seen = let s = both.disks in s.coords j n parts here live
+
+  pub committing_there : WorksBy x A.world.disk (uid_number u) (Committing m)
+  committing_there = let a = voting.asking in let b = a.branch in works_by x tops A.world.disk (uid_number u) b.kind q.now m is_top now (coord_seen.working u b q a.found (not_ended b.ended a.opened) works)
 
 module _ (x : ℕ) (tops : Kinds) (A : Office) (M : Seen) (both : SeesBoth x tops A M) (lines : List Line) (w : Uid) (conf : A.world.disk.conf (uid_number w) ≡ true) (open_w : undecided A.world.disk (uid_number w) ≡ true) where
   abbrev S : State
@@ -170,30 +197,11 @@ module _ (x : ℕ) (tops : Kinds) (A : Office) (M : Seen) (both : SeesBoth x top
   -- ---- one at its commit
 
   module _ (heard : SeesHeard x tops A M) (good : IsGood M) (j : ℕ) (n : Node) (parts : Parts) (here : M.nodes j ≡ Some n) (live : n.live ≡ Some parts) (u : Uid) (q : Doing) (m : Machine) (works : doing_of u parts.coord ≡ Some q) (now : q.now ≡ Committing m) (apart : u ≢ w) (alone : S.root (uid_number u) ≡ S.root (uid_number w) → S.stage (uid_number u) ≡ Idle → ⊥) where
-    begun_acts : AreBegun good.0
-    begun_acts = let g = good.1 in g.begun
-
-    memory : IsMemory good.0 M.sent M.labels j (let d = n.disk in d.inc) (Some parts)
-    memory = subst (IsMemory good.0 M.sent M.labels j (let d = n.disk in d.inc)) live (let g = good.1 in let p = g.places j n here in p.memory)
-
-    coord : IsGoodCoord good.0 (paths_of good.0) parts.coord
-    coord = let g = memory.good (paths_of good.0) (begun_tree good.0 begun_acts) (path_found good.0 begun_acts) in g.coord
-
-    voting : IsVoting parts.coord.tree u (plan_of m)
-    voting = subst (IsBusy parts.coord.tree u) now (coord.busy u q works)
-
     plan_seen : SeesPlan x tops u m A
     plan_seen = let h = heard.coords j n parts here live in h.plans u q m works now
 
-    not_ended : {X : Type 0} (o : Option X) → is_some o ≡ false → o ≡ None
-    not_ended None is = refl
-    not_ended (Some e) is = absurd (cc is)
-
-    coord_seen : SeesCoord x j (let d = n.disk in d.inc) tops parts.coord S
-    coord_seen = let s = both.disks in s.coords j n parts here live
-
     seen : WorksBy x S (uid_number u) (Committing m)
-    seen = let a = voting.asking in let b = a.branch in works_by x tops S (uid_number u) b.kind q.now m plan_seen.top now (coord_seen.working u b q a.found (not_ended b.ended a.opened) works)
+    seen = committing_there x tops A M both heard good j n parts here live u q m works now
 
     -- while it votes
     module _ (p : commit.Plan) (left : List ℕ) (plan : SeesPlan x tops u (Voting p left) A) (idle : S.stage (uid_number u) ≡ Idle) where

@@ -4,7 +4,7 @@ use Rattle.std.proofs.lemmas.List.{append_assoc}
 use Rattle.arj_protocol.specs.Words.{Line, Uid}
 use Rattle.arj_protocol.specs.Commit.{Used}
 use Rattle.arj_protocol.specs.Order.{uid_number}
-use Rattle.arj_disk_law.specs.Effects.{Whole}
+use Rattle.arj_disk_law.specs.Effects.{Whole, World}
 use Rattle.arj_disk_law.specs.Guards.{IsPresent, only_decides}
 use Rattle.arj_disk_law.specs.Names.{Names, Office}
 use Rattle.arj_disk_law.specs.State.{Plan, is_gone}
@@ -13,7 +13,7 @@ use Rattle.arj_disk_law.proofs.Base.{falls_to, never}
 use Rattle.arj_disk_view_law.specs.Plans.{used_at}
 use Rattle.arj_disk_view_law.specs.Sees.{IsLater}
 use Rattle.arj_disk_view_law.proofs.Later.{effects_are_later}
-use Rattle.arj_names_view_law.specs.Both.{GoesOnward, OnlyAnswers, OnlyDecided, OnlyFound, OnlyMemory}
+use Rattle.arj_names_view_law.specs.Both.{GoesOnward, IsPassedNow, OnlyAnswers, OnlyDecided, OnlyFound, OnlyMemory}
 use Rattle.arj_names_view_law.specs.Handlers.{Answering, Change, Changes, Deciding, Quietly}
 use Rattle.arj_names_view_law.proofs.Onward.{goes_onward}
 use Rattle.arj_disk_run_law.specs.Heard.{IsHadBy}
@@ -58,7 +58,7 @@ module _ (A B : Office) (f : IsFurther A B) where
   root_same : (t : ℕ) → B.world.disk.root t ≡ A.world.disk.root t
   root_same t = let l = f.later in ap (λ r. r t) l.root
 
-  had_later : (t i : ℕ) → IsHadBy A t i → IsHadBy B t i
+  pub had_later : (t i : ℕ) → IsHadBy A t i → IsHadBy B t i
   had_later t i h = ⊎_elim (λ own. inl (f.had t i own)) (λ kept. inr (ap (λ r. B.names.had r i) (root_same t) ∙ f.had (A.world.disk.root t) i kept)) h
 
   pub stale_later : (t : ℕ) → IsStale A t → IsStale B t
@@ -97,6 +97,7 @@ pub further_on : (A B C : Office) → A.world ≡ B.world → ((h i : ℕ) → A
 further_on A B C world had inc f = record {
   onward = (let o = f.onward in record {
     conf = λ t on. ⊎_elim (λ old. inl (ap (λ (W : _). W.disk.conf t) world ∙ old)) (λ present. inr present) (o.conf t on);
+    passed = λ t on. subst (λ (W : World). (W.disk.light t ≡ true) ⊎ IsPassedNow W.disk C.world.disk C.names t) (sym world) (o.passed t on);
     light = λ t on. o.light t (ap (λ (W : _). W.disk.light t) (sym world) ∙ on);
     gone = λ t on. o.gone t (ap (λ (W : _). is_gone (W.disk.stage t)) (sym world) ∙ on);
     begins = λ t on. ⊎_elim (λ old. inl (ap (λ (W : _). W.disk.begun t) world ∙ old)) (λ there. inr (ap (λ (W : _). is_gone (W.disk.stage (W.disk.root t))) world ∙ there)) (o.begins t on);

@@ -58,6 +58,8 @@ pub mod JoinTurns
 pub mod JoinFresh
 pub mod JoinStep
 pub mod JoinKeeps
+pub mod LightStates
+pub mod LightStep
 pub mod JoinOrder
 pub mod IdlePlaces
 pub mod BasedServers

@@ -17,6 +17,7 @@ pub mod Alone
 pub mod Joins
 pub mod Housed
 pub mod Includers
+pub mod Lights
 pub mod Based
 pub mod BasedSteps
 pub mod Given

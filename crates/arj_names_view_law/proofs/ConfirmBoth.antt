@@ -35,7 +35,7 @@ use Rattle.arj_names_view_law.specs.Both.{ConfirmsKeepBoth, IsSeenFrom, OnlyMemo
 use Rattle.arj_names_view_law.specs.Memory.{IsOfTop, SeesNaming}
 use Rattle.arj_names_view_law.proofs.Binding.{path_untold}
 use Rattle.arj_names_view_law.proofs.NamingWalks.{memory, of_on}
-use Rattle.arj_names_view_law.proofs.NewConfirms.{confirm_present, exclude_free, new_confirms_are_acts, new_confirms_are_booked, old_confirms_are_nothing}
+use Rattle.arj_names_view_law.proofs.NewConfirms.{confirm_passed, confirm_present, exclude_free, new_confirms_are_acts, new_confirms_are_booked, old_confirms_are_nothing}
 use Rattle.arj_names_view_law.proofs.Noting.{excludes_are_acts}
 use Rattle.arj_names_view_law.proofs.Onward.{onward_by, onward_still}
 use Rattle.arj_names_view_law.proofs.Pairing.{Still, left_disk, naming_on, root_same, seen_as, still, still_only, stopped_both, stopped_still, unfollowed, walks_at}
@@ -94,7 +94,7 @@ module _ (x : ℕ) (tops : Kinds) (unwalked : tops.walk ≡ None) (e : ℕ) (d :
         names = B.names;
         named_then = st.named;
         inc = by.inc;
-        only = record { later = later_on A.world B.world U (subst (IsLater A.world) (sym by.world) (effects_are_later A.world (f ∷ []) (allowed, tt) (let c = both.named in c.whole))) st.later; tops = st.tops ∙ ap (λ (V : World). V.disk.tops) by.world ∙ fixed.0; bare = λ z on. ap (λ (g : ℕ → Bool). g z) (sym fixed.2) ∙ ap (λ (V : World). V.disk.bare z) (sym by.world) ∙ st.bare z on; had = by.had; kept = by.kept; answers = by.answers; inc = by.inc; confd = by.confd; onward = onward_by A (record { world = U; names = B.names }) f allowed (confirm_present x tops h.path grants excluded included d.names n A both.named now entry of claims.1 (counts new).0 (counts new).1 new f which allowed) along by.had by.inc };
+        only = record { later = later_on A.world B.world U (subst (IsLater A.world) (sym by.world) (effects_are_later A.world (f ∷ []) (allowed, tt) (let c = both.named in c.whole))) st.later; tops = st.tops ∙ ap (λ (V : World). V.disk.tops) by.world ∙ fixed.0; bare = λ z on. ap (λ (g : ℕ → Bool). g z) (sym fixed.2) ∙ ap (λ (V : World). V.disk.bare z) (sym by.world) ∙ st.bare z on; had = by.had; kept = by.kept; answers = by.answers; inc = by.inc; confd = by.confd; onward = onward_by A (record { world = U; names = B.names }) f allowed (confirm_present x tops h.path grants excluded included d.names n A both.named now entry of claims.1 (counts new).0 (counts new).1 new f which allowed) (confirm_passed x tops h.path grants excluded included d.names n A both.named now entry of claims.1 (counts new).0 (counts new).1 new f which allowed) along by.had by.inc };
         seen = naming_on x tops (confirms (top_of h.path) (with_locks h.path grants excluded d.names n)) B.world.disk U.disk B.names (root ∙ sym (ap (λ (V : World). V.disk.root) by.world ∙ fixed.1)) go.there.1;
       }
 
@@ -130,7 +130,7 @@ module _ (x : ℕ) (tops : Kinds) (unwalked : tops.walk ≡ None) (e : ℕ) (d :
         only.world,
         runs_keep B go.acts go.may st.named,
         only.inc,
-        record { later = subst (IsLater A.world) (sym only.world) st.later; tops = ap (λ (V : World). V.disk.tops) only.world ∙ st.tops; bare = λ z on. st.bare z (ap (λ (V : World). V.disk.bare z) (sym only.world) ∙ on); had = only.had; kept = only.kept; answers = only.answers; inc = only.inc; confd = λ z on. ap (λ f. f z) only.confd ∙ on; onward = onward_still A (end_of B go.acts) W st.onward st.unconfirmed only.world },
+        record { later = subst (IsLater A.world) (sym only.world) st.later; tops = ap (λ (V : World). V.disk.tops) only.world ∙ st.tops; bare = λ z on. st.bare z (ap (λ (V : World). V.disk.bare z) (sym only.world) ∙ on); had = only.had; kept = only.kept; answers = only.answers; inc = only.inc; confd = λ z on. ap (λ f. f z) only.confd ∙ on; onward = onward_still A (end_of B go.acts) W st.onward st.unconfirmed st.unpassed only.world },
         subst (λ z. SeesNaming x tops z (end_of B go.acts).world.disk (end_of B go.acts).names) (sym is) go.there.1,
       )
   unconfirmed W st root of_now o (inr (inr (is, again, untold))) =

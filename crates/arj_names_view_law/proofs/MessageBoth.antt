@@ -196,7 +196,7 @@ module _ (x : ℕ) (tops : Kinds) (unwalked : tops.walk ≡ None) (e : ℕ) (d :
           (of_top ending.Commit is (both.disks.kinds (uid_number u) (bare_begun A.world (uid_number u) (let c = both.disks in c.whole) bare)).0 B (told_bare x tops A (up 1 d t M) (uid_number u) unwalked bare both) (inr (inl refl)))
         where
           turned : {N : Seen} → IsSeenFrom x tops (record { world = after A.world (machine.Send (mail.ToldBare (uid_number u) naming_node)); names = A.names }) N → IsSeenFrom x tops A N
-          turned (C, only, s) = (C, record { later = later_on A.world (after A.world (machine.Send (mail.ToldBare (uid_number u) naming_node))) C.world (effects_are_later A.world (machine.Send (mail.ToldBare (uid_number u) naming_node) ∷ []) (bare, tt) (let c = both.disks in c.whole)) only.later; tops = only.tops; bare = only.bare; had = only.had; kept = only.kept; answers = only.answers; inc = only.inc; confd = only.confd; onward = (let o = only.onward in record { conf = o.conf; light = o.light; gone = o.gone; begins = o.begins }) }, s)
+          turned (C, only, s) = (C, record { later = later_on A.world (after A.world (machine.Send (mail.ToldBare (uid_number u) naming_node))) C.world (effects_are_later A.world (machine.Send (mail.ToldBare (uid_number u) naming_node) ∷ []) (bare, tt) (let c = both.disks in c.whole)) only.later; tops = only.tops; bare = only.bare; had = only.had; kept = only.kept; answers = only.answers; inc = only.inc; confd = only.confd; onward = (let o = only.onward in record { conf = o.conf; passed = o.passed; light = o.light; gone = o.gone; begins = o.begins }) }, s)
       by (inr nested) = of_other ending.Commit is claims.1 (inr nested)
   told_both ending.Abort claims is = by claims.0
     where

@@ -85,7 +85,7 @@ module _ (x : ℕ) (tops : Kinds) (unwalked : tops.walk ≡ None) (e : ℕ) (d :
           let C : Office = end_of B go.acts in
           let only = go.there.0 in (
             C,
-            record { later = subst (IsLater A.world) (sym only.world) st.later; tops = ap (λ (V : World). V.disk.tops) only.world ∙ st.tops; bare = λ z on. st.bare z (ap (λ (V : World). V.disk.bare z) (sym only.world) ∙ on); had = only.had; kept = only.kept; answers = only.answers; inc = only.inc; confd = λ z on. ap (λ f. f z) only.confd ∙ on; onward = onward_still A C W st.onward st.unconfirmed only.world },
+            record { later = subst (IsLater A.world) (sym only.world) st.later; tops = ap (λ (V : World). V.disk.tops) only.world ∙ st.tops; bare = λ z on. st.bare z (ap (λ (V : World). V.disk.bare z) (sym only.world) ∙ on); had = only.had; kept = only.kept; answers = only.answers; inc = only.inc; confd = λ z on. ap (λ f. f z) only.confd ∙ on; onward = onward_still A C W st.onward st.unconfirmed st.unpassed only.world },
             seen_as x tops 1 d (Some t) A M both (with_naming t s.part) C N last (runs_keep B go.acts go.may st.named) only.inc (subst (λ V. SeesDisks x tops V (up 1 last (with_naming t s.part) N)) (sym only.world) disks) inc same
                 (λ o one is. let same_part : s.part ≡ o = some_is refl is in subst (λ z. SeesNaming x tops z C.world.disk C.names) same_part go.there.1) (λ other. absurd (cc other)),
             go.there.2,

@@ -19,6 +19,7 @@ use Rattle.arj_protocol.proofs.Numbers.{number_tells}
 use Rattle.arj_protocol.proofs.Payloads.{entry_back}
 use Rattle.arj_disk_law.specs.Effects.{Effect, Agree, Pass, Enter, Allowed, CanAgree, CanPass, CanEnter, IsUnlisted, after, changed, new_list}
 use Rattle.arj_disk_law.specs.Guards.{HasPart, HasPresent, IsNext, IsPresent, IsUntold, May, MayAgree, MayConfirm, MayEnter, MayExclude, MayPass, end_of}
+use Rattle.arj_disk_law.specs.Messages.{Confirm, Meaning}
 use Rattle.arj_disk_law.specs.Named as names
 use Rattle.arj_disk_law.specs.Names.{Names, Office, Do, acted}
 use Rattle.arj_disk_law.specs.State.{State, Packed, Hold, target, undecided}
@@ -36,6 +37,7 @@ use Rattle.arj_disk_view_law.proofs.ConfirmSteps.{Held, held_is, marked_is, stan
 use Rattle.arj_disk_view_law.proofs.ConfirmWalks.{are_new, both_none, each_none, has_listed, last_two, new_not, not_empty, not_there}
 use Rattle.arj_disk_view_law.proofs.Keys as keys
 use Rattle.arj_names_view_law.specs.Booked.{CountsOnGrants, HasGrant, IsConfirmedBy, NewConfirmsAreActs, NewConfirmsAreBooked, OldConfirmsAreNothing}
+use Rattle.arj_names_view_law.specs.Both.{IsPassedNow}
 use Rattle.arj_names_view_law.specs.Calls.{HasExclude, OnlyLocks}
 use Rattle.arj_names_view_law.specs.Memory.{IsOfTop, NamesGo, SeesNaming, SeesRows}
 use Rattle.arj_names_view_law.proofs.Binding.{path_untold, with_is}
@@ -291,6 +293,16 @@ module _ (x : ℕ) (tops : Kinds) (p : Path) (grants : Grants) (excluded include
   confirm_present e (inr (inr is)) allowed z on =
       let a : CanEnter A.world t = subst (Allowed A.world) is allowed in
       marked_present (changes_part (record { world = A.world; names = M }) named_then t may present a.other) z (ap (λ y. (after A.world y).disk.conf z) (sym is) ∙ on)
+
+  -- and so it is of whom it confirms as one that changes nothing
+  pub confirm_passed : (e : Effect) → IsConfirmation t e → Allowed A.world e → (z : ℕ) → (after A.world e).disk.light z ≡ true → (S.light z ≡ true) ⊎ IsPassedNow S S N z
+  confirm_passed e (inl is) allowed z on = inl (ap (λ y. (after A.world y).disk.light z) (sym is) ∙ on)
+  confirm_passed e (inr (inl is)) allowed z on = put_cases (λ b. b ≡ true → (S.light z ≡ true) ⊎ IsPassedNow S S N z) t (S.light t || undecided S t) S.light z
+      (λ same b. ⊎_elim (λ old. inl (ap S.light same ∙ old)) (λ u. inr (subst (IsPassedNow S S N) (sym same) (record { begun = asked.0; sealed = asked.1; opened = u; unconfirmed = (let a : CanPass A.world t = subst (Allowed A.world) is allowed in a.unconfirmed u); present = λ part. let p = present_now part in p.all u }))) (or_cases (S.light t) (undecided S t) b)) (λ other b. inl b) (ap (λ y. (after A.world y).disk.light z) (sym is) ∙ on)
+    where
+      asked : Meaning S (Confirm t)
+      asked = let w = c.whole in w.mail (Confirm t) claims.asked
+  confirm_passed e (inr (inr is)) allowed z on = inl (ap (λ y. (after A.world y).disk.light z) (sym is) ∙ on)
 
   abbrev Part : Naming
   Part = let l = lock_all (wanted (top_of p) grants excluded d) p n in l.part

@@ -9,7 +9,7 @@ use Rattle.arj_disk_law.specs.State.{Confirming, Gone, Preparing, State, is_gone
 use Rattle.arj_disk_law.specs.Words.{put}
 use Rattle.arj_disk_law.proofs.Base.{falls_to, never, or_left, put_cases}
 use Rattle.arj_disk_view_law.specs.Sees.{Along}
-use Rattle.arj_names_view_law.specs.Both.{GoesOnward}
+use Rattle.arj_names_view_law.specs.Both.{GoesOnward, IsPassedNow}
 
 -- ---- of the machine
 
@@ -122,6 +122,37 @@ module _ (f : Note → Bool) (z : ℕ) (none : f (Confirms z) ≡ false) where
   pub none_confirmed : (W V : World) → Along (record { from = W; noted = f }) V → V.disk.conf z ≡ true → W.disk.conf z ≡ true
   none_confirmed W V a on = all_unconfirmed W a.effects a.only (ap (λ (U : World). U.disk.conf z) a.here ∙ on)
 
+-- nor is one that may not be confirmed as one that changes nothing
+module _ (f : Note → Bool) (z : ℕ) (none : f (Confirms z) ≡ false) where
+  unlit : (S : State) (a : machine.Effect) → is_only_of f a ≡ true → (machine.changed S a).light z ≡ true → S.light z ≡ true
+  unlit S (machine.Begin t p) is on = on
+  unlit S (machine.Take t s) is on = on
+  unlit S (machine.Seal t) is on = on
+  unlit S (machine.Intend t nodes) is on = on
+  unlit S (machine.Decide t) is on = on
+  unlit S (machine.Remove t nodes) is on = on
+  unlit S (machine.EndBare t) is on = on
+  unlit S (machine.Halt t) is on = on
+  unlit S (machine.Keep t s) is on = on
+  unlit S (machine.Move s h) is on = on
+  unlit S (machine.Finish s h) is on = on
+  unlit S (machine.Drop s h) is on = on
+  unlit S (machine.Agree t) is on = on
+  unlit S (machine.Pass t) is on = put_cases (λ b. b ≡ true → S.light z ≡ true) t (S.light t || undecided S t) S.light z (λ same b. absurd (never (ap (λ k. f (Confirms k)) same ∙ is) none)) (λ other b. b) on
+  unlit S (machine.Enter t) is on = on
+  unlit S (machine.MoveEntry h) is on = on
+  unlit S (machine.FinishEntry h) is on = on
+  unlit S (machine.DropEntry h) is on = on
+  unlit S (machine.Forget r h) is on = on
+  unlit S (machine.Send m) is on = on
+
+  all_unlit : (W : World) (es : List machine.Effect) → AreOnlyOf f es → (run W es).disk.light z ≡ true → W.disk.light z ≡ true
+  all_unlit W [] only on = on
+  all_unlit W (a ∷ es) only on = unlit W.disk a only.0 (all_unlit (after W a) es only.1 on)
+
+  pub none_passed : (W V : World) → Along (record { from = W; noted = f }) V → V.disk.light z ≡ true → W.disk.light z ≡ true
+  none_passed W V a on = all_unlit W a.effects a.only (ap (λ (U : World). U.disk.light z) a.here ∙ on)
+
 -- a walk goes onward
 pub along_onward : (f : Note → Bool) (W V : World) → Along (record { from = W; noted = f }) V → IsOnward W V
 along_onward f W V a = subst (IsOnward W) a.here (effects_onward W a.effects a.allowed)
@@ -132,23 +163,25 @@ along_onward f W V a = subst (IsOnward W) a.here (effects_onward W a.effects a.a
 pub goes_onward : (f : Note → Bool) → ((z : ℕ) → f (Confirms z) ≡ false) → (A B : Office) → Along (record { from = A.world; noted = f }) B.world → GoesOnward A B
 goes_onward f none A B a =
     let o = along_onward f A.world B.world a in
-    record { conf = λ z on. inl (none_confirmed f z (none z) A.world B.world a on); light = o.light; gone = o.gone; begins = o.begins }
+    record { conf = λ z on. inl (none_confirmed f z (none z) A.world B.world a on); passed = λ z on. inl (none_passed f z (none z) A.world B.world a on); light = o.light; gone = o.gone; begins = o.begins }
 
 -- where the machine came to this world, and nobody was confirmed
-pub onward_still : (A C : Office) (W : World) → IsOnward A.world W → ((z : ℕ) → W.disk.conf z ≡ true → A.world.disk.conf z ≡ true) → C.world ≡ W → GoesOnward A C
-onward_still A C W o conf is = record {
+pub onward_still : (A C : Office) (W : World) → IsOnward A.world W → ((z : ℕ) → W.disk.conf z ≡ true → A.world.disk.conf z ≡ true) → ((z : ℕ) → W.disk.light z ≡ true → A.world.disk.light z ≡ true) → C.world ≡ W → GoesOnward A C
+onward_still A C W o conf light is = record {
   conf = λ z on. inl (conf z (ap (λ (V : World). V.disk.conf z) (sym is) ∙ on));
+  passed = λ z on. inl (light z (ap (λ (V : World). V.disk.light z) (sym is) ∙ on));
   light = λ z on. ap (λ (V : World). V.disk.light z) is ∙ o.light z on;
   gone = λ z on. ap (λ (V : World). is_gone (V.disk.stage z)) is ∙ o.gone z on;
   begins = λ z on. o.begins z (ap (λ (V : World). V.disk.begun z) (sym is) ∙ on);
 }
 
 -- where naming confirmed a top first, whose grants are present
-pub onward_by : (A C : Office) (f : machine.Effect) → Allowed A.world f → ((z : ℕ) → (after A.world f).disk.conf z ≡ true → (A.world.disk.conf z ≡ true) ⊎ IsPresent A.world.disk A.names z) → Along (record { from = after A.world f; noted = λ n. false }) C.world
+pub onward_by : (A C : Office) (f : machine.Effect) → Allowed A.world f → ((z : ℕ) → (after A.world f).disk.conf z ≡ true → (A.world.disk.conf z ≡ true) ⊎ IsPresent A.world.disk A.names z)
+    → ((z : ℕ) → (after A.world f).disk.light z ≡ true → (A.world.disk.light z ≡ true) ⊎ IsPassedNow A.world.disk A.world.disk A.names z) → Along (record { from = after A.world f; noted = λ n. false }) C.world
     → C.names.had ≡ A.names.had → C.names.inc ≡ A.names.inc → GoesOnward A C
-onward_by A C f allowed confirms a had inc = record {
-  conf = λ z on. ⊎_elim (λ old. inl old) (λ present. inr (λ i h. present i (⊎_elim (λ own. inl (ap (λ g. g z i) (sym had) ∙ own)) (λ kept. inr (ap (λ r. A.names.had (r z) i) (sym root) ∙ ap (λ g. g (C.world.disk.root z) i) (sym had) ∙ kept)) h) ∙ sym inc))
-      (confirms z (none_confirmed (λ n. false) z refl (after A.world f) C.world a on));
+onward_by A C f allowed confirms passes a had inc = record {
+  conf = λ z on. ⊎_elim (λ old. inl old) (λ present. inr (stays z present)) (confirms z (none_confirmed (λ n. false) z refl (after A.world f) C.world a on));
+  passed = λ z on. ⊎_elim (λ old. inl old) (λ (p : IsPassedNow A.world.disk A.world.disk A.names z). inr (record { begun = p.begun; sealed = p.sealed; opened = p.opened; unconfirmed = p.unconfirmed; present = λ part. stays z (p.present part) })) (passes z (none_passed (λ n. false) z refl (after A.world f) C.world a on));
   light = o.light;
   gone = o.gone;
   begins = o.begins;
@@ -159,3 +192,6 @@ onward_by A C f allowed confirms a had inc = record {
 
     root : C.world.disk.root ≡ A.world.disk.root
     root = o.root
+
+    stays : (z : ℕ) → IsPresent A.world.disk A.names z → IsPresent C.world.disk C.names z
+    stays z present i h = present i (⊎_elim (λ own. inl (ap (λ g. g z i) (sym had) ∙ own)) (λ kept. inr (ap (λ r. A.names.had (r z) i) (sym root) ∙ ap (λ g. g (C.world.disk.root z) i) (sym had) ∙ kept)) h) ∙ sym inc

@@ -30,7 +30,7 @@ use Rattle.arj_disk_view_law.proofs.Frames.{node_cases, node_here}
 use Rattle.arj_names_view_law.specs.Both.{DisksWalk, IsSeenFrom, OnlyMemory, QuietWalksKeepBoth, SeesBoth, SeesNames, leaves_inc, leaves_the_inc}
 use Rattle.arj_names_view_law.specs.Memory.{SeesNaming, SeesRows}
 use Rattle.arj_names_view_law.proofs.BareEnds.{none_ended}
-use Rattle.arj_names_view_law.proofs.Onward.{IsOnward, along_onward, none_confirmed, onward_still}
+use Rattle.arj_names_view_law.proofs.Onward.{IsOnward, along_onward, none_confirmed, none_passed, onward_still}
 
 -- ---- naming's memory reads roots alone of the disks
 
@@ -106,12 +106,13 @@ pub record Still (A : Office) (W : World) : Type 0 where
   pub later : IsLater A.world W
   pub onward : IsOnward A.world W
   pub unconfirmed : (z : ℕ) → W.disk.conf z ≡ true → A.world.disk.conf z ≡ true
+  pub unpassed : (z : ℕ) → W.disk.light z ≡ true → A.world.disk.light z ≡ true
 
 pub still : (A : Office) (W : World) → Named A → Along (record { from = A.world; noted = λ n. false }) W → Still A W
 still A W named a =
     let p = plain_effects_are_acts A a.effects a.allowed a.only in
     let here : end_of A (map act a.effects) ≡ record { world = W; names = A.names } = p.1 ∙ ap (λ V. record { world = V; names = A.names }) a.here in
-    record { named = subst Named here (runs_keep A (map act a.effects) p.0 named); tops = sym (ap (λ (V : World). V.disk.tops) a.here) ∙ p.2; bare = λ t. none_ended (λ n. false) t refl A.world W a; later = subst (IsLater A.world) a.here (effects_are_later A.world a.effects a.allowed named.whole); onward = along_onward (λ n. false) A.world W a; unconfirmed = λ z on. none_confirmed (λ n. false) z refl A.world W a on }
+    record { named = subst Named here (runs_keep A (map act a.effects) p.0 named); tops = sym (ap (λ (V : World). V.disk.tops) a.here) ∙ p.2; bare = λ t. none_ended (λ n. false) t refl A.world W a; later = subst (IsLater A.world) a.here (effects_are_later A.world a.effects a.allowed named.whole); onward = along_onward (λ n. false) A.world W a; unconfirmed = λ z on. none_confirmed (λ n. false) z refl A.world W a on; unpassed = λ z on. none_passed (λ n. false) z refl A.world W a on }
 
 -- An office of this world of which this holds.
 pub record Stepped (Inv : Office → Type 0) (W : World) : Type 0 where
@@ -190,7 +191,7 @@ module _ (x : ℕ) (tops : Kinds) (k : ℕ) (d : Disk) (was : Option Parts) (A :
 
 -- nothing but naming's memory has changed where nothing was noted
 pub still_only : (A : Office) (W : World) → Still A W → OnlyMemory A (record { world = W; names = A.names })
-still_only A W s = record { later = s.later; tops = s.tops; bare = s.bare; had = refl; kept = refl; answers = λ a i. i; inc = refl; confd = λ t on. on; onward = onward_still A (record { world = W; names = A.names }) W s.onward s.unconfirmed refl }
+still_only A W s = record { later = s.later; tops = s.tops; bare = s.bare; had = refl; kept = refl; answers = λ a i. i; inc = refl; confd = λ t on. on; onward = onward_still A (record { world = W; names = A.names }) W s.onward s.unconfirmed s.unpassed refl }
 
 module _ (x : ℕ) (tops : Kinds) (unwalked : tops.walk ≡ None) (e k : ℕ) (d : Disk) (t v : Parts) (A : Office) (M : Seen) (both : SeesBoth x tops A (up k d t M)) where
   -- at a stop nothing was noted

@@ -39,7 +39,7 @@ use Rattle.arj_names_view_law.specs.Calls.{ClaimsTop, OnlyEnds}
 use Rattle.arj_names_view_law.specs.Memory.{NamesGo, SeesNaming}
 use Rattle.arj_names_view_law.proofs.ConfirmBoth.{naming_leaves}
 use Rattle.arj_names_view_law.proofs.EndActs.{nested_ends_are_nothing, serials_end_by_acts, tops_end_by_acts}
-use Rattle.arj_names_view_law.proofs.Onward.{along_onward, goes_onward, none_confirmed, onward_still}
+use Rattle.arj_names_view_law.proofs.Onward.{along_onward, goes_onward, none_confirmed, none_passed, onward_still}
 use Rattle.arj_names_view_law.proofs.Pairing.{Ends, Stepped, Still, left_disk, naming_on, seen_as, steps, still_only, stopped_both, unfollowed, walked_both, walks_at}
 use Rattle.arj_names_view_law.proofs.EntriesLeft.{left_names, names_left, outs_gone}
 use Rattle.arj_names_view_law.proofs.Orphans.{given_left}
@@ -264,7 +264,7 @@ module _ (x : ℕ) (tops : Kinds) (unwalked : tops.walk ≡ None) (e : ℕ) (d :
         seen : (B : Office) → B.world ≡ W → Named B → LateOne B → IsSeenFrom x tops A (up 1 (left_disk Outs d) Left L)
         seen B world b late = (
           B,
-          only_of B (subst (IsLater A.world) (sym world) (later_to W s.along)) (ap (λ (V : World). V.disk.tops) world ∙ (stepped W s.along).holds.tops_then) (λ z on. bare_to W s.along z (ap (λ (V : World). V.disk.bare z) (sym world) ∙ on)) (onward_still A B W (along_onward (only_acks (uid_number u)) A.world W s.along) (λ z on. none_confirmed (only_acks (uid_number u)) z refl A.world W s.along on) world) (inr late),
+          only_of B (subst (IsLater A.world) (sym world) (later_to W s.along)) (ap (λ (V : World). V.disk.tops) world ∙ (stepped W s.along).holds.tops_then) (λ z on. bare_to W s.along z (ap (λ (V : World). V.disk.bare z) (sym world) ∙ on)) (onward_still A B W (along_onward (only_acks (uid_number u)) A.world W s.along) (λ z on. none_confirmed (only_acks (uid_number u)) z refl A.world W s.along on) (λ z on. none_passed (only_acks (uid_number u)) z refl A.world W s.along on) world) (inr late),
           seen_as x tops 1 d (Some t) A M both Left B L (left_disk Outs d) b late.inc (subst (λ V. SeesDisks x tops V (up 1 (left_disk Outs d) Left L)) (sym world) disks) inc same
               (λ o one is. subst (λ z. SeesNaming x tops z B.world.disk B.names) (some_is refl is) late.seen) (λ other. absurd (never refl other)),
         )
@@ -311,7 +311,7 @@ module _ (x : ℕ) (tops : Kinds) (unwalked : tops.walk ≡ None) (e : ℕ) (d :
         only.world,
         runs_keep B go.acts go.may st.named,
         only.inc,
-        record { later = subst (IsLater A.world) (sym only.world) st.later; tops = ap (λ (V : World). V.disk.tops) only.world ∙ st.tops; bare = λ z on. st.bare z (ap (λ (V : World). V.disk.bare z) (sym only.world) ∙ on); had = only.had; kept = only.kept; answers = λ a i. subst (λ as_left. In a as_left) (sym only.answers) i; inc = only.inc; confd = λ z on. ap (λ f. f z) only.confd ∙ on; onward = onward_still A (end_of B go.acts) W st.onward st.unconfirmed only.world },
+        record { later = subst (IsLater A.world) (sym only.world) st.later; tops = ap (λ (V : World). V.disk.tops) only.world ∙ st.tops; bare = λ z on. st.bare z (ap (λ (V : World). V.disk.bare z) (sym only.world) ∙ on); had = only.had; kept = only.kept; answers = λ a i. subst (λ as_left. In a as_left) (sym only.answers) i; inc = only.inc; confd = λ z on. ap (λ f. f z) only.confd ∙ on; onward = onward_still A (end_of B go.acts) W st.onward st.unconfirmed st.unpassed only.world },
         subst (λ z. SeesNaming x tops (let s = naming.told u z d.names n in s.part) (end_of B go.acts).world.disk (end_of B go.acts).names) (sym aborted) go.there.1,
       )
     where

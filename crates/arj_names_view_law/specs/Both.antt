@@ -16,12 +16,12 @@ use Rattle.arj_protocol.specs.Coord.{Coord, Root}
 use Rattle.arj_protocol.specs.Step.{Node, first_disk, parts_in, restart_outs}
 use Rattle.arj_protocol.specs.World.{Labelled, format}
 use Rattle.arj_disk_law.specs.Effects.{World, Allowed, Begin}
-use Rattle.arj_disk_law.specs.Guards.{IsNext, IsPresent, Note, MayBegin, only_acks, only_begins, only_decides}
+use Rattle.arj_disk_law.specs.Guards.{HasPart, IsNext, IsPresent, Note, MayBegin, only_acks, only_begins, only_decides}
 use Rattle.arj_disk_law.specs.Messages.{ToldSerial}
 use Rattle.arj_disk_law.specs.Named.{Named}
 use Rattle.arj_disk_law.specs.Names.{Answer, Bound, Loaded, Names, Office, lists_after, retained, written_in}
 use Rattle.arj_disk_law.specs.Offices.{chosen}
-use Rattle.arj_disk_law.specs.State.{State, Done, Plan, Idle, is_gone, undecided}
+use Rattle.arj_disk_law.specs.State.{State, Done, Plan, Idle, is_gone, is_sealed, undecided}
 use Rattle.arj_disk_law.specs.Words.{In, has}
 use Rattle.arj_view_law.specs.Seen.{Seen, at, down, given, said, see, up}
 use Rattle.arj_view_law.specs.Walks.{Walks, Up, halted}
@@ -49,10 +49,21 @@ pub record SeesBoth (x : ℕ) (tops : Kinds) (A : Office) (M : Seen) : Type 0 wh
   pub disks : SeesDisks x tops A.world M
   pub names : SeesNames x tops A M
 
--- The disk half has gone on: of whom naming has confirmed since, each grant that counts is of the present incarnation; who was confirmed as
--- one that changes nothing is so still; who is at its end stays there; and a commit begins only while its root isn't at its end.
+-- The top had ended its prepare step, its outcome was open, and it wasn't confirmed as one that counts; and where it has a part in the object each
+-- grant that counts is of the present incarnation.
+pub record IsPassedNow (S T : State) (N : Names) (t : ℕ) : Type 0 where
+  pub begun : S.begun t ≡ true
+  pub sealed : is_sealed (S.stage t) ≡ true
+  pub opened : undecided S t ≡ true
+  pub unconfirmed : S.conf t ≡ false
+  pub present : HasPart (S.plan t) → IsPresent T N t
+
+-- The disk half has gone on: of whom naming has confirmed since, each grant that counts is of the present incarnation, also where it was as one
+-- that changes nothing; who was confirmed as one that changes nothing is so still; who is at its end stays there; and a commit begins only while
+-- its root isn't at its end.
 pub record GoesOnward (A B : Office) : Type 0 where
   pub conf : (t : ℕ) → B.world.disk.conf t ≡ true → (A.world.disk.conf t ≡ true) ⊎ IsPresent B.world.disk B.names t
+  pub passed : (t : ℕ) → B.world.disk.light t ≡ true → (A.world.disk.light t ≡ true) ⊎ IsPassedNow A.world.disk B.world.disk B.names t
   pub light : (t : ℕ) → A.world.disk.light t ≡ true → B.world.disk.light t ≡ true
   pub gone : (t : ℕ) → is_gone (A.world.disk.stage t) ≡ true → is_gone (B.world.disk.stage t) ≡ true
   pub begins : (t : ℕ) → B.world.disk.begun t ≡ true → (A.world.disk.begun t ≡ true) ⊎ (is_gone (A.world.disk.stage (A.world.disk.root t)) ≡ false)
