@@ -1,5 +1,5 @@
 -- In each run the machine decides no top whose node stops before it says so: where a stop falls, who is decided was so before.
-use Rattle.std.proofs.Common.{◌≡◌, ◌⊎◌, ◌==◌, ◌||◌, ◌+◌, ℕ, List, [], ◌∷◌, ◌++◌, Bool, true, false, cond, Option, Some, None, refl, sym, ◌∙◌, ap, subst, inl, inr, ⊎_elim, eqb-true}
+use Rattle.std.proofs.Common.{◌≡◌, ◌⊎◌, ◌==◌, ◌+◌, ℕ, List, [], ◌∷◌, ◌++◌, Bool, true, false, cond, Some, None, refl, sym, ◌∙◌, ap, subst, inl, inr, ⊎_elim, eqb-true}
 use Rattle.std.specs.Prelude.{⊤}
 use Rattle.std.proofs.lemmas.Bool.{and_parts}
 use Rattle.arj_lock.proofs.Members.{in_from}
@@ -12,7 +12,7 @@ use Rattle.arj_protocol.specs.Node.{Parts, with_coord}
 use Rattle.arj_protocol.specs.Order.{uid_number}
 use Rattle.arj_protocol.specs.Step.{Node, acts, parent_of, parts_in, restart_outs}
 use Rattle.arj_protocol.specs.Tree.{at_place, is_own}
-use Rattle.arj_protocol.specs.World.{format, is_serial_kind, numbered}
+use Rattle.arj_protocol.specs.World.{is_serial_kind, numbered}
 use Rattle.arj_protocol.proofs.Numbers.{number_tells}
 use Rattle.arj_part_law.proofs.Keys.{in_at}
 use Rattle.arj_disk_law.specs.Effects as machine
@@ -21,13 +21,13 @@ use Rattle.arj_disk_law.specs.Names.{Office}
 use Rattle.arj_disk_law.specs.State.{Done, decided, decided_in}
 use Rattle.arj_disk_law.specs.Words.{In}
 use Rattle.arj_disk_law.proofs.Base.{never, or_cases, some_is, test_same}
-use Rattle.arj_view_law.specs.Seen.{Seen, at, down, given, said, see, up}
+use Rattle.arj_view_law.specs.Seen.{Seen, at, down, given, said, up}
 use Rattle.arj_view_law.specs.Walks.{Up, Walks, halted}
 use Rattle.arj_view_law.proofs.Together.{walks_both, walks_to}
 use Rattle.arj_disk_view_law.specs.Sees.{Along, Kinds, followed}
 use Rattle.arj_disk_view_law.proofs.Frames.{node_here}
 use Rattle.arj_disk_view_law.proofs.Halts.{lines_seen, stops_seen}
-use Rattle.arj_names_view_law.specs.Both.{IsOpenAgain, IsSeenAgain, OnlyFound, SeesBoth}
+use Rattle.arj_names_view_law.specs.Both.{OnlyFound, SeesBoth}
 use Rattle.arj_names_view_law.specs.Handlers.{Answering, Change, Changes, Deciding, IsOpenAfter, IsSeenAfter, Quietly, change_by}
 use Rattle.arj_names_view_law.proofs.InputBoth.{inputs_keep_both}
 use Rattle.arj_names_view_law.proofs.MessageBoth.{messages_keep_both, messages_stop_open}
@@ -37,7 +37,7 @@ use Rattle.arj_names_view_law.proofs.StepsBoth.{lines_keep_both, stops_keep_both
 use Rattle.arj_names_view_law.proofs.StepsFollowed.{restarts_are_followed}
 use Rattle.arj_names_view_law.proofs.StepsKept.{actions_keep_both, ticks_keep_both}
 use Rattle.arj_disk_run_law.specs.Entries.{HaveEntries}
-use Rattle.arj_disk_run_law.specs.Part.{HoldsAgain, HoldsFrom, KeepsPart, are_recorded}
+use Rattle.arj_disk_run_law.specs.Part.{KeepsPart, are_recorded}
 use Rattle.arj_disk_run_law.proofs.BothEach.{counted}
 use Rattle.arj_disk_run_law.proofs.EntryWalks.{mine_of}
 use Rattle.arj_disk_run_law.proofs.Grows.{effects_grow, later_lines, recorded_there, who_decides}
@@ -97,7 +97,7 @@ at_up Idle A B M Z k c v tie early step who u n here stopped on = ⊎_elim (λ o
 was_up : {A : Type 0} (t : Parts) → Some t ≡ None → A
 was_up t is = absurd (cc is)
 
-module _ (hd : Header) (x : ℕ) (R G : Seen → Type 0) (P : Kinds → Office → Seen → Type 0) (Idle : List Line → Uid → Type 0) (parts : KeepsPart hd x (λ W M. R M × G M) (WithTie P Idle)) where
+module _ (hd : Header) (x : ℕ) (R G : Seen → Type 0) (P : Kinds → Office → Seen → Type 0) (Idle : List Line → Uid → Type 0) (parts : KeepsPart hd x (λ W M. R M × (G M × AreNotLate W M)) (WithTie P Idle)) where
   -- the state that is carried, in which nobody is late
   abbrev pub IsCarriedSo : Kinds → Seen → Type 0
   IsCarriedSo tops M = (A : Office) × SeesBoth x tops A M × WithTie P Idle tops A M × AreNotLate A.world M
@@ -144,11 +144,11 @@ module _ (hd : Header) (x : ℕ) (R G : Seen → Type 0) (P : Kinds → Office �
   unlate_each = record {
     sees = λ tops M s. (s.0.world, s.1.disks);
     quiet = λ tops e bs M walk quiet r (A, both, part, early). let s = lines_keep_both x tops e bs A M walk both (lines_seen x (followed tops A.world (λ n. false)) e bs M (A.world, walks_start x tops (λ n. false) A M both)) in
-        (s.0, s.2, parts.quiet tops e bs M A walk quiet (r.0.0, r.1) both part s.0 s.1 s.2, still Idle A M (said e bs M) part.1 early (quiet_step e bs M) s.0 (let o = s.1 in o.tops));
+        (s.0, s.2, parts.quiet tops e bs M A walk quiet (r.0.0, (r.1, early)) both part s.0 s.1 s.2, still Idle A M (said e bs M) part.1 early (quiet_step e bs M) s.0 (let o = s.1 in o.tops));
     stop = λ tops e k d live M walk r (A, both, part, early). let s = stops_keep_both x tops e k d live A M walk both (stops_seen x (followed tops A.world (λ n. false)) e k d live M (A.world, walks_start x tops (λ n. false) A (at k d live M) both)) in
-        (s.0, s.2, parts.stop tops e k d live M A walk (r.0.0, r.1) both part s.0 s.1 s.2, still Idle A (at k d live M) (halted e k d M) part.1 early (step_halted k d live M e d M (near_same M) (λ down. refl)) s.0 (let o = s.1 in o.tops));
+        (s.0, s.2, parts.stop tops e k d live M A walk (r.0.0, (r.1, early)) both part s.0 s.1 s.2, still Idle A (at k d live M) (halted e k d M) part.1 early (step_halted k d live M e d M (near_same M) (λ down. refl)) s.0 (let o = s.1 in o.tops));
     message = λ tops e k d t v from m outs M walk n r sent meant is of own (A, both, part, early).
-        let p = parts.message tops e k d t v from m outs M A walk n (r.0.0, r.1) sent meant is of own both part in
+        let p = parts.message tops e k d t v from m outs M A walk n (r.0.0, (r.1, early)) sent meant is of own both part in
         let h = p.0 in
         let same = (let z = h.only in sym z.world) in
         carried tops h.office (up k d t M) (Changes (change_by x d t m) h.office) e k outs v d M (subst (λ W. IsTied Idle W (up k d t M)) same part.1) (subst (λ W. AreNotLate W (up k d t M)) same early)
@@ -156,7 +156,7 @@ module _ (hd : Header) (x : ℕ) (R G : Seen → Type 0) (P : Kinds → Office �
         (messages_stop_open x tops e k d t v from m outs h.office M walk n sent (λ o here. counted x tops k d t M m h.office o n r.0.1 h.both of here (p.2 o here)) p.1 is h.both) (messages_keep_both x tops e k d t v from m outs h.office M walk n sent (λ o here. counted x tops k d t M m h.office o n r.0.1 h.both of here (p.2 o here)) p.1 is h.both) h.along
         (step_walk k d (Some t) M e v outs d M (near_same M) (was_up t) (was_up t));
     act = λ tops e k d t i M walk n r is free (A, both, part, early).
-        let p = parts.act tops e k d t i M A walk n (r.0.0, r.1) is free both part in
+        let p = parts.act tops e k d t i M A walk n (r.0.0, (r.1, early)) is free both part in
         let h = p.0 in
         let did = acts i d.intents t.coord in
         let same = (let z = h.only in sym z.world) in
@@ -168,13 +168,13 @@ module _ (hd : Header) (x : ℕ) (R G : Seen → Type 0) (P : Kinds → Office �
         let N : Seen = given l (record { node = k; serial = is_serial_kind how }) M in
         let seen = actions_keep_both x tops e k d t l (record { node = k; serial = is_serial_kind how }) how parent (parent_of parent t.coord) A M walk n.coord kind both in
         carried tops A (up k d t M) (Changes Quietly A) e k did.outs (with_coord t did.part) d N part.1 early
-        (quietly A k) (calmly tops A e k did.outs (with_coord t did.part) d N seen) seen (parts.begin tops e k d t l how parent M A walk n (r.0.0, r.1) new may free kind both part)
+        (quietly A k) (calmly tops A e k did.outs (with_coord t did.part) d N seen) seen (parts.begin tops e k d t l how parent M A walk n (r.0.0, (r.1, early)) new may free kind both part)
         (step_walk k d (Some t) M e (with_coord t did.part) did.outs d N (given_near l (is_serial_kind how) k M) (was_up t) (was_up t));
     tick = λ tops e k d t M walk n r (A, both, part, early).
         let outs = tick_outs (record { number = k; disk = d; live = Some t }) t in
         let v = with_coord t (again_all t.coord.doings t.coord).part in
         let seen = ticks_keep_both x tops e k d t A M walk n.coord n.begun both in
-        carried tops A (up k d t M) (Changes Quietly A) e k outs v d M part.1 early (quietly A k) (calmly tops A e k outs v d M seen) seen (parts.tick tops e k d t M A walk n (r.0.0, r.1) both part)
+        carried tops A (up k d t M) (Changes Quietly A) e k outs v d M part.1 early (quietly A k) (calmly tops A e k outs v d M seen) seen (parts.tick tops e k d t M A walk n (r.0.0, (r.1, early)) both part)
         (step_walk k d (Some t) M e v outs d M (near_same M) (was_up t) (was_up t));
     restart = λ tops e k d M walk held r (A, both, part, early).
         let outs = restart_outs hd k (d.inc + 1) d in
@@ -183,7 +183,7 @@ module _ (hd : Header) (x : ℕ) (R G : Seen → Type 0) (P : Kinds → Office �
         carried tops A (down k d M) (OnlyFound g A) e k outs v d M part.1 early (found_by tops k d M A both)
         (restarts_stop_open x tops e k hd d g A M walk (λ same. let e = mine_of x k d None M r.0.1 (ap (λ z. 1 == z) same) in let h = e.disk in h.held) both)
         (restarts_keep_both x tops e k hd d g A M walk (λ same. let e = mine_of x k d None M r.0.1 (ap (λ z. 1 == z) same) in let h = e.disk in h.held) both (restarts_are_followed x tops (only_decides g) e k hd d A M held (λ u i at. any_prepared (λ (z : Uid × Intent). uid_number z.0 == uid_number u) u i d.intents at (test_same (uid_number u))) both))
-        (parts.restart tops e k d M A walk (r.0.0, r.1) both part) (step_walk k d None M e v outs d M (near_same M) (λ down. restart_plain [] hd k d) (λ down. refl));
+        (parts.restart tops e k d M A walk (r.0.0, (r.1, early)) both part) (step_walk k d None M e v outs d M (near_same M) (λ down. restart_plain [] hd k d) (λ down. refl));
     first = λ tops walk kinds. let f = parts.first tops walk kinds in (f.0, f.1, f.2, λ u n here stopped on. absurd (never on (ap (λ ds. decided_in ds (uid_number u)) f.3)));
   }
     where

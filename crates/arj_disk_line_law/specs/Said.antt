@@ -15,6 +15,7 @@ use Rattle.arj_call_law.specs.Runs.{KnowsFew}
 use Rattle.arj_binding_law.specs.Scripts.{most_events}
 use Rattle.arj_disk_law.specs.Names.{Office}
 use Rattle.arj_disk_view_law.specs.Formats.{HasObject}
+use Rattle.arj_disk_run_law.specs.Bindings.{KnowsScript}
 use Rattle.arj_disk_run_law.specs.Part.{KeepsPart}
 use Rattle.arj_disk_run_law.specs.Rest.{KeepsHeard}
 use Rattle.arj_line_law.specs.Book.{book, is_decided, is_top}
@@ -37,6 +38,10 @@ AreSaid W M = (u : Uid) (n : Node) → M.nodes u.node ≡ Some n → decided W.d
 -- none is late so: of a node that is down whoever is decided by the machine is decided by the journal
 abbrev pub AreNotLate : machine.World → Seen → Type 0
 AreNotLate W M = (u : Uid) (n : Node) → M.nodes u.node ≡ Some n → n.live ≡ None → decided W.disk (uid_number u) ≡ true → is_decided (book M.lines) u ≡ true
+
+-- with what is known in every run of a script
+abbrev pub IsKnownEarly : machine.World → Seen → Type 0
+IsKnownEarly W M = KnowsScript M × AreNotLate W M
 
 -- ---- what the journal says is decided
 

@@ -111,7 +111,7 @@ both_each hd x R G P parts = record {
 }
 
 -- entries at naming are kept beside, where both halves of the object are seen at first
-pub with_entries : (hd : Header) (x : ℕ) (R S : Seen → Type 0) (P : Kinds → Office → Seen → Type 0) → KeepsPart hd x (λ W M. S M) P → Keeps hd R → Keeps hd (λ M. R M × HaveEntries x M)
+pub with_entries : (hd : Header) (x : ℕ) (R : Seen → Type 0) (S : World → Seen → Type 0) (P : Kinds → Office → Seen → Type 0) → KeepsPart hd x S P → Keeps hd R → Keeps hd (λ M. R M × HaveEntries x M)
 with_entries hd x R S P parts kept = kept_both hd R (HaveEntries x) kept (keeps_given hd R (HaveEntries x) (keeps_entries x hd there))
   where
     none : Agrees (kinds_of []) []
@@ -145,7 +145,7 @@ runs_beside hd x R P kept parts G gives es short =
     Known M = R M × HaveEntries x M
 
     known_everywhere : Keeps hd Known
-    known_everywhere = with_entries hd x R (λ M. R M × KnowsScript M) P parts kept
+    known_everywhere = with_entries hd x R (λ W M. R M × KnowsScript M) P parts kept
 
 -- of these actions the kinds agree
 pub kinds_there : (R : Seen → Type 0) (Q : Kinds → Seen → Type 0) (M : Seen) (h : IsKeptInRun R Q M) → Agrees (kinds_of h.0) h.0

@@ -70,7 +70,7 @@ inner_in (b ∷ acts) begun a (inl same) w on = subst (λ (x : Action). is_on (u
         ⊎_elim (λ old. ⊎_elim (λ t. inl (ap (λ vs. is_on vs w) top ∙ t)) (λ (n : IsNestedIn acts w). inr (n.0, inr n.1, n.2, n.3)) (older c (in_from c acts s.1) old))
         (λ new. inr (b, inl refl, new, is)) (on_more (uids_of c.path) (act_of b) w (ap (λ us. is_on us w) (sym s.3) ∙ h))
 
-taken_on : (n : ℕ) (us : List Uid) (w : Uid) → is_on (take n us) w ≡ true → is_on us w ≡ true
+pub taken_on : (n : ℕ) (us : List Uid) (w : Uid) → is_on (take n us) w ≡ true → is_on us w ≡ true
 taken_on zero us w on = absurd (none us on)
   where
     none : (vs : List Uid) → is_on (take zero vs) w ≡ true → ⊥
@@ -79,7 +79,7 @@ taken_on zero us w on = absurd (none us on)
 taken_on (suc n) [] w on = absurd (cc on)
 taken_on (suc n) (v ∷ us) w on = ⊎_elim (λ here. or_left (uid_eq v w) (is_on us w) here) (λ more. or_right (uid_eq v w) (is_on us w) (taken_on n us w more)) (or_cases (uid_eq v w) (is_on (take n us) w) on)
 
-taken_first : (n : ℕ) (us : List Uid) (v : Uid) (vs : List Uid) → take n us ≡ v ∷ vs → first_uid us ≡ v
+pub taken_first : (n : ℕ) (us : List Uid) (v : Uid) (vs : List Uid) → take n us ≡ v ∷ vs → first_uid us ≡ v
 taken_first zero [] v vs is = absurd (cc is)
 taken_first zero (u ∷ us) v vs is = absurd (cc is)
 taken_first (suc n) [] v vs is = absurd (cc is)

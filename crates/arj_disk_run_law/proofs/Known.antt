@@ -45,7 +45,7 @@ use Rattle.arj_disk_run_law.proofs.PlaceWalks.{holders_begun, up_here}
 use Rattle.arj_disk_run_law.proofs.Begun.{Stood, root_on, stood}
 
 -- a list that is as long has something at the place too
-at_both : {A B : Type 0} (n : ℕ) (xs : List A) (ys : List B) (a : A) → length ys ≡ length xs → at_place n xs ≡ Some a → (b : B) × (at_place n ys ≡ Some b)
+pub at_both : {A B : Type 0} (n : ℕ) (xs : List A) (ys : List B) (a : A) → length ys ≡ length xs → at_place n xs ≡ Some a → (b : B) × (at_place n ys ≡ Some b)
 at_both zero xs ys a long is = absurd (cc is)
 at_both {A} {B} (suc n) xs ys a long is = by n xs ys long is
   where

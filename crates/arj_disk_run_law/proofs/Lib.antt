@@ -58,6 +58,7 @@ pub mod Known
 pub mod Included
 pub mod IncludedParts
 pub mod ListedBack
+pub mod LoadTops
 pub mod ListedKept
 pub mod ListedRuns
 pub mod ListedSteps

@@ -174,7 +174,7 @@ heard_runs_load hd x test has_it rest = runs_beside hd x Base (WithLists x (Sees
     Base M = IsCountedWith test M × HaveEntries x M
 
     base_everywhere : Keeps hd Base
-    base_everywhere = with_entries hd x (IsCountedWith test) (IsKnownWith test) (SeesCarried x) (heard_part hd x test has_it rest) (counted_with hd x test rest)
+    base_everywhere = with_entries hd x (IsCountedWith test) (λ W M. IsKnownWith test M) (SeesCarried x) (heard_part hd x test has_it rest) (counted_with hd x test rest)
 
     listed : KeepsPart hd x (λ W M. Base M × KnowsScript M) (WithLists x (SeesCarried x))
-    listed = listed_part hd x (IsKnownWith test) (λ M. Base M × KnowsScript M) (λ M r. (r.0.0, r.1)) (λ M r. ((r.0.0.0.0, r.0.1), (let s = r.1 in s.0))) (SeesCarried x) (heard_part hd x test has_it rest)
+    listed = listed_part hd x (λ W M. IsKnownWith test M) (λ W M. Base M × KnowsScript M) (λ W M r. (r.0.0, r.1)) (λ W M r. ((r.0.0.0.0, r.0.1), (let s = r.1 in s.0))) (SeesCarried x) (heard_part hd x test has_it rest)

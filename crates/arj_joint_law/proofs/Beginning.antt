@@ -20,7 +20,7 @@ use Rattle.arj_view_law.specs.Walks.{Up, Walks}
 use Rattle.arj_view_law.proofs.Happens.{runs_hold}
 use Rattle.arj_view_law.proofs.Together.{walks_to}
 use Rattle.arj_binding_law.specs.Scripts.{most_events}
-use Rattle.arj_disk_run_law.proofs.Scripts.{part_few}
+use Rattle.arj_disk_run_law.proofs.Scripts.{part_few, part_more}
 use Rattle.arj_run_law.specs.Worlds.{IsGood}
 use Rattle.arj_run_law.proofs.AllRuns.{all_keep as parts_good}
 use Rattle.arj_disk_view_law.specs.Sees.{IsLater, Kinds}
@@ -30,6 +30,7 @@ use Rattle.arj_disk_run_law.specs.Rest.{IsCountedWith, SeesCarried}
 use Rattle.arj_disk_run_law.specs.Part.{Going, HasHeard, KeepsPart, are_recorded, going_of}
 use Rattle.arj_disk_run_law.specs.Bindings.{KnowsScript}
 use Rattle.arj_disk_run_law.proofs.BothEach.{counted_with, heard_part}
+use Rattle.arj_disk_line_law.specs.Said.{IsKnownEarly}
 use Rattle.arj_disk_line_law.proofs.Tying.{goes_by, journalled_beside}
 use Rattle.arj_disk_run_law.proofs.Decisions.{goes_along}
 use Rattle.arj_serial_law.specs.Cleaned.{BeginsSo}
@@ -44,7 +45,7 @@ WithFirst hd x P tops A M = P tops A M × BeginsSo hd x (let W = A.world in W.di
 begins_later : (hd : Header) (x : ℕ) (W V : machine.World) → IsLater W V → BeginsSo hd x W.disk → BeginsSo hd x V.disk
 begins_later hd x W V later b = record { state = later.first ∙ b.state; entry = later.first_entry ∙ b.entry }
 
-module _ (hd : Header) (x : ℕ) (R : Seen → Type 0) (P : Kinds → Office → Seen → Type 0) (parts : KeepsPart hd x (λ W M. R M) P) where
+module _ (hd : Header) (x : ℕ) (R : machine.World → Seen → Type 0) (P : Kinds → Office → Seen → Type 0) (parts : KeepsPart hd x R P) where
   abbrev From : Kinds → (Office → Type 0) → (Kinds → Office → Seen → Type 0) → Seen → Type 0
   From tops C Q Z = (B : Office) → C B → SeesBoth x tops B Z → Q tops B Z
 
@@ -63,7 +64,7 @@ module _ (hd : Header) (x : ℕ) (R : Seen → Type 0) (P : Kinds → Office →
     along = along tops (Changes o h.office) (λ B c. begins_by o tops h.office B _ h.both (subst (λ (W : machine.World). BeginsSo hd x W.disk) (sym (let z = h.only in z.world)) b) c) g.event g.node g.outs g.after g.disk M h.along;
   }
 
-  pub first_part : ((tops : Kinds) (A : Office) → tops.walk ≡ None → SeesBoth x tops A (see [] (format hd)) → (let W = A.world in let S = W.disk in S.tops) ≡ [] → BeginsSo hd x (let W = A.world in W.disk)) → KeepsPart hd x (λ W M. R M) (WithFirst hd x P)
+  pub first_part : ((tops : Kinds) (A : Office) → tops.walk ≡ None → SeesBoth x tops A (see [] (format hd)) → (let W = A.world in let S = W.disk in S.tops) ≡ [] → BeginsSo hd x (let W = A.world in W.disk)) → KeepsPart hd x R (WithFirst hd x P)
   first_part first = record {
     quiet = λ tops e bs M A walk quiet r both (part, b) B changed seen. (parts.quiet tops e bs M A walk quiet r both part B changed seen, begins_by Quietly tops A B M both b changed);
     stop = λ tops e k d live M A walk r both (part, b) B changed seen. (parts.stop tops e k d live M A walk r both part B changed seen, begins_by Quietly tops A B _ both b changed);
@@ -104,7 +105,7 @@ first_begins hd x form there tops A walk both none =
 
 begun_beside : (hd : Header) (x : ℕ) (R : Seen → Type 0) (P : Kinds → Office → Seen → Type 0) → HeaderInForm hd → is_some (object_line hd x) ≡ true → Keeps hd R → KeepsPart hd x (λ W M. R M × KnowsScript M) P → (es : List Asked) → length es ≤ most_events → Holds hd (IsBegunSo hd x) (run_all es (format hd))
 begun_beside hd x R P form there kept parts es short =
-    let h = journalled_beside hd x R (WithFirst hd x P) kept (first_part hd x (λ M. R M × KnowsScript M) P parts (first_begins hd x form there)) es short in
+    let h = journalled_beside hd x R (WithFirst hd x P) kept (first_part hd x (λ W M. R M × IsKnownEarly W M) P (part_more hd x (λ W M. R M × KnowsScript M) (λ W M. R M × IsKnownEarly W M) P (λ W M q. (q.0, q.1.0)) parts) (first_begins hd x form there)) es short in
     let b = h.holds in
     record { sent = h.sent; stands = h.stands; holds = record { journalled = b.0; begins = subst (λ (W : machine.World). BeginsSo hd x W.disk) b.2 (let z = b.3 in z.1) } }
 

@@ -6,7 +6,7 @@ use Rattle.arj_joint_law.proofs.JoinKeeps.{WithTurns, turns_part}
 use Rattle.arj_joint_law.proofs.Joining.{HasLocks, WithLocks, locks_part}
 use Rattle.arj_joint_law.proofs.Recorded.{recorded_part}
 use Rattle.arj_joint_law.proofs.RestGiven.{rest_beside}
-use Rattle.arj_joint_law.proofs.OrderedRuns.{IsOrderedBeside, ordered_beside}
+use Rattle.arj_joint_law.proofs.OrderedRuns.{IsOrderedBeside, early, ordered_beside}
 use Rattle.arj_disk_run_law.proofs.BothEach.{counted_by, heard_beside}
 use Rattle.arj_disk_run_law.specs.Part.{KeepsPart}
 use Rattle.arj_disk_run_law.specs.Rest.{IsCountedWith, IsKnownWith, SeesCarried}
@@ -51,7 +51,7 @@ header_has hd x there = by (object_line hd x) refl there
 
 pub runs_are_joined : RunsAreJoined
 runs_are_joined hd x heard test form there kept rest es short =
-    let h = ordered_beside hd x (IsCountedWith heard) Joined form there (counted_by hd heard kept.kept) part es short in
+    let h = ordered_beside hd x (IsCountedWith heard) Joined form there (counted_by hd heard kept.kept) (early hd x (IsCountedWith heard) Joined part) es short in
     record { sent = h.sent; stands = h.stands; holds = joined h.sent h.holds }
   where
     has : HasObject hd x

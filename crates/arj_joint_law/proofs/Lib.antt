@@ -23,6 +23,7 @@ pub mod Leaving
 pub mod RunsInTime
 pub mod Mute
 pub mod LoadGuards
+pub mod LoadAnswers
 pub mod LoadMoves
 pub mod LoadSteps
 pub mod LoadWalks

@@ -1,5 +1,5 @@
 -- What a store gives to a call that waits, it may give by the lock machine, where that is the last committed state.
-use Rattle.std.proofs.Common.{◌≡◌, ◌≤◌, ◌⊎◌, ◌∙◌, ℕ, List, cond, Some, sym, ap, subst, ⊎_elim, arith}
+use Rattle.std.proofs.Common.{◌≡◌, ◌≤◌, ◌⊎◌, ◌∙◌, ℕ, true, List, cond, Some, sym, ap, subst, ⊎_elim, arith}
 use Rattle.arj_protocol.specs.Words.{Asked, ObjectState, Op, Uid}
 use Rattle.arj_protocol.specs.Ask.{actor, top_of}
 use Rattle.arj_protocol.specs.Call.{AtLoad, Known, Run, Steps}
@@ -9,7 +9,7 @@ use Rattle.arj_protocol.specs.Order.{binding_number}
 use Rattle.arj_protocol.specs.Step.{Node}
 use Rattle.arj_protocol.specs.Tree.{Branch}
 use Rattle.arj_part_law.specs.Coords.{IsAsking, IsBusy}
-use Rattle.arj_lock_law.specs.Actions.{Act, In, root}
+use Rattle.arj_lock_law.specs.Actions.{Act, In, is_top, root}
 use Rattle.arj_lock_law.specs.Machine.{Guard}
 use Rattle.arj_lock_law.specs.State as machine
 use Rattle.arj_lock_law.specs.State.{State}
@@ -49,7 +49,7 @@ as_it_is j n t M there number live = λ i. record M { nodes = λ m. each m i }
 
 -- ---- the guard
 
-module _ (c : Case) (s : Spot) (is_seen : IsSeenIn c (world_at s)) (waits : KnowsWaits (coord_at s)) (u : Uid) (d : Doing) (found : doing_of u (coord_at s) ≡ Some d) (w : Steps) (is : d.now ≡ Calling w) (about : w.x ≡ c.x) (o : Op) (goal : w.goal ≡ Run o) (k : Known) (n : ℕ) (rest : List ℕ) (at : w.at ≡ AtLoad k n rest) (st : ObjectState) where
+module _ (c : Case) (s : Spot) (is_seen : IsSeenIn c (world_at s)) (waits : KnowsWaits (coord_at s)) (u : Uid) (d : Doing) (found : doing_of u (coord_at s) ≡ Some d) (w : Steps) (is : d.now ≡ Calling w) (about : w.x ≡ c.x) (o : Op) (goal : w.goal ≡ Run o) (k : Known) (n : ℕ) (rest : List ℕ) (at : w.at ≡ AtLoad k n rest) where
   abbrev f : Fixed
   f = c.fixed
 
@@ -86,11 +86,15 @@ module _ (c : Case) (s : Spot) (is_seen : IsSeenIn c (world_at s)) (waits : Know
   abbrev bn : ℕ
   bn = binding_number k.binding
 
-  maker_is : (let v = binding_at S k.binding in v.maker) ≡ f.act (top_of w.path)
-  maker_is = ((holds f.act f.code f.paths C b d w o S r work is goal waiting.path waiting.last sees).mail (machine.Made (f.act (top_of w.path)) bn) stands.1.0).1
+  -- the binding was made for the call's top
+  pub maker_made : (is_top (f.act (top_of w.path)) ≡ true) × ((let v = binding_at S k.binding in v.maker) ≡ f.act (top_of w.path))
+  maker_made = let m = (holds f.act f.code f.paths C b d w o S r work is goal waiting.path waiting.last sees).mail (machine.Made (f.act (top_of w.path)) bn) stands.1.0 in (m.0, m.1)
 
-  pub load_guard : IsLastFor c k st → Guard (Load bn (state_code f.act f.code st)) S
-  load_guard last = (
+  maker_is : (let v = binding_at S k.binding in v.maker) ≡ f.act (top_of w.path)
+  maker_is = maker_made.1
+
+  pub load_guard : (st : ObjectState) → IsLastFor c k st → Guard (Load bn (state_code f.act f.code st)) S
+  load_guard st last = (
     subst (λ (v : Act). In (machine.Made v bn) S.net) (sym maker_is) stands.1.0,
     (let e : S.kept (root (f.act (actor w.path))) ≡ bn = tied_kept f.act f.code f.paths C b d w o S r work is goal waiting.path waiting.last sees (let z = kp f.act f.code f.paths C b d w o S r work is goal waiting.path waiting.last sees in z.kept) S (stays_rebound f.act f.code f.paths C b d w o S r work is goal waiting.path waiting.last sees).keeping k stands.0 in
         let g : root (let v = binding_at S k.binding in v.maker) ≡ root (f.act (actor w.path)) = ap root maker_is ∙ top_unit f.act f.code f.paths C b d w o S r work is goal waiting.path waiting.last sees in
@@ -98,7 +102,15 @@ module _ (c : Case) (s : Spot) (is_seen : IsSeenIn c (world_at s)) (waits : Know
     last,
   )
 
--- so it is at each node
+-- so it is at each node: for whose top the binding was made
+pub maker_there : (c : Case) (M : Seen) (seen : IsSeenIn c M) (a : Asked) (j s : ℕ) (k : Known) (w : AwaitsLoad c.x M a j s k) → KnowsWaits (let p = w.parts in p.coord)
+    → let t = (let g = c.fixed in g.act (top_of (let q = w.steps in q.path))) in (is_top t ≡ true) × ((let v = binding_at c.state k.binding in v.maker) ≡ t)
+maker_there c M seen a j s k w waits =
+    let n = w.node in
+    let spot : Spot = record { node = j; disk = n.disk; parts = w.parts; seen = M } in
+    maker_made c spot (subst (IsSeenIn c) (sym (as_it_is j n w.parts M w.here w.number w.live)) seen) waits a.act w.doing w.found w.steps w.now w.about w.op w.goal k s w.rest w.waits
+
+-- and the guard
 pub guard_there : (c : Case) (M : Seen) (seen : IsSeenIn c M) (a : Asked) (j s : ℕ) (k : Known) (st : ObjectState) (w : AwaitsLoad c.x M a j s k) → KnowsWaits (let p = w.parts in p.coord) → IsLastFor c k st → Guard (Load (binding_number k.binding) (state_code (let f = c.fixed in f.act) (let f = c.fixed in f.code) st)) c.state
 guard_there c M seen a j s k st w waits last =
     let n = w.node in

@@ -224,7 +224,7 @@ module _ (x k : ℕ) (d : Disk) (t : Parts) (M : Seen) (tops : Kinds) (A : Offic
 abbrev pub WithMarks : ℕ → (Kinds → Office → Seen → Type 0) → Kinds → Office → Seen → Type 0
 WithMarks x P tops A M = P tops A M × AreMarkedSo x A.world M
 
-module _ (hd : Header) (x : ℕ) (K L : Seen → Type 0) (P : Kinds → Office → Seen → Type 0) (to : (M : Seen) → L M → K M) (known : (M : Seen) → L M → IsKept M × MarksAreSaid M × IncludesAreSaid M) (parts : KeepsPart hd x (λ W M. K M) P) where
+module _ (hd : Header) (x : ℕ) (K L : World → Seen → Type 0) (P : Kinds → Office → Seen → Type 0) (to : (W : World) (M : Seen) → L W M → K W M) (known : (W : World) (M : Seen) → L W M → IsKept M × MarksAreSaid M × IncludesAreSaid M) (parts : KeepsPart hd x K P) where
   abbrev Q : Kinds → Office → Seen → Type 0
   Q tops A M = WithMarks x P tops A M
 
@@ -266,24 +266,24 @@ module _ (hd : Header) (x : ℕ) (K L : Seen → Type 0) (P : Kinds → Office �
   moved_base : (c : Coord) (outs : List Effect) (M : Seen) → ((l : List ℕ) (y s : ℕ) → (said_in outs l y s ≡ false) ⊎ IsMarking c l) → (l : List ℕ) (y s : ℕ) → ((was_marked M.lines l y s ≡ was_marked M.lines l y s) × (said_in outs l y s ≡ false)) ⊎ IsMarking c l
   moved_base c outs M whose l y s = ⊎_elim (λ off. inl (refl, off)) (λ on. inr on) (whose l y s)
 
-  pub marks_part : KeepsPart hd x (λ W M. L M) Q
+  pub marks_part : KeepsPart hd x L Q
   marks_part = record {
     quiet = λ tops e bs M A walk quiet r both (part, marks) B changed seen. (
-      parts.quiet tops e bs M A walk quiet (to M r) both part B changed seen,
-      marks_next tops (Changes Quietly A) none no_top nobody A.world M (λ Z c. goes_on_by Quietly A Z (let z = both.disks in z.whole) c) (no_one none M) marks (λ u off. absurd off) (λ u p off. off) (said e bs M) (lines.quiet e bs M quiet (known M r).0)
+      parts.quiet tops e bs M A walk quiet (to A.world M r) both part B changed seen,
+      marks_next tops (Changes Quietly A) none no_top nobody A.world M (λ Z c. goes_on_by Quietly A Z (let z = both.disks in z.whole) c) (no_one none M) marks (λ u off. absurd off) (λ u p off. off) (said e bs M) (lines.quiet e bs M quiet (known A.world M r).0)
           (λ u c. inl (record { place = c.place; node = c.node; intent = c.intent; here = c.here; there = c.there })) (quiet_step e bs M) (λ l y s. inl (same_marked e bs M.lines quiet l y s)) B changed seen,
     );
     stop = λ tops e k d live M A walk r both (part, marks) B changed seen. (
-      parts.stop tops e k d live M A walk (to (at k d live M) r) both part B changed seen,
-      marks_next tops (Changes Quietly A) none no_top nobody A.world (at k d live M) (λ Z c. goes_on_by Quietly A Z (let z = both.disks in z.whole) c) (no_one none (at k d live M)) marks (λ u off. absurd off) (λ u p off. off) (halted e k d M) (lines.stop e k d live M (known (at k d live M) r).0)
+      parts.stop tops e k d live M A walk (to A.world (at k d live M) r) both part B changed seen,
+      marks_next tops (Changes Quietly A) none no_top nobody A.world (at k d live M) (λ Z c. goes_on_by Quietly A Z (let z = both.disks in z.whole) c) (no_one none (at k d live M)) marks (λ u off. absurd off) (λ u p off. off) (halted e k d M) (lines.stop e k d live M (known A.world (at k d live M) r).0)
           (recorded_at none (at k d live M) k d None M (halted e k d M) (λ i. refl) (others_then none k d live M) (here_then none k d live M)) (step_halted k d live M e d M (near_same M) (λ down. refl))
           (λ l y s. inl (marked_more M.lines (numbered e (body.Halted k ∷ [])) l y s ∙ or_false (was_marked M.lines l y s))) B changed seen,
     );
     message = λ tops e k d t v from m outs M A walk n r sent meant is of own both (part, marks).
-        let p = parts.message tops e k d t v from m outs M A walk n (to (up k d t M) r) sent meant is of own both part in
+        let p = parts.message tops e k d t v from m outs M A walk n (to A.world (up k d t M) r) sent meant is of own both part in
         let h = p.0 in
         let o = change_by x d t m in
-        let g = known (up k d t M) r in
+        let g = known A.world (up k d t M) r in
         let C : Uid → Type 0 = λ u. IsConfirming t.coord u in (
           record {
             office = h.office;
@@ -298,9 +298,9 @@ module _ (hd : Header) (x : ℕ) (K L : Seen → Type 0) (P : Kinds → Office �
         );
     act = λ tops e k d t i M A walk n r is free both (part, marks).
         let did = acts i d.intents t.coord in
-        let p = parts.act tops e k d t i M A walk n (to (up k d t M) r) is free both part in
+        let p = parts.act tops e k d t i M A walk n (to A.world (up k d t M) r) is free both part in
         let h = p.0 in
-        let g = known (up k d t M) r in
+        let g = known A.world (up k d t M) r in
         let C : Uid → Type 0 = λ u. IsConfirming t.coord u in (
           record {
             office = h.office;
@@ -316,16 +316,16 @@ module _ (hd : Header) (x : ℕ) (K L : Seen → Type 0) (P : Kinds → Office �
         let did = begin_action l how parent (parent_of parent t.coord) t.coord in
         let N : Seen = given l (record { node = k; serial = is_serial_kind how }) M in
         along tops (Changes Quietly A) none no_top nobody A.world (up k d t M) (λ B c. goes_on_by Quietly A B (let z = both.disks in z.whole) c) (no_one none (up k d t M)) marks (λ u off. absurd off) (λ u p off. off) e k did.outs (with_coord t did.part) d N
-        (parts.begin tops e k d t l how parent M A walk n (to (up k d t M) r) new may free kind both part) (lines.begin e k d t l how parent M new may free (known (up k d t M) r).0)
+        (parts.begin tops e k d t l how parent M A walk n (to A.world (up k d t M) r) new may free kind both part) (lines.begin e k d t l how parent M new may free (known A.world (up k d t M) r).0)
         (records_walk none (up k d t M) k anyone e (with_coord t did.part) did.outs d N (others_then none k d (Some t) M) (tt, tt) (here_then none k d (Some t) M)) (step_walk k d (Some t) M e (with_coord t did.part) did.outs d N (given_near l how k M) (was_up t) (was_up t))
         (from_walk nobody (up k d t M) e k (with_coord t did.part) did.outs d N (λ y z s. inl (refl, refl)));
     tick = λ tops e k d t M A walk n r both (part, marks).
         let outs = tick_outs (record { number = k; disk = d; live = Some t }) t in
         let v = with_coord t (let z = again_all t.coord.doings t.coord in z.part) in
-        let g = known (up k d t M) r in
+        let g = known A.world (up k d t M) r in
         let C : Uid → Type 0 = λ u. IsConfirming t.coord u in
         along tops (Changes Quietly A) C no_top nobody A.world (up k d t M) (λ B c. goes_on_by Quietly A B (let z = both.disks in z.whole) c) (no_one C (up k d t M)) marks (marked_here x k d t M tops A n both g.0 g.1 g.2) (λ u p off. off) e k outs v d M
-        (parts.tick tops e k d t M A walk n (to (up k d t M) r) both part) (lines.tick e k d t M g.0)
+        (parts.tick tops e k d t M A walk n (to A.world (up k d t M) r) both part) (lines.tick e k d t M g.0)
         (records_walk C (up k d t M) k anyone e v outs d M (others_then C k d (Some t) M) (tick_puts anyone k d t (are_theirs tops k d t M n)) (here_then C k d (Some t) M)) (step_walk k d (Some t) M e v outs d M (near_same M) (was_up t) (was_up t))
         (from_walk nobody (up k d t M) e k v outs d M (λ l y s. inl (refl, unmarked_said outs (tick_fine NoMark apart_none (record { number = k; disk = d; live = Some t }) t) l y s)));
     restart = λ tops e k d M A walk r both (part, marks).
@@ -333,7 +333,7 @@ module _ (hd : Header) (x : ℕ) (K L : Seen → Type 0) (P : Kinds → Office �
         let v = parts_in k (d.inc + 1) d in
         along tops (OnlyFound (are_recorded d.intents) A) none (are_recorded d.intents) nobody A.world (down k d M) (λ B c. goes_on_along (are_recorded d.intents) A.world B.world (let z = both.disks in z.whole) c.along)
         (λ u on. let r = record_of u d.intents on in inl (record { place = k; node = record { number = k; disk = d; live = None }; intent = r.0; here = node_here M k (record { number = k; disk = d; live = None }); there = r.1 })) marks (λ u off. absurd off) (λ u p off. off) e k outs v d M
-        (parts.restart tops e k d M A walk (to (down k d M) r) both part) (lines.restart e k d M (known (down k d M) r).0)
+        (parts.restart tops e k d M A walk (to A.world (down k d M) r) both part) (lines.restart e k d M (known A.world (down k d M) r).0)
         (records_walk none (down k d M) k anyone e v outs d M (others_then none k d None M) (plainly none anyone outs (restart_plain [] hd k d)) (here_then none k d None M)) (step_walk k d None M e v outs d M (near_same M) (λ down. restart_plain [] hd k d) (λ down. refl))
         (from_walk nobody (down k d M) e k v outs d M (λ l y s. inl (refl, unmarked_said outs (restart_fine NoMark apart_none hd k (d.inc + 1) d) l y s)));
     first = λ tops walk kinds. let f = parts.first tops walk kinds in (f.0, f.1, (f.2, nothing_yet f.0 f.3 f.4), f.3, f.4);

@@ -18,7 +18,7 @@ use Rattle.arj_view_law.specs.Seen.{Seen, Post, see}
 use Rattle.arj_view_law.proofs.Happens.{runs_hold}
 use Rattle.arj_binding_law.specs.Scripts.{most_events}
 use Rattle.arj_call_law.specs.Runs.{KnowsFew}
-use Rattle.arj_disk_run_law.proofs.Scripts.{part_few}
+use Rattle.arj_disk_run_law.proofs.Scripts.{part_few, part_more}
 use Rattle.arj_run_law.specs.Worlds.{IsGood}
 use Rattle.arj_run_law.proofs.AllRuns.{all_keep as parts_good}
 use Rattle.arj_disk_view_law.specs.Sees.{Kinds}
@@ -34,7 +34,7 @@ use Rattle.arj_line_law.specs.Right.{AreRight}
 use Rattle.arj_line_law.proofs.Nothing.{idle_has_nothing}
 use Rattle.arj_line_law.proofs.Runs.{lines_keep}
 use Rattle.arj_line_law.proofs.Tops.{is_sound}
-use Rattle.arj_disk_line_law.specs.Said.{IsPlain, WithTie}
+use Rattle.arj_disk_line_law.specs.Said.{IsKnownEarly, IsPlain, WithTie}
 use Rattle.arj_disk_line_law.proofs.IdleKnown.{KnowsIdle, knows_idle}
 use Rattle.arj_disk_line_law.proofs.Tying.{both_too, journalled_beside, one_act, tied_part}
 use Rattle.arj_serial_law.specs.Cleaned.{BeginsSo}
@@ -155,6 +155,10 @@ module _ (hd : Header) (x : ℕ) (es : List Asked) (sent : List Post) (W : machi
   counted_all : AreCountedOf lines x W.disk.tops
   counted_all d a i there number counts plain = counted_here d a i there number counts plain
 
+-- where nobody is late, too
+pub early : (hd : Header) (x : ℕ) (R : Seen → Type 0) (P : Kinds → Office → Seen → Type 0) → KeepsPart hd x (λ W M. R M × KnowsScript M) P → KeepsPart hd x (λ W M. R M × IsKnownEarly W M) P
+early hd x R P parts = part_more hd x (λ W M. R M × KnowsScript M) (λ W M. R M × IsKnownEarly W M) P (λ W M q. (q.0, q.1.0)) parts
+
 -- what commits under way include is known beside the journal
 abbrev Including : Seen → Type 0
 Including M = IsBased M × IncludesAreSaid M
@@ -163,13 +167,13 @@ Including M = IsBased M × IncludesAreSaid M
 abbrev Marking : (Seen → Type 0) → Seen → Type 0
 Marking R M = R M × (Including M × MarksAreSaid M)
 
-pub ordered_beside : (hd : Header) (x : ℕ) (R : Seen → Type 0) (P : Kinds → Office → Seen → Type 0) → HeaderInForm hd → is_some (object_line hd x) ≡ true → Keeps hd R → KeepsPart hd x (λ W M. R M × KnowsScript M) P → (es : List Asked) → length es ≤ most_events → Holds hd (IsOrderedBeside P hd x) (run_all es (format hd))
+pub ordered_beside : (hd : Header) (x : ℕ) (R : Seen → Type 0) (P : Kinds → Office → Seen → Type 0) → HeaderInForm hd → is_some (object_line hd x) ≡ true → Keeps hd R → KeepsPart hd x (λ W M. R M × IsKnownEarly W M) P → (es : List Asked) → length es ≤ most_events → Holds hd (IsOrderedBeside P hd x) (run_all es (format hd))
 ordered_beside hd x R P form there kept parts es short =
-    let first : KeepsPart hd x (λ W M. Marking R M × KnowsScript M) (WithFirst hd x (WithMarks x P)) = first_part hd x (λ M. Marking R M × KnowsScript M) (WithMarks x P) marks (first_begins hd x form there) in
+    let first : KeepsPart hd x (λ W M. Marking R M × IsKnownEarly W M) (WithFirst hd x (WithMarks x P)) = first_part hd x (λ W M. Marking R M × IsKnownEarly W M) (WithMarks x P) marks (first_begins hd x form there) in
     let idles : KnowsIdle (Marking R) Idle = knows_idle (Marking R) in
-    let tied = tied_part hd x (Marking R) (λ W M. KnowsScript M) (WithFirst hd x (WithMarks x P)) Idle marking first idles in
-    let ordered = ordered_part hd x (λ M. Marking R M × IsKept M) KnowsScript (WithTie (WithFirst hd x (WithMarks x P)) Idle) Idle (both_too hd x (Marking R) (λ W M. KnowsScript M) (WithFirst hd x (WithMarks x P)) Idle marking first idles) (λ M r. r.1) (knows_idle (λ M. Marking R M × IsKept M)) tied (λ tops A M p. (p.1).1) in
-    let h = journalled_beside hd x (λ M. Marking R M × IsKept M) _ (both_too hd x (Marking R) (λ W M. KnowsScript M) (WithFirst hd x (WithMarks x P)) Idle marking first idles) ordered es short in
+    let tied = tied_part hd x (Marking R) IsKnownEarly (WithFirst hd x (WithMarks x P)) Idle marking first idles in
+    let ordered = ordered_part hd x (λ M. Marking R M × IsKept M) IsKnownEarly (WithTie (WithFirst hd x (WithMarks x P)) Idle) Idle (both_too hd x (Marking R) IsKnownEarly (WithFirst hd x (WithMarks x P)) Idle marking first idles) (λ M r. r.1) (knows_idle (λ M. Marking R M × IsKept M)) tied (λ tops A M p. (p.1).1) in
+    let h = journalled_beside hd x (λ M. Marking R M × IsKept M) _ (both_too hd x (Marking R) IsKnownEarly (WithFirst hd x (WithMarks x P)) Idle marking first idles) ordered es short in
     let b = h.holds in
     let order = (let z = b.3 in z.1) in
     let more = (let z = b.3 in let t = z.0 in let p = t.0 in p.0) in
@@ -201,24 +205,24 @@ ordered_beside hd x R P form there kept parts es short =
     marking : Keeps hd (Marking R)
     marking = kept_both hd R (λ M. Including M × MarksAreSaid M) kept (keeps_given hd R (λ M. Including M × MarksAreSaid M) (kept_both hd Including MarksAreSaid (kept_both hd IsBased IncludesAreSaid (based_keep hd) (joins_given hd)) (given_more hd IsKept Including MarksAreSaid (λ M r. r.0.0) (marks_given hd))))
 
-    marks : KeepsPart hd x (λ W M. Marking R M × KnowsScript M) (WithMarks x P)
-    marks = marks_part hd x (λ M. R M × KnowsScript M) (λ M. Marking R M × KnowsScript M) P (λ M r. (r.0.0, r.1)) (λ M r. let z = r.0.1 in (z.0.0.0, z.1, z.0.1)) parts
+    marks : KeepsPart hd x (λ W M. Marking R M × IsKnownEarly W M) (WithMarks x P)
+    marks = marks_part hd x (λ W M. R M × IsKnownEarly W M) (λ W M. Marking R M × IsKnownEarly W M) P (λ W M r. (r.0.0, r.1)) (λ W M r. let z = r.0.1 in (z.0.0.0, z.1, z.0.1)) parts
 
 ordered : (hd : Header) (x : ℕ) (P : Kinds → Office → Seen → Type 0) (es : List Asked) → Holds hd (IsOrderedBeside P hd x) (run_all es (format hd)) → Holds hd (IsOrderedSo hd x) (run_all es (format hd))
 ordered hd x P es h = record { sent = h.sent; stands = h.stands; holds = (let z = h.holds in z.0) }
 
 pub runs_are_ordered : RunsAreOrdered
-runs_are_ordered hd x test form there rest es short = ordered hd x (SeesCarried x) es (ordered_beside hd x (IsCountedWith test) (SeesCarried x) form there (counted_with hd x test rest) (heard_part hd x test (line_there hd x form there).0 rest) es short)
+runs_are_ordered hd x test form there rest es short = ordered hd x (SeesCarried x) es (ordered_beside hd x (IsCountedWith test) (SeesCarried x) form there (counted_with hd x test rest) (early hd x (IsCountedWith test) (SeesCarried x) (heard_part hd x test (line_there hd x form there).0 rest)) es short)
 
 pub runs_are_ordered_beside : RunsAreOrderedBeside
-runs_are_ordered_beside hd x part form there parts es short = ordered hd x (λ tops A M. part tops A M ≡ true) es (ordered_beside hd x IsGood (λ tops A M. part tops A M ≡ true) form there (parts_good hd) (part_few hd x IsGood (λ tops A M. part tops A M ≡ true) parts) es short)
+runs_are_ordered_beside hd x part form there parts es short = ordered hd x (λ tops A M. part tops A M ≡ true) es (ordered_beside hd x IsGood (λ tops A M. part tops A M ≡ true) form there (parts_good hd) (early hd x IsGood (λ tops A M. part tops A M ≡ true) (part_few hd x IsGood (λ tops A M. part tops A M ≡ true) parts)) es short)
 
 -- ---- where one includes a store
 
 pub runs_take_turns : RunsTakeTurns
 runs_take_turns hd x test form there rest es short =
     let h = ordered_beside hd x (IsCountedWith test) (WithTurns x (SeesCarried x)) form there (counted_with hd x test rest)
-    (turns_part hd x (λ W M. IsKnownWith test M) (SeesCarried x) (λ W M q. q.0.0.1) (λ tops A M p. p.0) (λ tops A M p. p.1) (heard_part hd x test (line_there hd x form there).0 rest)) es short in
+    (early hd x (IsCountedWith test) (WithTurns x (SeesCarried x)) (turns_part hd x (λ W M. IsKnownWith test M) (SeesCarried x) (λ W M q. q.0.0.1) (λ tops A M p. p.0) (λ tops A M p. p.1) (heard_part hd x test (line_there hd x form there).0 rest))) es short in
     record { sent = h.sent; stands = h.stands; holds = turned (see h.sent (run_all es (format hd))) h.holds }
   where
     turned : (M : Seen) → IsOrderedBeside (WithTurns x (SeesCarried x)) hd x M → TakesTurnsSo hd x M

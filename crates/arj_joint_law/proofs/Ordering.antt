@@ -34,7 +34,7 @@ use Rattle.arj_joint_law.proofs.Turns.{IdleThere, ordered_step}
 
 -- ---- each handler
 
-module _ (hd : Header) (x : ℕ) (R G : Seen → Type 0) (P : Kinds → Office → Seen → Type 0) (Idle : List Line → Uid → Type 0) (kept : Keeps hd R) (known : (M : Seen) → R M → IsKept M) (idles : KnowsIdle R Idle) (parts : KeepsPart hd x (λ W M. R M × G M) P) (ties : (tops : Kinds) (A : Office) (M : Seen) → P tops A M → AreDone Idle A.world M) where
+module _ (hd : Header) (x : ℕ) (R : Seen → Type 0) (G : machine.World → Seen → Type 0) (P : Kinds → Office → Seen → Type 0) (Idle : List Line → Uid → Type 0) (kept : Keeps hd R) (known : (M : Seen) → R M → IsKept M) (idles : KnowsIdle R Idle) (parts : KeepsPart hd x (λ W M. R M × G W M) P) (ties : (tops : Kinds) (A : Office) (M : Seen) → P tops A M → AreDone Idle A.world M) where
   abbrev pub WithOrder : Kinds → Office → Seen → Type 0
   WithOrder tops A M = P tops A M × IsOrdered (IdleThere Idle) A.world M
 
@@ -71,7 +71,7 @@ module _ (hd : Header) (x : ℕ) (R G : Seen → Type 0) (P : Kinds → Office �
         along = along tops (Changes o h.office) h.office (up g.node g.disk g.before M) (comes_by o h.office (up g.node g.disk g.before M) (subst machine.Whole same whole) called) (subst (λ W. AreDone Idle W (up g.node g.disk g.before M)) same done) (subst (λ W. IsOrdered (IdleThere Idle) W (up g.node g.disk g.before M)) same order) g.event g.node g.outs g.after g.disk M h.along fresh steps;
       }
 
-  pub ordered_part : KeepsPart hd x (λ W M. R M × G M) WithOrder
+  pub ordered_part : KeepsPart hd x (λ W M. R M × G W M) WithOrder
   ordered_part = record {
     quiet = λ tops e bs M A walk quiet r both (part, order) B changed seen.
         goes_to_next tops (Changes Quietly A) A M (comes_by Quietly A M (let z = both.disks in z.whole) (λ z keeps is. quietly z keeps is)) (ties tops A M part) order (said e bs M) (parts.quiet tops e bs M A walk quiet r both part) (kept.quiet e bs M quiet r.0) (quiet_step e bs M) B changed seen;
