@@ -60,7 +60,7 @@ known_done first [] d g i e = absurd i
 known_done first (c ∷ ds) d g (inl is) e = inl (ap (λ (z : Done). z.plan.writes) is ∙ e)
 known_done first (c ∷ ds) d g (inr i) e = inr (known_done first ds d g i e)
 
-done_there : (ds : List Done) (t : ℕ) → decided_in ds t ≡ true → (d : Done) × words.In d ds × (d.top ≡ t)
+pub done_there : (ds : List Done) (t : ℕ) → decided_in ds t ≡ true → (d : Done) × words.In d ds × (d.top ≡ t)
 done_there [] t on = absurd (never on refl)
 done_there (d ∷ ds) t on = ⊎_elim (λ (e : (d.top == t) ≡ true). (d, inl refl, test_is d.top t e)) (λ (r : decided_in ds t ≡ true). let k = done_there ds t r in (k.0, inr k.1, k.2)) (or_cases (d.top == t) (decided_in ds t) on)
 

@@ -75,7 +75,7 @@ read_front {A} f us n (l ∷ xs) ys s i = by (f us l.body) i (λ j. read_front f
     by (Some a) (inl same) ih = inl same
     by (Some a) (inr j) ih = inr (ih j)
 
-act_with : (xs : List Act) (u : Uid) → has_act xs u ≡ true → (z : Act) × In z xs × (z.uid ≡ u)
+pub act_with : (xs : List Act) (u : Uid) → has_act xs u ≡ true → (z : Act) × In z xs × (z.uid ≡ u)
 act_with [] u on = absurd (cc on)
 act_with (x ∷ xs) u on = ⊎_elim (λ here. (x, inl refl, uid_is x.uid u here)) (λ there. let r = act_with xs u there in (r.0, inr r.1, r.2)) (or_which (uid_eq x.uid u) (has_act xs u) on)
 

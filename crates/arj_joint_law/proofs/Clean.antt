@@ -49,7 +49,7 @@ use Rattle.arj_joint_law.specs.Writers.{WritersAreNewestFirst}
 use Rattle.arj_joint_law.proofs.Called.{decided_writers_stand, decision_of, number_is, one_number, those_of, wrote_something}
 use Rattle.arj_joint_law.proofs.FormRuns.{runs_have_form}
 use Rattle.arj_joint_law.proofs.IdlePlaces.{added, all_idle, all_those, none_among}
-use Rattle.arj_joint_law.specs.Joined.{AreBareSo, AreRestBeside, AreWritten, IsJoinedSo, JoinedRunsAreSerial, KeepsHeardJoined}
+use Rattle.arj_joint_law.specs.Joined.{AreBareSo, AreRestBeside, AreWritten, IsJoinedSo, JoinedRunsAreSerial}
 use Rattle.arj_joint_law.proofs.JoinedRuns.{runs_are_joined}
 use Rattle.arj_joint_law.proofs.JoinOrder.{decided_joiners_stand}
 use Rattle.arj_joint_law.proofs.Naming.{decided_named}
@@ -395,9 +395,9 @@ runs_are_clean hd es disks test form short heard tied decide files = let held = 
 -- ---- with the lock half
 
 -- with both machines at once
-pub joined_at : (hd : Header) (es : List Asked) (heard_so : ℕ → Seen → Bool) (test : ℕ → List Action → Seen → Bool) → HeaderInForm hd → length es ≤ most_events → ((x : ℕ) → is_some (object_line hd x) ≡ true → KeepsHeardJoined hd x (heard_so x)) → AreRestBeside hd heard_so test
+pub joined_at : (hd : Header) (es : List Asked) (test : ℕ → List Action → Seen → Bool) → HeaderInForm hd → length es ≤ most_events → AreRestBeside hd test
     → (x : ℕ) → is_some (object_line hd x) ≡ true → Holds hd (IsJoinedSo hd x) (run_all es (format hd))
-joined_at hd es heard_so test form short heard rest x there = runs_are_joined hd x (heard_so x) (test x) form there (heard x there) (rest x there) es short
+joined_at hd es test form short rest x there = runs_are_joined hd x (test x) form there (rest x there) es short
 
 -- the journal is tied to the lock machines
 module _ (hd : Header) (es : List Asked) (joined : (x : ℕ) → is_some (object_line hd x) ≡ true → Holds hd (IsJoinedSo hd x) (run_all es (format hd))) where
@@ -419,9 +419,9 @@ decides_in hd es joined decide x there =
     (decide x there (ordered_of hd es x (held_in hd es joined x there)), j.wrote, j.bare)
 
 pub whole_runs_are_clean : WholeRunsAreClean
-whole_runs_are_clean hd es disks heard_so test form short heard rest decide files =
-    let joined = joined_at hd es heard_so test form short heard rest in
+whole_runs_are_clean hd es disks test form short rest decide files =
+    let joined = joined_at hd es test form short rest in
     are_clean hd es disks form (lock_tied hd es joined) (held_in hd es joined) (decides_in hd es joined decide) files
 
 pub joined_runs_are_serial : JoinedRunsAreSerial
-joined_runs_are_serial hd es heard_so test form short heard rest = serial hd es (joined_at hd es heard_so test form short heard rest)
+joined_runs_are_serial hd es test form short rest = serial hd es (joined_at hd es test form short rest)

@@ -59,16 +59,16 @@ module _ (f : Fixed) (x : ℕ) (begun : List Action) (S : State) (M : Seen) (see
         voted k there write of alive
 
     module _ (survives : Survives S k.act) where
-      its : HasWritten M.lines x t
+      pub its : HasWritten M.lines x t
       its = has_written f x begun S M seen values begins k there write survives t of
 
       said : is_decided (book M.lines) t ≡ true
       said = ap (is_decided (book M.lines)) (sym its.uid) ∙ sym (let b = is_book M.lines right in b.decided its.act (in_to its.act (acts M.lines) its.there)) ∙ its.done
 
-      not_idle : IsIdle (book M.lines) t → ⊥
+      pub not_idle : IsIdle (book M.lines) t → ⊥
       not_idle idle = wrote_something M.lines x (record { id = its.act.id; root = its.act.id; at = 0 }) its.act refl its.wrote (idle_has_nothing M.lines right its.act (in_to its.act (acts M.lines) its.there) its.done (subst (IsIdle (book M.lines)) (sym its.uid) idle))
 
-      not_plain : IsPlain M.lines t → ⊥
+      pub not_plain : IsPlain M.lines t → ⊥
       not_plain (p, known, uid, plain) =
           let sound = its_sound M.lines right in
           let same = one_act (acts M.lines) sound.distinct p its.act (subst (list.In p) (its_acts M.lines right) (in_from p (let B = book M.lines in B.acts) known)) its.there (uid ∙ sym its.uid) in

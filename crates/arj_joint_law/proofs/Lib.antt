@@ -80,3 +80,8 @@ pub mod BasedPlans
 pub mod BasedLaws
 pub mod BasedRuns
 pub mod Naming
+pub mod LastWriters
+pub mod NodesThere
+pub mod NextVersions
+pub mod Owns
+pub mod NextGiven

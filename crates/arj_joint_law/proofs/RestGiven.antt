@@ -1,5 +1,5 @@
 -- Where both machines stand in one run, the commit of a top with a surviving write was recorded.
-use Rattle.std.proofs.Common.{◌≡◌, ◌==◌, ◌&&◌, eqb-true, ℕ, Bool, true, List, [], Some, refl, sym, ◌∙◌, ap}
+use Rattle.std.proofs.Common.{◌≡◌, ◌==◌, ◌&&◌, eqb-true, ℕ, true, List, [], Some, refl, sym, ◌∙◌, ap}
 use Rattle.std.proofs.lemmas.Bool.{and_parts}
 use Rattle.arj_model.specs.Serial.{Values}
 use Rattle.arj_protocol.specs.Words.{Asked, Message}
@@ -51,11 +51,11 @@ module _ (f : Fixed) (x : ℕ) (begun : List Action) (S : State) (s : Spot) (las
       }
 
 -- so nothing is still taken but what stores give as they answer
-pub rest_beside : (values : Values) (x : ℕ) (heard : Seen → Bool) (E : List Action → Seen → Type 0) (f : Fixed) → BeginsAs values x f → GivesRest f x (λ begun S M. Known x E begun M × IsBeside x heard f begun S M)
-rest_beside values x heard E f begins = record {
+pub rest_beside : (values : Values) (x : ℕ) (E : List Action → Seen → Type 0) (f : Fixed) → BeginsAs values x f → GivesRest f x (λ begun S M. Known x E begun M × IsBeside x f begun S M)
+rest_beside values x E f begins = record {
   recorded = λ begun S M t k n j i q seen here voter three there write survives of.
       let p = q.1.1 in
       let kept = p.4 in
-      kept.1 t n here (machine_decided f x begun S M seen values begins (let A = p.2 in A.world) kept.0.1.1 p.6 t three k there write of survives);
+      kept.0.1 t n here (machine_decided f x begun S M seen values begins (let A = p.2 in A.world) kept.0.0.1.1 p.6 t three k there write of survives);
   loads = record { last = λ begun S s from m a q seen there is. (let p = q.1.1 in last_beside f x begun S s p.7 from m a.0 a.1 there is) };
 }

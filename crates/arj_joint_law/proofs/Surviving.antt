@@ -42,7 +42,7 @@ use Rattle.arj_serial_law.proofs.Values.{on_object}
 use Rattle.arj_joint_law.proofs.Called.{mapped}
 
 -- the journal's call of one of the machine
-call_found : (act : Acts) (code : Codes) (ss : List (Placed Said)) (cs : List state.Call) → AreCallsOf act code ss cs → (c : state.Call) → machine.In c cs → (s : Placed Said) × In s ss × IsCallOf act code s c
+pub call_found : (act : Acts) (code : Codes) (ss : List (Placed Said)) (cs : List state.Call) → AreCallsOf act code ss cs → (c : state.Call) → machine.In c cs → (s : Placed Said) × In s ss × IsCallOf act code s c
 call_found act code [] [] are c i = absurd i
 call_found act code [] (d ∷ cs) are c i = absurd are
 call_found act code (s ∷ ss) [] are c i = absurd are

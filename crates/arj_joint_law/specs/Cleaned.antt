@@ -19,7 +19,7 @@ use Rattle.arj_disk_run_law.specs.Rest.{KeepsHeard}
 use Rattle.arj_lock_law.specs.State as lock
 use Rattle.arj_part_law.specs.Actions.{Action}
 use Rattle.arj_serial_law.specs.Tied.{AreTied, IsTied}
-use Rattle.arj_joint_law.specs.Joined.{AreBareSo, AreRestBeside, AreWritten, KeepsHeardJoined}
+use Rattle.arj_joint_law.specs.Joined.{AreBareSo, AreRestBeside, AreWritten}
 use Rattle.arj_joint_law.specs.Ordered.{IsOrderedSo}
 use Rattle.arj_joint_law.specs.Shown.{FilesAre}
 
@@ -81,9 +81,8 @@ RunsAreClean = (hd : Header) (es : List Asked) (disks : Disks) (heard : ℕ → 
 
 -- So the journal is tied with what the lock half still takes, and decided tops wrote what they gave.
 abbrev pub WholeRunsAreClean : Type 0
-WholeRunsAreClean = (hd : Header) (es : List Asked) (disks : Disks) (heard : ℕ → Seen → Bool) (test : ℕ → List Action → Seen → Bool) → HeaderInForm hd → length es ≤ most_events
-    → ((x : ℕ) → is_some (object_line hd x) ≡ true → KeepsHeardJoined hd x (heard x))
-    → AreRestBeside hd heard test
+WholeRunsAreClean = (hd : Header) (es : List Asked) (disks : Disks) (test : ℕ → List Action → Seen → Bool) → HeaderInForm hd → length es ≤ most_events
+    → AreRestBeside hd test
     → ((x : ℕ) → is_some (object_line hd x) ≡ true → DecideSo hd x es)
     → FilesAre (see [] (run_all es (format hd))) disks
     → Clean hd (journal hd es) disks

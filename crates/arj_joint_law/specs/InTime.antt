@@ -12,7 +12,7 @@ use Rattle.arj_binding_law.specs.Scripts.{most_events}
 use Rattle.arj_disk_law.specs.State.{Done}
 use Rattle.arj_disk_law.specs.Words.{In}
 use Rattle.arj_disk_run_law.specs.Rest.{KeepsHeard}
-use Rattle.arj_joint_law.specs.Joined.{AreRestBeside, KeepsHeardJoined}
+use Rattle.arj_joint_law.specs.Joined.{AreRestBeside}
 use Rattle.arj_line_law.specs.Book.{book, is_decided}
 use Rattle.arj_part_law.specs.Actions.{Action}
 use Rattle.arj_joint_law.specs.Cleaned.{AreLockTied, DecideSo, DecideWrittenSo, disk_of}
@@ -49,9 +49,8 @@ RunsExcludeInTime = (hd : Header) (es : List Asked) (heard : ℕ → Seen → Bo
 
 -- So the journal is tied with what the lock half still takes, and decided tops wrote what they gave.
 abbrev pub WholeRunsExcludeInTime : Type 0
-WholeRunsExcludeInTime = (hd : Header) (es : List Asked) (heard : ℕ → Seen → Bool) (test : ℕ → List Action → Seen → Bool) → HeaderInForm hd → length es ≤ most_events
-    → ((x : ℕ) → is_some (object_line hd x) ≡ true → KeepsHeardJoined hd x (heard x))
-    → AreRestBeside hd heard test
+WholeRunsExcludeInTime = (hd : Header) (es : List Asked) (test : ℕ → List Action → Seen → Bool) → HeaderInForm hd → length es ≤ most_events
+    → AreRestBeside hd test
     → ((x : ℕ) → is_some (object_line hd x) ≡ true → DecideSo hd x es)
     → ((x : ℕ) → is_some (object_line hd x) ≡ true → AreInTime hd x es)
     → (let w = run_all es (format hd) in AreExcludedInTime hd w.event (see [] w))

@@ -26,8 +26,9 @@ use Rattle.arj_lock_law.specs.Machine.{Run, start}
 use Rattle.arj_lock_law.specs.State as lock
 use Rattle.arj_view_law.specs.Keeps.{Holds}
 use Rattle.arj_view_law.specs.Seen.{Seen}
-use Rattle.arj_line_law.specs.Book.{book}
+use Rattle.arj_line_law.specs.Book.{book, is_decided}
 use Rattle.arj_line_law.specs.Idle.{IsIdle}
+use Rattle.arj_line_law.specs.Knows.{IsKept}
 use Rattle.arj_line_law.specs.Paths.{IsAlikeOf}
 use Rattle.arj_disk_line_law.specs.Said.{WithTie}
 use Rattle.arj_lock_fact_law.specs.Votes.{side_at}
@@ -42,11 +43,13 @@ use Rattle.arj_joint_law.specs.Based.{IsVotedOver}
 use Rattle.arj_joint_law.specs.BasedSteps.{AreBasedSo}
 use Rattle.arj_joint_law.specs.Includers.{IncludersTakeTurns}
 use Rattle.arj_joint_law.specs.Loads.{AreLoadsLast}
-use Rattle.arj_joint_law.specs.Ordered.{IsOrderedSo}
+use Rattle.arj_joint_law.specs.Nodes.{NodesAreThere}
+use Rattle.arj_joint_law.specs.Ordered.{IsOrdered, IsOrderedSo}
 use Rattle.arj_joint_law.specs.Recorded.{WereRecorded}
 use Rattle.arj_serial_law.specs.Decided.{Wrote, WroteSo}
 use Rattle.arj_serial_law.specs.Seen.{IsSerialRun, RequestsAreOne}
-use Rattle.arj_disk_run_law.specs.Rest.{IsKnownWith, KeepsHeardBeside, SeesCarried}
+use Rattle.arj_disk_run_law.specs.Bindings.{AreGoodCounted, KnowsScript}
+use Rattle.arj_disk_run_law.specs.Rest.{SeesCarried}
 use Rattle.arj_lock_whole_law.specs.Runs.{IsRestBeside}
 use Rattle.arj_binding_law.specs.Scripts.{most_events}
 
@@ -97,13 +100,13 @@ pub record ArePlannedSo (f : Fixed) (x : ℕ) (S : lock.State) (W : World) (M : 
 abbrev pub IsPaired : ℕ → (Kinds → Office → Seen → Type 0) → Fixed → List Action → lock.State → Seen → Type 0
 IsPaired x P f begun S M = (tops : Kinds) × (tops.walk ≡ None) × (A : Office) × SeesBoth x tops A M × P tops A M × AreVotedAt f x S M × ArePlannedSo f x S A.world M × AreLoadsLast f x S M × AreBasedSo f x S A.world M
 
--- The object is seen by its lock machine, for all that may be fixed, agrees and begins with this value, beside this world of its disk machine.
-abbrev pub HasStates : Values → ℕ → World → Seen → Type 0
-HasStates values x W M = (begun : List Action) × IsAlikeOf begun M × ((f : Fixed) → AgreesAs values f x begun M.sent → (S : lock.State) × SeesLocks f x begun S M × AreTied f x M.lines S × AreVotedAt f x S M × ArePlannedSo f x S W M × AreBasedSo f x S W M)
+-- what is kept everywhere: nodes are good and there, bindings are counted, and the journal is known
+abbrev pub IsCountedJoined : Seen → Type 0
+IsCountedJoined M = (AreGoodCounted M × IsKept M) × NodesAreThere M
 
--- what is still taken of the disk half is asked of such worlds
-abbrev pub KeepsHeardJoined : Header → ℕ → (Seen → Bool) → Type 0
-KeepsHeardJoined hd x heard = KeepsHeardBeside hd x heard (HasStates (first_values hd) x)
+-- and what is known in every run of a script
+abbrev pub IsKnownJoined : Seen → Type 0
+IsKnownJoined M = IsCountedJoined M × KnowsScript M
 
 -- what is carried beside the disk machine's state, with its tie to the journal: who is decided is said so, and the other way round
 abbrev pub SeesTied : ℕ → Kinds → Office → Seen → Type 0
@@ -113,9 +116,13 @@ SeesTied x tops A M = WithTie (SeesCarried x) (λ ls u. IsIdle (book ls) u) tops
 abbrev pub SeesRecorded : ℕ → Kinds → Office → Seen → Type 0
 SeesRecorded x tops A M = SeesTied x tops A M × WereRecorded A.world M
 
+-- and in the order in which their commits were called, against decisions
+abbrev pub SeesInOrder : ℕ → Kinds → Office → Seen → Type 0
+SeesInOrder x tops A M = SeesRecorded x tops A M × IsOrdered (λ ls u. (is_decided (book ls) u ≡ true) × IsIdle (book ls) u) A.world M
+
 -- so much may be counted on of a state of the lock machine
-abbrev pub IsBeside : ℕ → (Seen → Bool) → Fixed → List Action → lock.State → Seen → Type 0
-IsBeside x heard f begun S M = IsKnownWith heard M × IsPaired x (SeesRecorded x) f begun S M
+abbrev pub IsBeside : ℕ → Fixed → List Action → lock.State → Seen → Type 0
+IsBeside x f begun S M = IsKnownJoined M × IsPaired x (SeesInOrder x) f begun S M
 
 -- ---- the run
 
@@ -145,19 +152,18 @@ pub record IsJoinedSo (hd : Header) (x : ℕ) (M : Seen) : Type 0 where
   pub wrote : AreWritten (first_values hd) M.lines x (let W = world_of ordered in W.disk.tops)
   pub bare : AreBareSo M.lines x (let W = world_of ordered in W.disk)
 
--- So it is in the run of every script, of each object of the header, with what is still taken of both halves, where they stand beside each
--- other.
+-- So it is in the run of every script, of each object of the header, with what is still taken of the lock half, where it stands beside the
+-- disk half.
 abbrev pub RunsAreJoined : Type 0
-RunsAreJoined = (hd : Header) (x : ℕ) (heard : Seen → Bool) (test : List Action → Seen → Bool) → HeaderInForm hd → is_some (object_line hd x) ≡ true → KeepsHeardJoined hd x heard → IsRestBeside hd (first_values hd) x (λ begun M. test begun M ≡ true) (IsBeside x heard)
+RunsAreJoined = (hd : Header) (x : ℕ) (test : List Action → Seen → Bool) → HeaderInForm hd → is_some (object_line hd x) ≡ true → IsRestBeside hd (first_values hd) x (λ begun M. test begun M ≡ true) (IsBeside x)
     → (es : List Asked) → length es ≤ most_events → Holds hd (IsJoinedSo hd x) (run_all es (format hd))
 
 -- where for each object of the header what is still taken of the lock half is given of such states
-abbrev pub AreRestBeside : Header → (ℕ → Seen → Bool) → (ℕ → List Action → Seen → Bool) → Type 0
-AreRestBeside hd heard test = (x : ℕ) → is_some (object_line hd x) ≡ true → IsRestBeside hd (first_values hd) x (λ begun M. test x begun M ≡ true) (IsBeside x (heard x))
+abbrev pub AreRestBeside : Header → (ℕ → List Action → Seen → Bool) → Type 0
+AreRestBeside hd test = (x : ℕ) → is_some (object_line hd x) ≡ true → IsRestBeside hd (first_values hd) x (λ begun M. test x begun M ≡ true) (IsBeside x)
 
 -- So the run of every script is serial.
 abbrev pub JoinedRunsAreSerial : Type 0
-JoinedRunsAreSerial = (hd : Header) (es : List Asked) (heard : ℕ → Seen → Bool) (test : ℕ → List Action → Seen → Bool) → HeaderInForm hd → length es ≤ most_events
-    → ((x : ℕ) → is_some (object_line hd x) ≡ true → KeepsHeardJoined hd x (heard x))
-    → AreRestBeside hd heard test
+JoinedRunsAreSerial = (hd : Header) (es : List Asked) (test : ℕ → List Action → Seen → Bool) → HeaderInForm hd → length es ≤ most_events
+    → AreRestBeside hd test
     → IsSerialRun hd es

@@ -21,3 +21,4 @@ pub mod Lights
 pub mod Based
 pub mod BasedSteps
 pub mod Given
+pub mod Nodes

@@ -12,8 +12,8 @@ ghost use Rattle.arj_joint_law.specs.Shown.{FilesShowDisks, IncludesAreListed};
 /// After the run of each script whose header is in form, of at most 1,000,000 events, with all frames that came in any order, again or
 /// never, all stops, crashes and restarts, there is for each object of the header a state of its disk machine in which it is seen, whose
 /// decisions are those of the journal, and whose first state and entry are the header's: no step changes them. What `KeepsHeard` of
-/// `arj_disk_run_law` names is still taken (`heard`), or a relation that is kept with the machine's state (`beside`). It does nothing
-/// when it runs.
+/// `arj_disk_run_law` names is still taken (`heard`), or a relation that is kept with the machine's state (`beside`); where the lock machine
+/// stands in the same run it isn't (`runs_have_both_machines`). It does nothing when it runs.
 pub fn runs_begin_as_the_header_says()
     ensures heard { RunsBeginSo }
     ensures beside { RunsBeginSoBeside }
@@ -35,7 +35,8 @@ pub fn decisions_come_behind_calls()
 {}
 
 /// After the run of each script whose header is in form, of at most 1,000,000 events, files that are those of its nodes' pairs are clean:
-/// with what the disk machine's half still takes, where the journal is tied to the lock machines, as it is with what their half takes, and where
+/// with what the disk machine's half takes alone, where the journal is tied to the lock machines, or with what the lock half takes (`whole`),
+/// which ties the journal and takes nothing of the disk half; and where
 /// who isn't decided for the object, and whose commit didn't end without a record, excludes no store that is listed in its place
 /// (`OthersAreIdle`), and decided tops wrote what they gave to the stores, and those without a record nothing, which is given with both halves
 /// (`runs_have_both_machines`). That decided tops are the journal's, that machines began as the header says, that all states are of their class,
@@ -54,9 +55,9 @@ pub fn runs_are_clean()
 /// waited for naming in an earlier state of the lock machine: what it changes the object to is what the server voted that was called, over a state that
 /// was the last one once; and so it is known of copies and votes, and of committed tops with surviving writes (`AreBasedSo`). So each
 /// decided top of the journal gave to the stores what it wrote, and one whose commit ended without a record wrote nothing. So the run
-/// is serial. What both halves still take is taken, where they stand beside each other: of the lock half what stores give to calls
-/// as they answer, in states beside one of the disk half (`IsBeside`), of the disk half in worlds beside the lock half's (`HasStates`). That
-/// commits of tops with surviving writes were recorded is given here. It does nothing when it runs.
+/// is serial. Of the disk half nothing is taken: by which version naming takes a top's Confirm the lock half gives, and so the premise of the
+/// laws above is no premise here. Of the lock half it takes what stores give to calls as they answer, in states beside one of the disk half
+/// (`IsBeside`). That commits of tops with surviving writes were recorded is given here. It does nothing when it runs.
 pub fn runs_have_both_machines()
     ensures joined { RunsAreJoined }
     ensures serial { JoinedRunsAreSerial }
