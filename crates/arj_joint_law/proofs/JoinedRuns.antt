@@ -14,6 +14,7 @@ use Rattle.arj_joint_law.proofs.Recorded.{recorded_part}
 use Rattle.arj_joint_law.proofs.RestGiven.{rest_beside}
 use Rattle.arj_joint_law.proofs.OrderedRuns.{IsOrderedBeside, early, ordered_beside}
 use Rattle.arj_disk_run_law.proofs.Bindings.{good_counted, names_own, records_free_in}
+use Rattle.arj_disk_run_law.proofs.Copies.{copies_agree}
 use Rattle.arj_disk_run_law.proofs.HeardKept.{heard_kept}
 use Rattle.arj_call_law.proofs.Given.{keeps_given, kept_both}
 use Rattle.arj_line_law.proofs.Runs.{lines_keep}
@@ -118,6 +119,7 @@ runs_are_joined hd x test form there rest es short =
       seen = (λ f a. let z = locks.3 f a in (z.0, z.1, z.2, z.3, z.4, z.6));
       requests = requests;
       wrote = (let b = o.begun in let j = b.journalled in wrote hd es x right sent j.tops j.machine j.sees locks.0 locks.1 (λ f a. let z = locks.3 f a in (z.0, z.1, z.2, z.4)) requests);
+      agree = (let b = o.begun in let j = b.journalled in copies_agree x j.tops j.machine M j.sees);
       bare = (let b = o.begun in let j = b.journalled in bare hd es x right sent j.tops j.machine j.sees locks.0 locks.1 (λ f a. let z = locks.3 f a in (z.0, z.1, z.2, z.4)) requests);
     }
       where

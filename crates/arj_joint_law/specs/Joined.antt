@@ -50,6 +50,7 @@ use Rattle.arj_serial_law.specs.Decided.{Wrote, WroteSo}
 use Rattle.arj_serial_law.specs.Seen.{IsSerialRun, RequestsAreOne}
 use Rattle.arj_disk_run_law.specs.Bindings.{AreGoodCounted, KnowsScript}
 use Rattle.arj_disk_run_law.specs.Rest.{SeesCarried}
+use Rattle.arj_disk_run_law.specs.Runs.{CopiesAgree}
 use Rattle.arj_lock_whole_law.specs.Runs.{IsRestBeside}
 use Rattle.arj_binding_law.specs.Scripts.{most_events}
 
@@ -141,7 +142,7 @@ AreBareSo lines x S = (u : Top) → Contains (tops lines) u → S.bare (uid_numb
 -- Both machines of the object at once: the disk machine, whose decisions are those of the journal in their order, also of those that only include
 -- a store; and for all that may be fixed and agrees with what was begun the lock machine, to which the journal is tied, in which commits under
 -- way have the votes that came, by which decided tops had planned, and in which it is known over which states copies and votes lie. So
--- decided tops wrote what their plans have, and those without a record nothing.
+-- decided tops wrote what their plans have, and those without a record nothing; and the copies of the object agree.
 pub record IsJoinedSo (hd : Header) (x : ℕ) (M : Seen) : Type 0 where
   pub ordered : IsOrderedSo hd x M
   pub includers : IncludersTakeTurns M.lines (let W = world_of ordered in W.disk.tops)
@@ -151,6 +152,7 @@ pub record IsJoinedSo (hd : Header) (x : ℕ) (M : Seen) : Type 0 where
   pub requests : RequestsAreOne M
   pub wrote : AreWritten (first_values hd) M.lines x (let W = world_of ordered in W.disk.tops)
   pub bare : AreBareSo M.lines x (let W = world_of ordered in W.disk)
+  pub agree : CopiesAgree x M
 
 -- So it is in the run of every script, of each object of the header, with what is still taken of the lock half, where it stands beside the
 -- disk half.

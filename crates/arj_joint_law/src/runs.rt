@@ -54,10 +54,10 @@ pub fn runs_are_clean()
 /// which commits under way have the votes that came. Each top that is decided, or has a record, has in the disk machine the plan with which it
 /// waited for naming in an earlier state of the lock machine: what it changes the object to is what the server voted that was called, over a state that
 /// was the last one once; and so it is known of copies and votes, and of committed tops with surviving writes (`AreBasedSo`). So each
-/// decided top of the journal gave to the stores what it wrote, and one whose commit ended without a record wrote nothing. So the run
-/// is serial. Of the disk half nothing is taken: by which version naming takes a top's Confirm the lock half gives, and so the premise of the
-/// laws above is no premise here. Of the lock half it takes what stores give to calls as they answer, in states beside one of the disk half
-/// (`IsBeside`). That commits of tops with surviving writes were recorded is given here. It does nothing when it runs.
+/// decided top of the journal gave to the stores what it wrote, and one whose commit ended without a record wrote nothing; the object's
+/// copies agree; and the run is serial. Of the disk half nothing is taken: by which version naming takes a top's Confirm the lock half gives,
+/// and so the premise of the laws above is no premise here. Of the lock half it takes what stores give to calls as they answer, in states beside
+/// one of the disk half (`IsBeside`). That commits of tops with surviving writes were recorded is given here. It does nothing when it runs.
 pub fn runs_have_both_machines()
     ensures joined { RunsAreJoined }
     ensures serial { JoinedRunsAreSerial }
