@@ -85,3 +85,11 @@ pub mod NodesThere
 pub mod NextVersions
 pub mod Owns
 pub mod NextGiven
+pub mod GivenMachine
+pub mod GivenTops
+pub mod GivenLight
+pub mod GivenSettled
+pub mod GivenWriters
+pub mod GivenValue
+pub mod GivenFirst
+pub mod GivenLast

@@ -1,13 +1,13 @@
 -- Where a write of the object survives in the lock machine, its top is one of the journal, committed there, and wrote the object.
-use Rattle.std.proofs.Common.{◌≡◌, ◌&&◌, ◌||◌, not, ℕ, Bool, true, false, cond, List, [], ◌∷◌, Some, None, refl, sym, ◌∙◌, ap, subst, inl, inr, eq-eqb}
+use Rattle.std.proofs.Common.{◌≡◌, ◌+◌, ◌&&◌, ◌||◌, not, ℕ, Bool, true, false, cond, List, [], ◌∷◌, Some, None, refl, sym, ◌∙◌, ap, subst, inl, inr, eq-eqb}
 use Rattle.std.specs.List.{list_all}
 use Rattle.arj_base.proofs.Uids.{uid_same}
 use Rattle.arj_base.specs.Rows.{is_on, last_uid}
 use Rattle.arj_base.specs.Uid.{uid_eq}
 use Rattle.arj_lock.proofs.Members.{In, in_to}
 use Rattle.arj_model.specs.Actions.{Act, Placed, acts, chain_in, committed, has_end, is_committed, is_serial, recovered, top_in, uids}
-use Rattle.arj_model.specs.Calls.{Said, call_of, kept, kept_in, said}
-use Rattle.arj_model.specs.Serial.{Values}
+use Rattle.arj_model.specs.Calls.{Call, Said, call_of, committed_calls, kept, kept_in, said}
+use Rattle.arj_model.specs.Serial.{Values, writes_on}
 use Rattle.arj_protocol.specs.Words.{Kind, Line, Uid}
 use Rattle.arj_protocol.specs.Words.kind
 use Rattle.arj_part_law.specs.Actions.{Action}
@@ -78,6 +78,24 @@ pub record HasWritten (lines : List Line) (x : ℕ) (u : Uid) : Type 0 where
   pub done : IsDone lines act
   pub wrote : Wrote lines x (record { id = act.id; root = act.id; at = 0 })
 
+-- The top wrote by a surviving call of the journal, whose line is the machine's.
+pub record HasSaid (lines : List Line) (x : ℕ) (u : Uid) (line : ℕ) : Type 0 where
+  pub act : Act
+  pub there : In act (acts lines)
+  pub uid : act.uid ≡ u
+  pub call : Call
+  pub listed : In call (committed_calls lines)
+  pub write : writes_on x call ≡ true
+  pub whose : call.top ≡ act.id
+  pub line_is : line ≡ call.at + 1
+
+-- The action is the top of a call in the machine, and one of the journal.
+pub record IsTopThere (act : Acts) (lines : List Line) (m : machine.Act) : Type 0 where
+  pub its : Act
+  pub there : In its (acts lines)
+  pub kind : is_top its.kind ≡ true
+  pub place : act its.uid ≡ m
+
 module _ (f : Fixed) (x : ℕ) (begun : List Action) (S : State) (M : Seen) (seen : IsSeenIn (case_of f x begun S) M) (values : Values) (begins : BeginsAs values x f) where
   right : AreRight new_book M.lines
   right = let w = seen.written in w.right
@@ -94,7 +112,7 @@ module _ (f : Fixed) (x : ℕ) (begun : List Action) (S : State) (M : Seen) (see
   holds : Holds S
   holds = let s = seen.sees in run_keeps s.run (start_holds f.first)
 
-  module _ (c : state.Call) (there : machine.In c S.calls) (write : c.write ≡ true) (survives : Survives S c.act) (u : Uid) (of : top c.act ≡ f.act u) where
+  module _ (c : state.Call) (there : machine.In c S.calls) where
     pair : (s : Placed Said) × In s (said_on x M.lines) × IsCallOf f.act f.code s c
     pair = call_found f.act f.code (said_on x M.lines) S.calls tied.calls c there
 
@@ -134,45 +152,61 @@ module _ (f : Fixed) (x : ℕ) (begun : List Action) (S : State) (M : Seen) (see
     top_kind : is_top t.kind ≡ true
     top_kind = let h = shape_of M.lines right maker in h.tops t topmost.1
 
-    -- who stands on its path is committed
-    done : (b : Act) → In b (path_of M.lines maker) → is_serial b.kind ≡ false → IsDone M.lines b
-    done b j is =
-        let i = in_to b (acts M.lines) (member b j) in
-        let above : on c.act (f.act b.uid) ≡ true = ap (λ a. on a (f.act b.uid)) caller ∙ places.above maker b (in_to maker (acts M.lines) made) i ∙ uid_on (path_of M.lines maker) b j in
-        let e = tied.ends b i is in
-        (e.only (survives (f.act b.uid) above (places.actions b i ∙ ap not is))).0
-
-    top_done : IsDone M.lines t
-    top_done = done t top_path (plain_top t.kind top_kind)
-
-    kept_is : kept (committed M.lines) (recovered M.lines) s ≡ Some (call_of s t)
-    kept_is =
-        let below : list_all (λ (a : Act). has_end (committed M.lines) a.id) (chain_in (path_of M.lines maker)) ≡ true = all_in (λ (a : Act). has_end (committed M.lines) a.id) (chain_in (path_of M.lines maker)) (λ b i.
-        let k = chain_nested M.lines right maker b i in
-        let j = chain_on (path_of M.lines maker) b i in
-        nested_end M.lines right b (member b j) k.0 (done b j k.1)) in
-        ap (kept_in (committed M.lines) (recovered M.lines) s) (ap top_in path_is ∙ topmost.1)
-        ∙ ap (λ b. cond (b && is_committed (committed M.lines) (recovered M.lines) t) (Some (call_of s t)) None) (ap (λ q. list_all (λ (a : Act). has_end (committed M.lines) a.id) (chain_in q)) path_is ∙ below)
-        ∙ ap (λ b. cond b (Some (call_of s t)) None) top_done
-
     -- its top in the machine
-    same_top : f.act t.uid ≡ f.act u
-    same_top =
+    its_top : f.act t.uid ≡ top c.act
+    its_top =
         let i = in_to t (acts M.lines) (member t top_path) in
         let above : on c.act (f.act t.uid) ≡ true = ap (λ a. on a (f.act t.uid)) caller ∙ places.above maker t (in_to maker (acts M.lines) made) i ∙ uid_on (path_of M.lines maker) t top_path in
-        sym (top_of c.act (f.act t.uid) (places.tops t i ∙ top_kind) above) ∙ of
+        sym (top_of c.act (f.act t.uid) (places.tops t i ∙ top_kind) above)
 
-    pub has_written : HasWritten M.lines x u
-    has_written = record {
-      act = t;
-      there = member t top_path;
-      uid = (let a = seen.agrees in let w = a.whole in let l = w.alike in l.one t.uid u same_top);
-      kind = top_kind;
-      done = top_done;
-      wrote = (
-        call_of s t,
-        in_to (call_of s t) _ (mapped (kept (committed M.lines) (recovered M.lines)) s (call_of s t) (said M.lines) object.0 kept_is),
-        (λ i. (eq-eqb s.it.x x object.1 i) && (sym (let k = pair.2 in k.write) ∙ write) i),
-        refl,
-      );
-    }
+    pub top_there : IsTopThere f.act M.lines (top c.act)
+    top_there = record { its = t; there = member t top_path; kind = top_kind; place = its_top }
+
+    module _ (write : c.write ≡ true) (survives : Survives S c.act) (u : Uid) (of : top c.act ≡ f.act u) where
+      -- who stands on its path is committed
+      done : (b : Act) → In b (path_of M.lines maker) → is_serial b.kind ≡ false → IsDone M.lines b
+      done b j is =
+          let i = in_to b (acts M.lines) (member b j) in
+          let above : on c.act (f.act b.uid) ≡ true = ap (λ a. on a (f.act b.uid)) caller ∙ places.above maker b (in_to maker (acts M.lines) made) i ∙ uid_on (path_of M.lines maker) b j in
+          let e = tied.ends b i is in
+          (e.only (survives (f.act b.uid) above (places.actions b i ∙ ap not is))).0
+
+      top_done : IsDone M.lines t
+      top_done = done t top_path (plain_top t.kind top_kind)
+
+      kept_is : kept (committed M.lines) (recovered M.lines) s ≡ Some (call_of s t)
+      kept_is =
+          let below : list_all (λ (a : Act). has_end (committed M.lines) a.id) (chain_in (path_of M.lines maker)) ≡ true = all_in (λ (a : Act). has_end (committed M.lines) a.id) (chain_in (path_of M.lines maker)) (λ b i.
+          let k = chain_nested M.lines right maker b i in
+          let j = chain_on (path_of M.lines maker) b i in
+          nested_end M.lines right b (member b j) k.0 (done b j k.1)) in
+          ap (kept_in (committed M.lines) (recovered M.lines) s) (ap top_in path_is ∙ topmost.1)
+          ∙ ap (λ b. cond (b && is_committed (committed M.lines) (recovered M.lines) t) (Some (call_of s t)) None) (ap (λ q. list_all (λ (a : Act). has_end (committed M.lines) a.id) (chain_in q)) path_is ∙ below)
+          ∙ ap (λ b. cond b (Some (call_of s t)) None) top_done
+
+      pub has_written : HasWritten M.lines x u
+      has_written = record {
+        act = t;
+        there = member t top_path;
+        uid = (let a = seen.agrees in let w = a.whole in let l = w.alike in l.one t.uid u (its_top ∙ of));
+        kind = top_kind;
+        done = top_done;
+        wrote = (
+          call_of s t,
+          in_to (call_of s t) _ (mapped (kept (committed M.lines) (recovered M.lines)) s (call_of s t) (said M.lines) object.0 kept_is),
+          (λ i. (eq-eqb s.it.x x object.1 i) && (sym (let k = pair.2 in k.write) ∙ write) i),
+          refl,
+        );
+      }
+
+      pub has_said : HasSaid M.lines x u c.line
+      has_said = record {
+        act = t;
+        there = member t top_path;
+        uid = (let a = seen.agrees in let w = a.whole in let l = w.alike in l.one t.uid u (its_top ∙ of));
+        call = call_of s t;
+        listed = mapped (kept (committed M.lines) (recovered M.lines)) s (call_of s t) (said M.lines) object.0 kept_is;
+        write = (λ i. (eq-eqb s.it.x x object.1 i) && (sym (let k = pair.2 in k.write) ∙ write) i);
+        whose = refl;
+        line_is = (let k = pair.2 in k.line);
+      }

@@ -16,7 +16,7 @@ use Rattle.arj_lock_law.specs.Laws.{given_by}
 use Rattle.arj_lock_law.specs.State.{Alive, Ballot, Call, Entry, State}
 use Rattle.arj_lock_law.proofs.Claims.{Holds}
 use Rattle.arj_lock_law.proofs.Order.{start_holds}
-use Rattle.arj_lock_law.proofs.Paths.{same_is, same_self, top_root}
+use Rattle.arj_lock_law.proofs.Paths.{same_is, same_self, top_root, top_self}
 use Rattle.arj_lock_law.proofs.ValueClaims.{Values}
 use Rattle.arj_lock_law.proofs.ValueRun.{start_values}
 use Rattle.arj_lock_law.proofs.VoteLasts.{Votes}
@@ -60,6 +60,15 @@ module _ (act : Acts) (code : Codes) (u : Uid) where
           (newest, subst (In newest) (sym are) there, held_by (act (last_uid p.holder)) own over.held newest (subst (In newest) (sym over.are) (inl refl)) ∙ ap act (uid_is (last_uid p.holder) u its))
       by false its is_so ih = let r = ih is_so in (r.0, subst (In r.0) (sym are) (in_behind own rest r.0 r.1), r.2)
 
+  -- it is the action's own
+  pub over_own : (os : List Over) (o : Over) → over_of u os ≡ Some o → last_uid o.holder ≡ u
+  over_own [] o is = absurd (cc is)
+  over_own (p ∷ os) o is = by (is_of u p) refl is (over_own os o)
+    where
+      by : (b : Bool) → is_of u p ≡ b → cond b (Some p) (over_of u os) ≡ Some o → (over_of u os ≡ Some o → last_uid o.holder ≡ u) → last_uid o.holder ≡ u
+      by true its is_so ih = let same : p ≡ o = (let both : ◌≡◌ {A = Option Over} (Some p) (Some o) = is_so in cc both) in ap (λ (z : Over). last_uid z.holder) (sym same) ∙ uid_is (last_uid p.holder) u its
+      by false its is_so ih = ih is_so
+
   -- and a write that it holds has its overlay
   pub over_found : AreOne act → (os : List Over) (log : List Entry) → SeesOvers act code os log → (e : Entry) → In e log → e.holder ≡ act u → over_of u os ≡ None → ⊥
   over_found one [] log sees e i holder none = absurd (subst (In e) sees i)
@@ -85,7 +94,7 @@ state_by u x c o = option_map (state_of u x c) o
 abbrev pub VotedIn : Fixed → State → Uid → Option Packed → Type 0
 VotedIn f S u None = (c : Call) → In c S.calls → c.write ≡ true → top c.act ≡ f.act u → Alive S c.act → ⊥
 VotedIn f S u (Some w) = (v : Value) × (a : Act) × ((let b = S.vote (f.act u) in b.value) ≡ f.code v a) × (w.content ≡ payload_of v) × (w.writer ≡ uid_number u)
-    × (c : Call) × In c S.calls × (c.write ≡ true) × (top c.act ≡ f.act u) × Alive S c.act
+    × (c : Call) × In c S.calls × (c.write ≡ true) × (top c.act ≡ f.act u) × Alive S c.act × (a ≡ f.act u)
 
 module _ (f : Fixed) (x : ℕ) (S : State) (W : World) (u : Uid) (one : AreOne f.act) (p : IsPlannedSo f x S W u) (two : 2 ≤ (let a = S.action (f.act u) in a.stage)) (three : (let a = S.action (f.act u) in a.stage) ≤ 3) where
   abbrev m : Act
@@ -126,7 +135,8 @@ module _ (f : Fixed) (x : ℕ) (S : State) (W : World) (u : Uid) (one : AreOne f
         by (Some o) some =
             let made : state_of u x given.copy o ≡ st = (let both : ◌≡◌ {A = Option ObjectState} (Some (state_of u x given.copy o)) (Some st) = state_is (Some o) some ∙ changed in cc both) in
             let e = over_there f.act f.code u (let k = given.copy in k.stack) log overs o some in
-            let d = right.1 e.0 e.1 (subst (λ a. same a m ≡ true) (sym e.2) (same_self m)) in (
+            let d = right.1 e.0 e.1 (subst (λ a. same a m ≡ true) (sym e.2) (same_self m)) in
+            let own_top : writer_of f.act o ≡ m = (ap (λ (z : Uid). top (f.act z)) (over_own f.act f.code u (let k = given.copy in k.stack) o some) ∙ top_self m (let s = p.sees.0 in s.top)) in (
               o.value,
               writer_of f.act o,
               (right.0 d.0 d.1 d.2 d.3 d.4).0 ∙ ap (λ (b : Ballot). b.value) (let v = given.vote in v.gives) ∙ ap (λ (k : Option Over). f.code (value_in (let z = given.copy in z.base) k) (maker_in f.act (let z = given.copy in z.base) k)) some,
@@ -137,6 +147,7 @@ module _ (f : Fixed) (x : ℕ) (S : State) (W : World) (u : Uid) (one : AreOne f
               d.2,
               d.3,
               d.4,
+              own_top,
             )
 
     -- without a state there was none, and the top held no write

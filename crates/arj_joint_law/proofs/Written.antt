@@ -84,7 +84,7 @@ module _ (hd : Header) (es : List Asked) (x : ℕ) (right : AreRight new_book (l
   voted : (u : Uid) (o : Option Packed) → VotedIn f S u o → VotedSo values M.lines x S tied u o
   unfolding tied
   voted u None v = v
-  voted u (Some w) v = v
+  voted u (Some w) v = (v.0, v.1, v.2, v.3, v.4, v.5, v.6, v.7, v.8, v.9)
 
   -- a top of the journal that had planned so wrote what its plan has
   its_plan : (u : Top) (listed : Contains (tops M.lines) u) → (let k = top_item M.lines right u (in_from u (tops M.lines) listed) in IsPlannedSo f x S W (let a = k.act in a.uid)) → WroteSo values M.lines x u (let k = W.disk.plan (uid_number (uid_of_id (acts M.lines) u.id)) in k.writes)
