@@ -16,8 +16,8 @@ use Rattle.arj_line_law.proofs.Runs.{lines_keep, run_written}
 use Rattle.arj_disk_law.specs.Order.{counts_of}
 use Rattle.arj_disk_law.specs.State.{Done, Packed, decided as decided_so, decided_in, target}
 use Rattle.arj_disk_law.specs.Words as disk
+use Rattle.arj_disk_law.proofs.History.{in_decided}
 use Rattle.arj_disk_law.proofs.Listing.{filter_none}
-use Rattle.arj_disk_line_law.specs.Said.{IsJournalled}
 use Rattle.arj_law.specs.Growth.{IdleInPlace, first_stores}
 use Rattle.arj_line_law.specs.Idle.{HasNothing}
 use Rattle.arj_line_law.proofs.Books.{never, or_which}
@@ -41,9 +41,9 @@ use Rattle.arj_serial_law.proofs.Cleaning.{is_clean}
 use Rattle.arj_serial_law.proofs.Including.{are_decided}
 use Rattle.arj_serial_law.proofs.Shown.{files_clean}
 use Rattle.arj_serial_law.proofs.Ties.{Ties, ties_of}
-use Rattle.arj_joint_law.specs.Cleaned.{AreLockTied, AreNamed, DecideSo, OthersAreIdle, RunsAreClean, WholeRunsAreClean, disk_of, is_one_of, number_of}
+use Rattle.arj_joint_law.specs.Cleaned.{AreLockTied, AreNamed, DecideSo, LightAreIdle, RunsAreClean, WholeRunsAreClean, disk_of, is_one_of, number_of}
 use Rattle.arj_joint_law.specs.Includers.{IncludersTakeTurns, JoinersAreNewestFirst, TakesTurnsSo}
-use Rattle.arj_joint_law.specs.Ordered.{AreTurnsOf, IsOrderedSo}
+use Rattle.arj_joint_law.specs.Ordered.{AreSpared, AreTurnsOf, IsOrderedSo}
 use Rattle.arj_joint_law.specs.Shown.{FilesAre, IncludesAreThere}
 use Rattle.arj_joint_law.specs.Writers.{WritersAreNewestFirst}
 use Rattle.arj_joint_law.proofs.Called.{decided_writers_stand, decision_of, number_is, one_number, those_of, wrote_something}
@@ -161,7 +161,7 @@ ordered_of hd es x h = record { sent = h.sent; stands = h.stands; holds = (let o
 
 -- in which they are named, and wrote what they gave
 abbrev pub Decides : (hd : Header) (es : List Asked) → Held hd es → Type 0
-Decides hd es held = (x : ℕ) (there : is_some (object_line hd x) ≡ true) → OthersAreIdle hd (journal hd es) x (disk_of (let h = ordered_of hd es x (held x there) in h.holds)) × AreWritten (first_values hd) (journal hd es) x (let S = disk_of (let h = ordered_of hd es x (held x there) in h.holds) in S.tops)
+Decides hd es held = (x : ℕ) (there : is_some (object_line hd x) ≡ true) → LightAreIdle hd (journal hd es) x (disk_of (let h = ordered_of hd es x (held x there) in h.holds)) × AreWritten (first_values hd) (journal hd es) x (let S = disk_of (let h = ordered_of hd es x (held x there) in h.holds) in S.tops)
     × AreBareSo (journal hd es) x (disk_of (let h = ordered_of hd es x (held x there) in h.holds))
 
 module _ (hd : Header) (es : List Asked) (form : HeaderInForm hd) (tied : AreLockTied hd (journal hd es)) (held : Held hd es) (decide : Decides hd es held) where
@@ -224,31 +224,35 @@ module _ (hd : Header) (es : List Asked) (form : HeaderInForm hd) (tied : AreLoc
     its_number : (t : Top) (i : In t (tops (journal hd es))) → number_of (journal hd es) t ≡ uid_number (let k = top_item (journal hd es) right t i in let a = k.act in a.uid)
     its_number t i = let z = tied.listed x there in number_is (first_values hd) (journal hd es) x z.0 right z.1 t (top_item (journal hd es) right t i)
 
-    -- a top of the journal is one of them, late, or one that doesn't count; its commit ended without a record, or nothing of it survives
+    -- nothing of it survives, and it excluded no store
+    abbrev HasNoPart : Act → Type 0
+    HasNoPart a = HasNothing (journal hd es) a × ((s : ℕ) → is_among (leaves_of (journal hd es) a.id x) s ≡ false)
+
+    -- a top of the journal is one of them, or one that doesn't count; its commit ended without a record, or it had no part in the object
     place : (t : Top) (i : In t (tops (journal hd es))) → In t those ⊎ ((e : Done) × disk.In e dones × (e.top ≡ number_of (journal hd es) t) × (e.counts ≡ false))
-        ⊎ ((let S = disk_of h.holds in S.bare (number_of (journal hd es) t)) ≡ true) ⊎ HasNothing (journal hd es) (let k = top_item (journal hd es) right t i in k.act)
+        ⊎ ((let S = disk_of h.holds in S.bare (number_of (journal hd es) t)) ≡ true) ⊎ HasNoPart (let k = top_item (journal hd es) right t i in k.act)
     place t i = ⊎_elim
         (λ (on : decided_so (disk_of h.holds) (uid_number (let a = k.act in a.uid)) ≡ true).
         let r = decided_out dones (uid_number (let a = k.act in a.uid)) on in
         counts r.0 r.1 r.2 (let e = r.0 in e.counts) refl)
-        (λ (rest : ((let S = disk_of h.holds in S.bare (uid_number (let a = k.act in a.uid))) ≡ true) ⊎ HasNothing (journal hd es) k.act). bare_or rest)
-        (journalled.done k.act (in_to k.act (acts (journal hd es)) k.there) k.kind k.done)
+        (λ (rest : ((let S = disk_of h.holds in S.bare (uid_number (let a = k.act in a.uid))) ≡ true) ⊎ HasNoPart k.act). bare_or rest)
+        (spared k.act (in_to k.act (acts (journal hd es)) k.there) k.kind k.done)
       where
         k : IsTopOf (journal hd es) t
         k = top_item (journal hd es) right t i
 
-        journalled : IsJournalled x (see h.sent w)
-        journalled = let b = (let o = h.holds in o.begun) in b.journalled
+        spared : AreSpared (journal hd es) x (disk_of h.holds)
+        spared = let o = h.holds in o.spared
 
-        bare_or : ((let S = disk_of h.holds in S.bare (uid_number (let a = k.act in a.uid))) ≡ true) ⊎ HasNothing (journal hd es) k.act
+        bare_or : ((let S = disk_of h.holds in S.bare (uid_number (let a = k.act in a.uid))) ≡ true) ⊎ HasNoPart k.act
             → In t those ⊎ ((e : Done) × disk.In e dones × (e.top ≡ number_of (journal hd es) t) × (e.counts ≡ false))
-            ⊎ ((let S = disk_of h.holds in S.bare (number_of (journal hd es) t)) ≡ true) ⊎ HasNothing (journal hd es) k.act
+            ⊎ ((let S = disk_of h.holds in S.bare (number_of (journal hd es) t)) ≡ true) ⊎ HasNoPart k.act
         bare_or (inl bare) = inr (inr (inl (ap (λ (n : ℕ). let S = disk_of h.holds in S.bare n) (its_number t i) ∙ bare)))
         bare_or (inr none) = inr (inr (inr none))
 
         counts : (e : Done) → disk.In e dones → e.top ≡ uid_number (let a = k.act in a.uid) → (b : Bool) → e.counts ≡ b
             → In t those ⊎ ((e : Done) × disk.In e dones × (e.top ≡ number_of (journal hd es) t) × (e.counts ≡ false))
-            ⊎ ((let S = disk_of h.holds in S.bare (number_of (journal hd es) t)) ≡ true) ⊎ HasNothing (journal hd es) k.act
+            ⊎ ((let S = disk_of h.holds in S.bare (number_of (journal hd es) t)) ≡ true) ⊎ HasNoPart k.act
         counts e j same true is =
             let z = tied.listed x there in
             let r = those_of (first_values hd) (journal hd es) x z.0 right z.1 (filter counts_of dones) those decisions e (counted_in e dones j is) in
@@ -267,7 +271,7 @@ module _ (hd : Header) (es : List Asked) (form : HeaderInForm hd) (tied : AreLoc
         k = top_item (journal hd es) right t i
 
         by : In t those ⊎ ((e : Done) × disk.In e dones × (e.top ≡ number_of (journal hd es) t) × (e.counts ≡ false))
-            ⊎ ((let S = disk_of h.holds in S.bare (number_of (journal hd es) t)) ≡ true) ⊎ HasNothing (journal hd es) k.act → In t those
+            ⊎ ((let S = disk_of h.holds in S.bare (number_of (journal hd es) t)) ≡ true) ⊎ HasNoPart k.act → In t those
         by (inl one) = one
         by (inr (inl (e, j, same, is))) =
             let b = (let o = h.holds in o.begun) in
@@ -277,7 +281,7 @@ module _ (hd : Header) (es : List Asked) (form : HeaderInForm hd) (tied : AreLoc
             let none = subst (WroteSo (first_values hd) (journal hd es) x t) nothing (written e t j (in_to t (tops (journal hd es)) i) same) in
             absurd (never wrote.2 (none wrote.0 wrote.1 wrote.3))
         by (inr (inr (inl bare))) = absurd (let d3 = decide x there in d3.2 t (in_to t (tops (journal hd es)) i) bare wrote)
-        by (inr (inr (inr none))) = absurd (wrote_something (journal hd es) x t k.act k.number wrote none)
+        by (inr (inr (inr none))) = absurd (wrote_something (journal hd es) x t k.act k.number wrote none.0)
 
     -- one whose commit ended without a record touched nothing
     spared_by : (t : Top) (i : In t (tops (journal hd es))) → (let S = disk_of h.holds in S.bare (number_of (journal hd es) t)) ≡ true → (s : ℕ)
@@ -295,17 +299,33 @@ module _ (hd : Header) (es : List Asked) (form : HeaderInForm hd) (tied : AreLoc
         empty is = ap (λ ns. increasing (filter (λ s. not (is_among (leaves_of (journal hd es) t.id x) s)) ns)) (ap (λ n. joins_of (journal hd es) n x) (sym k.number) ∙ is)
 
         by : In t those ⊎ ((e : Done) × disk.In e dones × (e.top ≡ number_of (journal hd es) t) × (e.counts ≡ false))
-            ⊎ ((let S = disk_of h.holds in S.bare (number_of (journal hd es) t)) ≡ true) ⊎ HasNothing (journal hd es) k.act → added (journal hd es) x t ≡ []
+            ⊎ ((let S = disk_of h.holds in S.bare (number_of (journal hd es) t)) ≡ true) ⊎ HasNoPart k.act → added (journal hd es) x t ≡ []
         by (inl one) = absurd (never (is_there t those one) off)
         by (inr (inl (e, j, same, is))) =
             let o = h.holds in
             sym (joins_so e t j (in_to t (tops (journal hd es)) i) same) ∙ filter_none e.got (let p = e.plan in p.joins) (λ s on. o.still e j is s)
         by (inr (inr (inl bare))) = empty (none_among (joins_of (journal hd es) (let a = k.act in a.id) x) (λ s. (spared_by t i bare s).1))
-        by (inr (inr (inr none))) = empty (none.includes x)
+        by (inr (inr (inr none))) = empty (let z = none.0 in z.includes x)
+
+    -- and each of the others that isn't decided excludes none
+    spares : (t : Top) → In t (tops (journal hd es)) → is_one_of those t ≡ false → not (decided_so (disk_of h.holds) (number_of (journal hd es) t)) ≡ true → (s : ℕ) → is_among (leaves_of (journal hd es) t.id x) s ≡ false
+    spares t i off undone s = by (place t i)
+      where
+        k : IsTopOf (journal hd es) t
+        k = top_item (journal hd es) right t i
+
+        its : is_among (leaves_of (journal hd es) (let a = k.act in a.id) x) s ≡ false → is_among (leaves_of (journal hd es) t.id x) s ≡ false
+        its none = ap (λ n. is_among (leaves_of (journal hd es) n x) s) (sym k.number) ∙ none
+
+        by : In t those ⊎ ((e : Done) × disk.In e dones × (e.top ≡ number_of (journal hd es) t) × (e.counts ≡ false))
+            ⊎ ((let S = disk_of h.holds in S.bare (number_of (journal hd es) t)) ≡ true) ⊎ HasNoPart k.act → is_among (leaves_of (journal hd es) t.id x) s ≡ false
+        by (inl one) = absurd (never (is_there t those one) off)
+        by (inr (inl (e, j, same, is))) = absurd (never undone (ap not (ap (decided_in dones) (sym same) ∙ in_decided dones e j)))
+        by (inr (inr (inl bare))) = its (spared_by t i bare s).0
+        by (inr (inr (inr none))) = its (none.1 s)
 
     idle : IdleInPlace (journal hd es) x (is_one_of those) (first_stores hd x) (serial_tops (journal hd es))
-    idle = all_idle (journal hd es) x (is_one_of those) (λ t. let S = disk_of h.holds in S.bare (number_of (journal hd es) t)) adds_none
-        (λ t i bare s. ap (λ n. is_among (leaves_of (journal hd es) n x) s) (sym (let k = top_item (journal hd es) right t i in k.number)) ∙ (spared_by t i bare s).0) (first_stores hd x) ((decide x there).0 those named.1)
+    idle = all_idle (journal hd es) x (is_one_of those) (λ t. not (decided_so (disk_of h.holds) (number_of (journal hd es) t))) adds_none spares (first_stores hd x) ((decide x there).0 those named.1)
 
     all : (t : Top) → Contains (tops (journal hd es)) t → (is_one_of those t ≡ true) ⊎ Wrote (journal hd es) x t → Contains those t
     all t c (inl on) =

@@ -29,12 +29,12 @@ none_among (n ∷ ns) none = absurd (never (ap (λ b. b || is_among ns n) (eq-eq
 abbrev pub added : List Line → ℕ → Top → List ℕ
 added lines x t = increasing (filter (λ s. not (is_among (leaves_of lines t.id x) s)) (joins_of lines t.id x))
 
-module _ (lines : List Line) (x : ℕ) (counts spared : Top → Bool) (adds : (t : Top) → In t (tops lines) → counts t ≡ false → added lines x t ≡ []) (spares : (t : Top) → In t (tops lines) → spared t ≡ true → (s : ℕ) → is_among (leaves_of lines t.id x) s ≡ false) where
+module _ (lines : List Line) (x : ℕ) (counts spared : Top → Bool) (adds : (t : Top) → In t (tops lines) → counts t ≡ false → added lines x t ≡ []) (spares : (t : Top) → In t (tops lines) → counts t ≡ false → spared t ≡ true → (s : ℕ) → is_among (leaves_of lines t.id x) s ≡ false) where
   keeps_list : (stores : List ℕ) (t : Top) → In t (tops lines) → ((counts t || spared t) ≡ false → (s : ℕ) → is_among stores s ≡ true → is_among (leaves_of lines t.id x) s ≡ false) → counts t ≡ false → listed_after lines x stores t ≡ stores
   keeps_list stores t i excludes off = ap (λ ns. filter (λ s. not (is_among (leaves_of lines t.id x) s)) stores ++ ns) (adds t i off) ∙ append-nil (filter (λ s. not (is_among (leaves_of lines t.id x) s)) stores) ∙ filter_all (λ s. not (is_among (leaves_of lines t.id x) s)) stores (λ s on. ap not (none (spared t) refl s (sym (has_is s stores) ∙ on)))
     where
       none : (b : Bool) → spared t ≡ b → (s : ℕ) → is_among stores s ≡ true → is_among (leaves_of lines t.id x) s ≡ false
-      none true is s on = spares t i is s
+      none true is s on = spares t i off is s
       none false is s on = excludes (ap (λ b. b || spared t) off ∙ is) s on
 
   pub idle_in_place : (stores : List ℕ) (ts : List Top) → AllByRecursion (λ (t : Top). In t (tops lines)) ts → ExcludesNoListed lines x (λ t. counts t || spared t) stores ts → IdleInPlace lines x counts stores ts

@@ -18,6 +18,8 @@ pub mod NewWriters
 pub mod MarkStates
 pub mod MarkMoves
 pub mod MarkRuns
+pub mod MarkAsks
+pub mod Sparing
 pub mod MarkTies
 pub mod Leaving
 pub mod RunsInTime

@@ -5,6 +5,7 @@ use Rattle.std.specs.Str.{bytes_eq}
 use Rattle.std.proofs.lemmas.Slice.Eq.{bytes_eq-Decides}
 use Rattle.arj_address_law.proofs.Lists.{all_append}
 use Rattle.arj_line_law.specs.Book.{Book, book_from, turned}
+use Rattle.arj_line_law.specs.Knows.{AreIdle, IsIdle}
 use Rattle.arj_line_law.specs.Right.{AreRight, Right}
 use Rattle.arj_line_law.proofs.Books.{later_from, still_named}
 use Rattle.arj_lock_run_law.proofs.KeptSteps.{handled_answer, response_is, took_heard}
@@ -14,13 +15,14 @@ use Rattle.arj_lock_whole_law.proofs.CoordCases as cases
 use Rattle.arj_lock_whole_law.proofs.CoordCases.{CoordCase, coord_case}
 use Rattle.arj_model.specs.Actions.{Act, act_in}
 use Rattle.arj_part_law.proofs.GoodCoords.{uses_same}
+use Rattle.arj_part_law.proofs.SaidIncs.{all_flat}
 use Rattle.arj_protocol.specs.Ask.{Reply, actor, answers}
 use Rattle.arj_protocol.specs.Asking.{call, call_steps, next_req, renewed, commit_action, commit_open, commit_top, end_line, gaveup_lines, give_up, give_up_call, give_up_doing, gives_up, heard, heard_by, heard_call, heard_doing, heard_none, heard_now, include, last_req, mark_lines, moved_commit, step_commit, waits_for_call, waits_for_commit}
 use Rattle.arj_protocol.specs.Call as calls
 use Rattle.arj_protocol.specs.Call.{CallEnd, Goal, Include, Run, Steps, next_node}
 use Rattle.arj_protocol.specs.Commit as commit
-use Rattle.arj_protocol.specs.Commit.{Aborts, Asks, CommitStep, Confirming, Decides, Machine, Marked, Plan, Preparing, Stays, Voting, nodes_given_up}
-use Rattle.arj_protocol.specs.Order.{unbound}
+use Rattle.arj_protocol.specs.Commit.{Aborts, Asks, CommitStep, Confirming, Decides, Machine, Marked, Plan, Preparing, Stays, Used, Voting, begin_confirm, further, is_empty, marks_store, marks_stores, nodes_given_up, stores_left}
+use Rattle.arj_protocol.specs.Order.{unbound, with_number, without_number}
 use Rattle.arj_protocol.specs.Coord.{Keeping, Root, is_free, keeping_of, on_root, with_keeping, Calling, Committing, Coord, Doing, Idle, Now, doing_of, plan_for, root_at}
 use Rattle.arj_protocol.specs.Effect.{Did, Disk, Do, Effect, Intent, Say, Send, Served}
 use Rattle.arj_protocol.specs.Ending.{abort_action, aborts_with, ends_with, say_for, says}
@@ -33,8 +35,9 @@ use Rattle.arj_protocol.specs.Words.body
 use Rattle.arj_protocol.specs.Words.cause
 use Rattle.arj_protocol.specs.Words.ending
 use Rattle.arj_protocol.specs.Words.kind
+use Rattle.arj_protocol.specs.Words.prepared
 use Rattle.arj_protocol.specs.Words.voted
-use Rattle.arj_joint_law.specs.Marked.{excludes, was_marked}
+use Rattle.arj_joint_law.specs.Marked.{ConfirmsFor, FitsMarks, excludes, was_marked}
 use Rattle.arj_joint_law.proofs.MarkStates.{All, AllBut, FitsMoved, FitsStep, GoesOn, aborted_all, acked_same, all_same, among, answered_fits, begin_fits, but, call_all, ended_all, fits_same, goes_all, lost_fits, moved_all, own_all, plus}
 
 -- ---- what effects say
@@ -101,14 +104,42 @@ said_marks u (z ∷ marks) c d found l x s =
     ∙ ap (λ b. b || (bytes_eq (name d.label) l && among marks x s)) (or_false (bytes_eq (name d.label) l && ((z.0 == x) && (z.1 == s))))
     ∙ and_or (bytes_eq (name d.label) l) ((z.0 == x) && (z.1 == s)) (among marks x s)
 
+-- a line about an action is said, and nothing is done on the disk
+say_idle : (u : Uid) (f : Label → Body) (c : Coord) → AreIdle (says u f c)
+say_idle u f c = by (doing_of u c)
+  where
+    by : (o : Option Doing) → AreIdle (say_for f o)
+    by None = tt
+    by (Some d) = (tt, tt)
+
+marks_idle : (u : Uid) (marks : List (ℕ × ℕ)) (c : Coord) → AreIdle (mark_lines u marks c)
+marks_idle u marks c = all_flat IsIdle (λ (m : ℕ × ℕ). says u (λ l. body.Excluded l m.0 m.1) c) marks (λ m. say_idle u (λ l. body.Excluded l m.0 m.1) c)
+
+gaveup_idle : (u : Uid) (ns : List ℕ) (c : Coord) → AreIdle (gaveup_lines u ns c)
+gaveup_idle u ns c = all_flat IsIdle (λ n. says u (λ l. body.GaveUp l n) c) ns (λ n. say_idle u (λ l. body.GaveUp l n) c)
+
+-- naming is asked to confirm the commit of this action
+abbrev pub Confirms : Uid → List Effect → Type 0
+Confirms u [] = ⊥
+Confirms u (Send to m ∷ es) = ConfirmsFor u m ⊎ Confirms u es
+Confirms u (Say b ∷ es) = Confirms u es
+Confirms u (Do w ∷ es) = Confirms u es
+
+confirms_behind : (u : Uid) (es fs : List Effect) → Confirms u fs → Confirms u (es ++ fs)
+confirms_behind u [] fs its = its
+confirms_behind u (Send to m ∷ es) fs its = inr (confirms_behind u es fs its)
+confirms_behind u (Say b ∷ es) fs its = confirms_behind u es fs its
+confirms_behind u (Do w ∷ es) fs its = confirms_behind u es fs its
+
 -- what was said before, and these
 abbrev pub after : (List ℕ → ℕ → ℕ → Bool) → List Effect → List ℕ → ℕ → ℕ → Bool
 after F es l x s = F l x s || said_in es l x s
 
 -- ---- whose marks they are
 
--- the name is that of an action at the coordinator whose prepare step runs
-pub record IsMarking (c : Coord) (l : List ℕ) : Type 0 where
+-- The name is that of an action at the coordinator whose prepare step runs; and with these effects naming is asked to confirm its commit, and
+-- nothing is done on the disk.
+pub record IsMarking (c : Coord) (outs : List Effect) (l : List ℕ) : Type 0 where
   pub action : Uid
   pub doing : Doing
   pub plan : Plan
@@ -116,11 +147,13 @@ pub record IsMarking (c : Coord) (l : List ℕ) : Type 0 where
   pub found : doing_of action c ≡ Some doing
   pub now : doing.now ≡ Committing (Preparing plan left)
   pub named : bytes_eq (name doing.label) l ≡ true
+  pub idle : AreIdle outs
+  pub asked : Confirms (let p = plan in actor p.path) outs
 
 -- What a handler says is what its commits mark, and the commits under way behind it fit that.
 pub record Moves (F : List ℕ → ℕ → ℕ → Bool) (c : Coord) (outs : List Effect) (e : Coord) : Type 0 where
   pub all : All (after F outs) e
-  pub whose : (l : List ℕ) (x s : ℕ) → (said_in outs l x s ≡ false) ⊎ IsMarking c l
+  pub whose : (l : List ℕ) (x s : ℕ) → (said_in outs l x s ≡ false) ⊎ IsMarking c outs l
 
 pub plain_moves : (F : List ℕ → ℕ → ℕ → Bool) (c : Coord) (outs : List Effect) (e : Coord) → Unmarked outs → All F e → Moves F c outs e
 plain_moves F c outs e none a = record {
@@ -132,35 +165,53 @@ plain_moves F c outs e none a = record {
 abbrev pub Distinct : Coord → Type 0
 Distinct c = (u w : Uid) (d q : Doing) (m n : Machine) → u ≢ w → doing_of u c ≡ Some d → doing_of w c ≡ Some q → d.now ≡ Committing m → q.now ≡ Committing n → bytes_eq (name d.label) (name q.label) ≡ false
 
--- only a prepare step marks
-abbrev MarksBy : Machine → List (ℕ × ℕ) → Type 0
-MarksBy m marks = (marks ≡ []) ⊎ ((p : Plan) × (left : List ℕ) × (m ≡ Preparing p left))
+-- only a prepare step marks, as it asks naming to confirm
+abbrev MarksBy : Machine → Marked → Type 0
+MarksBy m mk = (mk.marks ≡ []) ⊎ ((p : Plan) × (left : List ℕ) × (m ≡ Preparing p left) × (q : Plan) × (mk.step ≡ Asks (Confirming q)) × (q.path ≡ p.path))
 
-answered_by : (from : ℕ) (m : Machine) (r : Reply) → MarksBy m (commit.answered from m r).marks
-answered_by from (Voting p left) r = inl (by r)
+stores_by : (p q : Plan) (left : List ℕ) → is_empty q.used ≡ false → q.path ≡ p.path → (ns : List ℕ) → MarksBy (Preparing p left) (stores_left ns q)
+stores_by p q left used same [] = let r = by q.used used in inr (p, left, refl, r.0, r.1, r.2)
+  where
+    by : (us : List Used) → is_empty us ≡ false → (r : Plan) × (begin_confirm us q ≡ Asks (Confirming r)) × (r.path ≡ p.path)
+    by [] none = absurd (cc none)
+    by (u ∷ us) some = (further (1 ∷ []) q, refl, same)
+stores_by p q left used same (n ∷ ns) = inl refl
+
+marked_same : (ns : List ℕ) (p : Plan) → ((marks_stores ns p).used ≡ p.used) × ((marks_stores ns p).path ≡ p.path)
+marked_same [] p = (refl, refl)
+marked_same (n ∷ ns) p = marked_same ns (marks_store n p)
+
+answered_by : (f : ℕ → ℕ → Bool) (from : ℕ) (m : Machine) (r : Reply) → FitsMarks f m → MarksBy m (commit.answered from m r)
+answered_by f from (Voting p left) r fits = inl (by r)
   where
     by : (r : Reply) → (commit.answered from (Voting p left) r).marks ≡ []
     by (Reply.Voted (voted.Yes states)) = refl
     by (Reply.Voted (voted.Changed w)) = refl
     by r = refl
-answered_by from (Preparing p left) r = inr (p, left, refl)
-answered_by from (Confirming p) r = inl (by r)
+answered_by f from (Preparing p left) r fits = by r
+  where
+    by : (r : Reply) → MarksBy (Preparing p left) (commit.answered from (Preparing p left) r)
+    by (Reply.Prepared prepared.Yes) = stores_by p (record p { prepared = with_number from p.prepared }) left fits.1 refl (without_number from left)
+    by (Reply.Prepared (prepared.InDoubt x holder)) = stores_by p (marks_store from p) left fits.1 refl (without_number from left)
+    by (Reply.Prepared (prepared.Old x v)) = inl refl
+    by r = inl refl
+answered_by f from (Confirming p) r fits = inl (by r)
   where
     by : (r : Reply) → (commit.answered from (Confirming p) r).marks ≡ []
     by (Reply.Confirmed r) = refl
     by r = refl
 
-lost_by : (m : Machine) → MarksBy m (commit.given_up m).marks
-lost_by (Voting p left) = inl refl
-lost_by (Preparing p left) = inr (p, left, refl)
-lost_by (Confirming p) = inl refl
+lost_by : (f : ℕ → ℕ → Bool) (m : Machine) → FitsMarks f m → MarksBy m (commit.given_up m)
+lost_by f (Voting p left) fits = inl refl
+lost_by f (Preparing p left) fits = let same = marked_same left p in stores_by p (marks_stores left p) left (ap is_empty same.0 ∙ fits.1) same.1 []
+lost_by f (Confirming p) fits = inl refl
 
 same_doing : (u : Uid) (c : Coord) (d e : Doing) → doing_of u c ≡ Some d → doing_of u c ≡ Some e → d ≡ e
 same_doing u c d e one two = let q : ◌≡◌ {A = Option Doing} (Some d) (Some e) = sym one ∙ two in cc q
 
 module _ (F : List ℕ → ℕ → ℕ → Bool) (c : Coord) (distinct : Distinct c) (a : All F c) where
   -- a step of a commit
-  moved_moves : (u : Uid) (d : Doing) (m : Machine) → doing_of u c ≡ Some d → d.now ≡ Committing m → (mk : Marked) → FitsMoved (F (name d.label)) mk → MarksBy m mk.marks → (intents : List (Uid × Intent)) → (let t = moved_commit u mk intents c in Moves F c t.outs t.part)
+  moved_moves : (u : Uid) (d : Doing) (m : Machine) → doing_of u c ≡ Some d → d.now ≡ Committing m → (mk : Marked) → FitsMoved (F (name d.label)) mk → MarksBy m mk → (intents : List (Uid × Intent)) → (let t = moved_commit u mk intents c in Moves F c t.outs t.part)
   moved_moves u d m found now mk fits who intents = record { all = all; whose = whose }
     where
       outs : List Effect
@@ -190,20 +241,29 @@ module _ (F : List ℕ → ℕ → ℕ → Bool) (c : Coord) (distinct : Distinc
       all : All (after F outs) (moved_commit u mk intents c).part
       all = moved_all (after F outs) u mk intents c others whole (λ e at. subst (λ (z : Doing). GoesOn (after F outs (name z.label)) mk.step) (same_doing u c d e found at) (goes mk.step fits))
 
-      whose : (l : List ℕ) (x s : ℕ) → (said_in outs l x s ≡ false) ⊎ IsMarking c l
+      whose : (l : List ℕ) (x s : ℕ) → (said_in outs l x s ≡ false) ⊎ IsMarking c outs l
       whose l x s = ⊎_elim (λ empty. inl (none_said empty l x s)) (λ r. by (bytes_eq (name d.label) l) refl r) who
         where
-          by : (b : Bool) → bytes_eq (name d.label) l ≡ b → (p : Plan) × (left : List ℕ) × (m ≡ Preparing p left) → (said_in outs l x s ≡ false) ⊎ IsMarking c l
+          asks_it : (q : Plan) → mk.step ≡ Asks (Confirming q) → AreIdle outs × Confirms (actor q.path) outs
+          asks_it q is = (
+            all_append IsIdle (mark_lines u mk.marks c) (step_commit u mk.step intents c).outs (marks_idle u mk.marks c) (subst (λ z. AreIdle (step_commit u z intents c).outs) (sym is) (tt, tt)),
+            confirms_behind (actor q.path) (mark_lines u mk.marks c) (step_commit u mk.step intents c).outs (subst (λ z. Confirms (actor q.path) (step_commit u z intents c).outs) (sym is) (inl (record { head = _; grants = _; excluded = _; included = _; asked = refl; whose = refl }))),
+          )
+
+          by : (b : Bool) → bytes_eq (name d.label) l ≡ b → (p : Plan) × (left : List ℕ) × (m ≡ Preparing p left) × (q : Plan) × (mk.step ≡ Asks (Confirming q)) × (q.path ≡ p.path) → (said_in outs l x s ≡ false) ⊎ IsMarking c outs l
           by false is r = inl (said l x s ∙ ap (λ b. b && among mk.marks x s) is)
-          by true is r = inr (record { action = u; doing = d; plan = r.0; left = r.1; found = found; now = now ∙ ap Committing r.2; named = is })
+          by true is r = let k = asks_it r.3 r.4 in inr (record { action = u; doing = d; plan = r.0; left = r.1; found = found; now = now ∙ ap Committing r.2; named = is; idle = k.0; asked = subst (λ p. Confirms (actor p) outs) r.5 k.1 })
 
   -- behind lines that say none
-  behind_moves : (es fs : List Effect) (e : Coord) → Unmarked es → Moves F c fs e → Moves F c (es ++ fs) e
-  behind_moves es fs e none moves = record {
+  behind_moves : (es fs : List Effect) (e : Coord) → Unmarked es → AreIdle es → Moves F c fs e → Moves F c (es ++ fs) e
+  behind_moves es fs e none idle moves = record {
     all = all_same (after F fs) (after F (es ++ fs)) e (λ l x s. ap (λ b. F l x s || b) (same l x s)) moves.all;
-    whose = λ l x s. ⊎_elim (λ (off : said_in fs l x s ≡ false). inl (same l x s ∙ off)) (λ (on : IsMarking c l). inr on) (moves.whose l x s);
+    whose = λ l x s. ⊎_elim (λ (off : said_in fs l x s ≡ false). inl (same l x s ∙ off)) (λ (on : IsMarking c fs l). inr (with_them l on)) (moves.whose l x s);
   }
     where
+      with_them : (l : List ℕ) → IsMarking c fs l → IsMarking c (es ++ fs) l
+      with_them l on = record { action = on.action; doing = on.doing; plan = on.plan; left = on.left; found = on.found; now = on.now; named = on.named; idle = all_append IsIdle es fs idle on.idle; asked = confirms_behind (let p = on.plan in actor p.path) es fs on.asked }
+
       same : (l : List ℕ) (x s : ℕ) → said_in (es ++ fs) l x s ≡ said_in fs l x s
       same l x s = said_on es fs l x s ∙ ap (λ b. b || said_in fs l x s) (unmarked_said es none l x s)
 
@@ -223,7 +283,7 @@ module _ (F : List ℕ → ℕ → ℕ → Bool) (c : Coord) (distinct : Distinc
       now d found (Committing m) is = one (waits_for_commit from q r m)
         where
           one : (w : Bool) → (let t = cond {A = Served Coord (Unit {0})} w (heard_by (moved_commit q.act (commit.answered from m r) intents c)) (heard_none c) in Moves F c t.outs t.part)
-          one true = moved_moves q.act d m found is (commit.answered from m r) (answered_fits (F (name d.label)) from m r (a q.act d found m is)) (answered_by from m r) intents
+          one true = moved_moves q.act d m found is (commit.answered from m r) (answered_fits (F (name d.label)) from m r (a q.act d found m is)) (answered_by (F (name d.label)) from m r (a q.act d found m is)) intents
           one false = nothing
 
       by : (o : Option Doing) → doing_of q.act c ≡ o → (let t = heard_doing from q r intents c o in Moves F c t.outs t.part)
@@ -246,9 +306,9 @@ module _ (F : List ℕ → ℕ → ℕ → Bool) (c : Coord) (distinct : Distinc
 
       now : (d : Doing) → doing_of u c ≡ Some d → (n : Now) → d.now ≡ n → (let t = gives_up u intents c n in Moves F c t.outs t.part)
       now d found Idle is = nothing
-      now d found (Calling s) is = behind_moves (gaveup_lines u (next_node s ∷ []) c) (give_up_call s c).outs (give_up_call s c).part (lines (next_node s ∷ []))
+      now d found (Calling s) is = behind_moves (gaveup_lines u (next_node s ∷ []) c) (give_up_call s c).outs (give_up_call s c).part (lines (next_node s ∷ [])) (gaveup_idle u (next_node s ∷ []) c)
           (plain_moves F c (give_up_call s c).outs (give_up_call s c).part (call_fine NoMark apart_none s _ _ (λ e is l. end_none s.x s.goal e l)) (call_all F s _ _ (λ u z at. a u z at)))
-      now d found (Committing m) is = let t = moved_commit u (commit.given_up m) intents c in behind_moves (gaveup_lines u (nodes_given_up m) c) t.outs t.part (lines (nodes_given_up m)) (moved_moves u d m found is (commit.given_up m) (lost_fits (F (name d.label)) m (a u d found m is)) (lost_by m) intents)
+      now d found (Committing m) is = let t = moved_commit u (commit.given_up m) intents c in behind_moves (gaveup_lines u (nodes_given_up m) c) t.outs t.part (lines (nodes_given_up m)) (gaveup_idle u (nodes_given_up m) c) (moved_moves u d m found is (commit.given_up m) (lost_fits (F (name d.label)) m (a u d found m is)) (lost_by (F (name d.label)) m (a u d found m is)) intents)
 
       by : (o : Option Doing) → doing_of u c ≡ o → (let t = give_up_doing u intents c o in Moves F c t.outs t.part)
       by None is = nothing

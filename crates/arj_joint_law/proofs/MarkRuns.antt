@@ -45,7 +45,7 @@ pub quiet_none : (b : Body) → is_quiet_line b ≡ true → NoMark b
 quiet_none (body.Excluded m y n) is l x s = absurd (cc is)
 quiet_none b is l x s = refl
 
-or_more : (a b c : Bool) → (a || (b || c)) ≡ ((a || b) || c)
+pub or_more : (a b c : Bool) → (a || (b || c)) ≡ ((a || b) || c)
 or_more true b c = refl
 or_more false b c = refl
 
@@ -189,7 +189,7 @@ module _ (e k : ℕ) (d : Disk) (t : Parts) (M : Seen) (kept : IsKept (up k d t 
       by false same = refl
       by true same = absurd (apart (one_name (up k d t M) k k u w q z (its_name u q m one at) (its_name w z n two is) same))
 
-  apart_of : (outs : List Effect) → ((l : List ℕ) (x s : ℕ) → (said_in outs l x s ≡ false) ⊎ IsMarking t.coord l) → Apart k outs M
+  apart_of : (outs : List Effect) → ((l : List ℕ) (x s : ℕ) → (said_in outs l x s ≡ false) ⊎ IsMarking t.coord outs l) → Apart k outs M
   apart_of outs whose j n v u q m other is live found now x s = ⊎_elim (λ none. none)
       (λ mark.
       let a = its_name mark.action mark.doing (Preparing mark.plan mark.left) mark.found mark.now in

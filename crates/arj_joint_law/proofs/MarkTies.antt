@@ -201,8 +201,8 @@ module _ (x k : ℕ) (d : Disk) (t : Parts) (M : Seen) (tops : Kinds) (A : Offic
       by s false is = (λ i. is i && not (order.has (let p = c.plan in p.prepared) s)) ∙ (λ i. sym is i && not (A.world.disk.got (uid_number u) s))
 
   -- one whose prepare step runs isn't
-  apart_here : (u : Uid) (p : IsMarkedSo x A.world (up k d t M) u) → IsMarking t.coord p.act.label → ⊥
-  apart_here u p mark = never (subst (λ (w : Uid). is_sealed (A.world.disk.stage (uid_number w)) ≡ true) (sym one) p.ended) (ap is_sealed sees.stage)
+  apart_here : (outs : List Effect) (u : Uid) (p : IsMarkedSo x A.world (up k d t M) u) → IsMarking t.coord outs p.act.label → ⊥
+  apart_here outs u p mark = never (subst (λ (w : Uid). is_sealed (A.world.disk.stage (uid_number w)) ≡ true) (sym one) p.ended) (ap is_sealed sees.stage)
     where
       n : KnowsMachine tops t.coord mark.action (Preparing mark.plan mark.left)
       n = let z = knows.coord in z.machines mark.action mark.doing (Preparing mark.plan mark.left) mark.found mark.now
@@ -263,7 +263,7 @@ module _ (hd : Header) (x : ℕ) (K L : World → Seen → Type 0) (P : Kinds �
   goes_from : (o : Change) (A B : Office) → OnlyAnswers A B → machine.Whole A.world → (Z : Office) → Changes o B Z → GoesOn (ends_of o) A.world Z.world
   goes_from o A B only whole Z c = (let same = only.world in subst (λ W. GoesOn (ends_of o) W Z.world) same (goes_on_by o B Z (subst machine.Whole (sym same) whole) c))
 
-  moved_base : (c : Coord) (outs : List Effect) (M : Seen) → ((l : List ℕ) (y s : ℕ) → (said_in outs l y s ≡ false) ⊎ IsMarking c l) → (l : List ℕ) (y s : ℕ) → ((was_marked M.lines l y s ≡ was_marked M.lines l y s) × (said_in outs l y s ≡ false)) ⊎ IsMarking c l
+  moved_base : (c : Coord) (outs : List Effect) (M : Seen) → ((l : List ℕ) (y s : ℕ) → (said_in outs l y s ≡ false) ⊎ IsMarking c outs l) → (l : List ℕ) (y s : ℕ) → ((was_marked M.lines l y s ≡ was_marked M.lines l y s) × (said_in outs l y s ≡ false)) ⊎ IsMarking c outs l
   moved_base c outs M whose l y s = ⊎_elim (λ off. inl (refl, off)) (λ on. inr on) (whose l y s)
 
   pub marks_part : KeepsPart hd x L Q
@@ -289,9 +289,9 @@ module _ (hd : Header) (x : ℕ) (K L : World → Seen → Type 0) (P : Kinds �
             office = h.office;
             only = h.only;
             both = h.both;
-            along = along tops (Changes o h.office) C (ends_of o) (IsMarking t.coord) A.world (up k d t M) (goes_from o A h.office h.only (let z = both.disks in z.whole)) (λ u on. inr (message_ends x d t u m on)) marks (marked_here x k d t M tops A n both g.0 g.1 g.2) (apart_here x k d t M tops A n both g.0) e k outs v d M h.along
+            along = along tops (Changes o h.office) C (ends_of o) (IsMarking t.coord outs) A.world (up k d t M) (goes_from o A h.office h.only (let z = both.disks in z.whole)) (λ u on. inr (message_ends x d t u m on)) marks (marked_here x k d t M tops A n both g.0 g.1 g.2) (apart_here x k d t M tops A n both g.0 outs) e k outs v d M h.along
                 (lines.message e k d t v from m outs M g.0 sent meant is) (records_walk C (up k d t M) k anyone e v outs d M (others_then C k d (Some t) M) (message_puts anyone k d t (are_theirs tops k d t M n) from m v outs is (λ u same. tt)) (here_then C k d (Some t) M)) (step_walk k d (Some t) M e v outs d M (near_same M) (was_up t) (was_up t))
-                (from_walk (IsMarking t.coord) (up k d t M) e k v outs d M (moved_base t.coord outs M (let w = message_moved e k d t M g.0 g.1 v from m outs is in w.whose)));
+                (from_walk (IsMarking t.coord outs) (up k d t M) e k v outs d M (moved_base t.coord outs M (let w = message_moved e k d t M g.0 g.1 v from m outs is in w.whose)));
           },
           p.1,
           p.2,
@@ -306,9 +306,9 @@ module _ (hd : Header) (x : ℕ) (K L : World → Seen → Type 0) (P : Kinds �
             office = h.office;
             only = h.only;
             both = h.both;
-            along = along tops (Changes Quietly h.office) C no_top (IsMarking t.coord) A.world (up k d t M) (goes_from Quietly A h.office h.only (let z = both.disks in z.whole)) (no_one C (up k d t M)) marks (marked_here x k d t M tops A n both g.0 g.1 g.2) (apart_here x k d t M tops A n both g.0) e k did.outs (with_coord t did.part) d M h.along
+            along = along tops (Changes Quietly h.office) C no_top (IsMarking t.coord did.outs) A.world (up k d t M) (goes_from Quietly A h.office h.only (let z = both.disks in z.whole)) (no_one C (up k d t M)) marks (marked_here x k d t M tops A n both g.0 g.1 g.2) (apart_here x k d t M tops A n both g.0 did.outs) e k did.outs (with_coord t did.part) d M h.along
                 (lines.act e k d t i M is free g.0) (records_walk C (up k d t M) k anyone e (with_coord t did.part) did.outs d M (others_then C k d (Some t) M) (acts_put anyone t.coord (are_theirs tops k d t M n) d.intents i) (here_then C k d (Some t) M)) (step_walk k d (Some t) M e (with_coord t did.part) did.outs d M (near_same M) (was_up t) (was_up t))
-                (from_walk (IsMarking t.coord) (up k d t M) e k (with_coord t did.part) did.outs d M (moved_base t.coord did.outs M (let w = act_moved e k d t M g.0 g.1 hd i is free in w.whose)));
+                (from_walk (IsMarking t.coord did.outs) (up k d t M) e k (with_coord t did.part) did.outs d M (moved_base t.coord did.outs M (let w = act_moved e k d t M g.0 g.1 hd i is free in w.whose)));
           },
           p.1,
         );

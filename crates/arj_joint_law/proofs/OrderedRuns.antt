@@ -9,7 +9,7 @@ use Rattle.arj_protocol.specs.Words.{Header, Line, Uid, first_uid}
 use Rattle.arj_protocol.specs.World.{Asked, format, run_all}
 use Rattle.arj_disk_law.specs.Effects as machine
 use Rattle.arj_disk_law.specs.Names.{Office}
-use Rattle.arj_disk_law.specs.State.{Done, Plan, decided_in, target}
+use Rattle.arj_disk_law.specs.State.{Done, Plan, decided, decided_in, target}
 use Rattle.arj_disk_law.specs.Words as disk_list
 use Rattle.arj_disk_law.proofs.Base.{never, or_right}
 use Rattle.arj_disk_law.proofs.History.{in_decided}
@@ -26,31 +26,34 @@ use Rattle.arj_disk_run_law.specs.Bindings.{KnowsScript}
 use Rattle.arj_disk_run_law.specs.Rest.{IsCountedWith, IsKnownWith, SeesCarried}
 use Rattle.arj_disk_run_law.specs.Part.{KeepsPart}
 use Rattle.arj_disk_run_law.proofs.BothEach.{counted_with, heard_part}
-use Rattle.arj_line_law.specs.Book.{book, is_top, new_book}
-use Rattle.arj_line_law.specs.Idle.{HasNothing, IsIdle}
+use Rattle.arj_line_law.specs.Book.{book, is_decided, is_top, new_book}
+use Rattle.arj_line_law.specs.Idle.{HasNothing}
 use Rattle.arj_line_law.specs.Knows.{IsKept}
-use Rattle.arj_line_law.specs.Laws.{IsSound}
+use Rattle.arj_line_law.specs.Laws.{IsDone, IsSound}
 use Rattle.arj_line_law.specs.Right.{AreRight}
 use Rattle.arj_line_law.proofs.Nothing.{idle_has_nothing}
 use Rattle.arj_line_law.proofs.Runs.{lines_keep}
 use Rattle.arj_line_law.proofs.Tops.{is_sound}
-use Rattle.arj_disk_line_law.specs.Said.{IsKnownEarly, IsPlain, WithTie}
-use Rattle.arj_disk_line_law.proofs.IdleKnown.{KnowsIdle, knows_idle}
+use Rattle.arj_disk_line_law.specs.Said.{IsDoneBy, IsKnownEarly, IsPlain, WithTie}
+use Rattle.arj_disk_line_law.proofs.IdleKnown.{KnowsIdle}
 use Rattle.arj_disk_line_law.proofs.Tying.{both_too, journalled_beside, one_act, tied_part}
 use Rattle.arj_serial_law.specs.Cleaned.{BeginsSo}
 use Rattle.arj_disk_run_law.specs.Decided.{AreCalled, AreOnce}
 use Rattle.arj_joint_law.specs.Includers.{IncludersTakeTurns, RunsTakeTurns, TakesTurnsSo}
-use Rattle.arj_joint_law.specs.Ordered.{AreCountedOf, AreJoinedOf, AreLeftOf, AreRootedSo, AreStill, AreTurns, AreTurnsOf, AreUntouched, IsCalledFirst, IsOrderedSo, RunsAreOrdered, RunsAreOrderedBeside}
+use Rattle.arj_joint_law.specs.Ordered.{AreCountedOf, AreJoinedOf, AreLeftOf, AreRootedSo, AreSpared, AreStill, AreTurns, AreTurnsOf, AreUntouched, IsCalledFirst, IsOrderedSo, RunsAreOrdered, RunsAreOrderedBeside}
 use Rattle.arj_joint_law.proofs.Beginning.{WithFirst, first_begins, first_part}
 use Rattle.arj_joint_law.proofs.Firsts.{line_there}
 use Rattle.arj_joint_law.proofs.Ordering.{ordered_part}
 use Rattle.arj_joint_law.proofs.Turns.{IdleThere}
 use Rattle.arj_joint_law.specs.Joined.{world_of}
 use Rattle.arj_joint_law.specs.Joins.{AreRising, IncludesAreSaid}
-use Rattle.arj_joint_law.specs.Marked.{MarksAreSaid, was_marked}
+use Rattle.arj_joint_law.specs.Marked.{IsSpared, MarksAreAsked, MarksAreSaid, was_marked}
 use Rattle.arj_joint_law.specs.MarkedTops.{AreMarkedSo, IsMarkedSo}
 use Rattle.arj_line_law.proofs.Models.{its_acts, named_in}
-use Rattle.arj_call_law.proofs.Given.{given_more, keeps_given, kept_both}
+use Rattle.arj_call_law.proofs.Given.{KeepsGiven, both_given, given_more, keeps_given, kept_both}
+use Rattle.arj_lock_fact_law.specs.Parted.{KnowsParted}
+use Rattle.arj_lock_fact_law.proofs.Acts.{kept_of}
+use Rattle.arj_lock_fact_law.proofs.PartWalks.{parted_keep}
 use Rattle.arj_protocol.specs.Order.{uid_number}
 use Rattle.arj_line_law.proofs.Owners.{have_nodes}
 use Rattle.arj_joint_law.proofs.JoinLists.{filtered_same, has_is}
@@ -59,11 +62,13 @@ use Rattle.arj_joint_law.proofs.JoinKeeps.{WithTurns, turns_part}
 use Rattle.arj_joint_law.proofs.Leaving.{left}
 use Rattle.arj_joint_law.proofs.Listing.{in_among}
 use Rattle.arj_joint_law.proofs.JoinRuns.{IsBased, based_keep, joins_given}
+use Rattle.arj_joint_law.proofs.MarkAsks.{asks_given}
 use Rattle.arj_joint_law.proofs.MarkRuns.{marks_given}
 use Rattle.arj_joint_law.proofs.MarkTies.{WithMarks, marks_part}
+use Rattle.arj_joint_law.proofs.Sparing.{ArePartedNow, IsIdleSo, knows_spared}
 
 abbrev Idle : List Line → Uid → Type 0
-Idle ls u = IsIdle (book ls) u
+Idle ls u = IsIdleSo ls u
 
 -- in the words of the model
 turns_of : (lines : List Line) → AreRight new_book lines → (ds : List Done) → AreTurns (IdleThere Idle) lines ds → AreTurnsOf lines ds
@@ -72,11 +77,30 @@ turns_of lines right (d ∷ ds) turns = (λ e a b i in_a in_b ea db top apart. b
   where
     by : (a b : Act) → Contains (acts_of lines) b → is_top b.kind ≡ true → IsCalledFirst lines a.uid b.uid ⊎ IdleThere Idle lines b.uid ⊎ IsPlain lines b.uid → IsCalledFirst lines a.uid b.uid ⊎ HasNothing lines b
     by a b in_b top (inl first) = inl first
-    by a b in_b top (inr (inl (on, idle))) = let reads = (let s : IsSound lines = is_sound lines right in s.reads) in inr (idle_has_nothing lines right b in_b (reads.decided b in_b ∙ on) idle)
+    by a b in_b top (inr (inl (on, idle))) = let reads = (let s : IsSound lines = is_sound lines right in s.reads) in inr (idle_has_nothing lines right b in_b (reads.decided b in_b ∙ on) idle.0)
     by a b in_b top (inr (inr (p, its, uid, plain))) =
         let s : IsSound lines = is_sound lines right in
         let same = one_act (acts_of lines) s.distinct p b (subst (In p) (let r = s.reads in r.begun) (in_from p (let B = book lines in B.acts) its)) (in_from b (acts_of lines) in_b) uid in
         absurd (never (ap (λ (y : Act). is_top y.kind) same ∙ top) plain)
+
+-- committed tops that the machine hasn't decided, in the words of the model
+spared_of : (x : ℕ) (lines : List Line) → AreRight new_book lines → (W : machine.World) → ((u : Uid) → is_decided (book lines) u ≡ true → IsDoneBy Idle W lines u) → AreSpared lines x W.disk
+spared_of x lines right W done a there top is = by (done a.uid (sym (let r = sound.reads in r.decided a there) ∙ is))
+  where
+    sound : IsSound lines
+    sound = is_sound lines right
+
+    its : (b : Act) → In b (acts_of lines) → b.uid ≡ a.uid → b ≡ a
+    its b i uid = one_act (acts_of lines) sound.distinct b a i (in_from a (acts_of lines) there) uid
+
+    leaves : (p : IsSpared lines a.uid) (s : ℕ) → is_among (leaves_of lines a.id x) s ≡ false
+    leaves p s = sym (left lines right x a (in_from a (acts_of lines) there) s) ∙ ap (λ (y : Act). was_marked lines y.label x s) (sym (its p.act (subst (In p.act) (its_acts lines right) (named_in (book lines).acts (let b = p.act in b.label) p.act p.named)) p.uid)) ∙ p.spared x s
+
+    by : IsDoneBy Idle W lines a.uid → (decided W.disk (uid_number a.uid) ≡ true) ⊎ (W.disk.bare (uid_number a.uid) ≡ true) ⊎ (HasNothing lines a × ((s : ℕ) → is_among (leaves_of lines a.id x) s ≡ false))
+    by (inl d) = inl d
+    by (inr (inl bare)) = inr (inl bare)
+    by (inr (inr (inl idle))) = inr (inr (idle_has_nothing lines right a there is idle.0, leaves idle.1))
+    by (inr (inr (inr (p, began, uid, plain)))) = absurd (never (ap (λ (y : Act). is_top y.kind) (its p (subst (In p) (let r = sound.reads in r.begun) (in_from p (let B = book lines in B.acts) began)) uid) ∙ top) plain)
 
 -- beside a relation that holds of the same state of the machine, where few bindings were made
 abbrev pub IsOrderedBeside : (Kinds → Office → Seen → Type 0) → Header → ℕ → Seen → Type 0
@@ -163,16 +187,20 @@ early hd x R P parts = part_more hd x (λ W M. R M × KnowsScript M) (λ W M. R 
 abbrev Including : Seen → Type 0
 Including M = IsBased M × IncludesAreSaid M
 
--- what is said of the exclusions of commits under way is known too
+-- what is said of the exclusions of commits under way
+abbrev Saying : Seen → Type 0
+Saying M = Including M × MarksAreSaid M
+
+-- and that naming was asked to confirm the commits of which exclusions are said is known too
 abbrev Marking : (Seen → Type 0) → Seen → Type 0
-Marking R M = R M × (Including M × MarksAreSaid M)
+Marking R M = R M × (Saying M × (MarksAreAsked M × ArePartedNow M))
 
 pub ordered_beside : (hd : Header) (x : ℕ) (R : Seen → Type 0) (P : Kinds → Office → Seen → Type 0) → HeaderInForm hd → is_some (object_line hd x) ≡ true → Keeps hd R → KeepsPart hd x (λ W M. R M × IsKnownEarly W M) P → (es : List Asked) → length es ≤ most_events → Holds hd (IsOrderedBeside P hd x) (run_all es (format hd))
 ordered_beside hd x R P form there kept parts es short =
     let first : KeepsPart hd x (λ W M. Marking R M × IsKnownEarly W M) (WithFirst hd x (WithMarks x P)) = first_part hd x (λ W M. Marking R M × IsKnownEarly W M) (WithMarks x P) marks (first_begins hd x form there) in
-    let idles : KnowsIdle (Marking R) Idle = knows_idle (Marking R) in
+    let idles : KnowsIdle (Marking R) Idle = knows_spared (Marking R) (λ M r. r.1.1) in
     let tied = tied_part hd x (Marking R) IsKnownEarly (WithFirst hd x (WithMarks x P)) Idle marking first idles in
-    let ordered = ordered_part hd x (λ M. Marking R M × IsKept M) IsKnownEarly (WithTie (WithFirst hd x (WithMarks x P)) Idle) Idle (both_too hd x (Marking R) IsKnownEarly (WithFirst hd x (WithMarks x P)) Idle marking first idles) (λ M r. r.1) (knows_idle (λ M. Marking R M × IsKept M)) tied (λ tops A M p. (p.1).1) in
+    let ordered = ordered_part hd x (λ M. Marking R M × IsKept M) IsKnownEarly (WithTie (WithFirst hd x (WithMarks x P)) Idle) Idle (both_too hd x (Marking R) IsKnownEarly (WithFirst hd x (WithMarks x P)) Idle marking first idles) (λ M r. r.1) (knows_spared (λ M. Marking R M × IsKept M) (λ M r. r.0.1.1)) tied (λ tops A M p. (p.1).1) in
     let h = journalled_beside hd x (λ M. Marking R M × IsKept M) _ (both_too hd x (Marking R) IsKnownEarly (WithFirst hd x (WithMarks x P)) Idle marking first idles) ordered es short in
     let b = h.holds in
     let order = (let z = b.3 in z.1) in
@@ -192,6 +220,7 @@ ordered_beside hd x R P form there kept parts es short =
           joins = (let j = b.0 in joins_all hd x es h.sent j.machine right (let s = j.sees in s.whole) (subst (λ (W : machine.World). AreMarkedSo x W (see h.sent (run_all es (format hd)))) b.2 more.1));
           counted = (let j = b.0 in counted_all hd x es h.sent j.machine right (let s = j.sees in s.whole) (subst (λ (W : machine.World). AreMarkedSo x W (see h.sent (run_all es (format hd)))) b.2 more.1));
           still = subst (λ (W : machine.World). AreStill W.disk.tops) b.2 (let q = more.1 in q.still);
+          spared = subst (λ (W : machine.World). AreSpared (run_all es (format hd)).lines x W.disk) b.2 (spared_of x (run_all es (format hd)).lines right (let A = b.1 in A.world) (let z = b.3 in let t = z.0 in let tie = t.1 in tie.1));
           untouched = (let j = b.0 in untouched_all hd x es h.sent j.machine right (let s = j.sees in s.whole) (subst (λ (W : machine.World). AreMarkedSo x W (see h.sent (run_all es (format hd)))) b.2 more.1));
         },
         (let j = b.0 in j.tops),
@@ -203,10 +232,17 @@ ordered_beside hd x R P form there kept parts es short =
     }
   where
     marking : Keeps hd (Marking R)
-    marking = kept_both hd R (λ M. Including M × MarksAreSaid M) kept (keeps_given hd R (λ M. Including M × MarksAreSaid M) (kept_both hd Including MarksAreSaid (kept_both hd IsBased IncludesAreSaid (based_keep hd) (joins_given hd)) (given_more hd IsKept Including MarksAreSaid (λ M r. r.0.0) (marks_given hd))))
+    marking = kept_both hd R (λ M. Saying M × (MarksAreAsked M × ArePartedNow M)) kept (keeps_given hd R (λ M. Saying M × (MarksAreAsked M × ArePartedNow M)) (kept_both hd Saying (λ M. MarksAreAsked M × ArePartedNow M) saying asking))
+      where
+        saying : Keeps hd Saying
+        saying = kept_both hd Including MarksAreSaid (kept_both hd IsBased IncludesAreSaid (based_keep hd) (joins_given hd)) (given_more hd IsKept Including MarksAreSaid (λ M r. r.0.0) (marks_given hd))
+
+        asking : KeepsGiven hd Saying (λ M. MarksAreAsked M × ArePartedNow M)
+        asking = both_given hd Saying MarksAreAsked ArePartedNow (given_more hd (λ M. IsKept M × MarksAreSaid M) (λ M. Saying M × ArePartedNow M) MarksAreAsked (λ M r. let z = r.0 in (z.0.0.0, z.1)) (asks_given hd))
+            (keeps_given hd (λ M. Saying M × MarksAreAsked M) ArePartedNow (kept_of hd KnowsParted (parted_keep hd)))
 
     marks : KeepsPart hd x (λ W M. Marking R M × IsKnownEarly W M) (WithMarks x P)
-    marks = marks_part hd x (λ W M. R M × IsKnownEarly W M) (λ W M. Marking R M × IsKnownEarly W M) P (λ W M r. (r.0.0, r.1)) (λ W M r. let z = r.0.1 in (z.0.0.0, z.1, z.0.1)) parts
+    marks = marks_part hd x (λ W M. R M × IsKnownEarly W M) (λ W M. Marking R M × IsKnownEarly W M) P (λ W M r. (r.0.0, r.1)) (λ W M r. let z = r.0.1.0 in (z.0.0.0, z.1, z.0.1)) parts
 
 ordered : (hd : Header) (x : ℕ) (P : Kinds → Office → Seen → Type 0) (es : List Asked) → Holds hd (IsOrderedBeside P hd x) (run_all es (format hd)) → Holds hd (IsOrderedSo hd x) (run_all es (format hd))
 ordered hd x P es h = record { sent = h.sent; stands = h.stands; holds = (let z = h.holds in z.0) }

@@ -1,5 +1,5 @@
 -- Runs whose files are clean, by both machines of each object, with what these are still asked for.
-use Rattle.std.specs.Prelude.{⊤, ◌≡◌, ◌≤◌, ◌==◌, ◌||◌, ℕ, Bool, true, false, List, [], ◌∷◌, filter, is_some, length, Contains}
+use Rattle.std.specs.Prelude.{⊤, ◌≡◌, ◌≤◌, ◌==◌, ◌||◌, ℕ, Bool, true, false, List, [], ◌∷◌, filter, not, is_some, length, Contains}
 use Rattle.std.specs.List.{list_any}
 use Rattle.arj_journal.specs.ScriptForm.{HeaderInForm}
 use Rattle.arj_model.specs.Actions.{acts}
@@ -11,7 +11,7 @@ use Rattle.arj_protocol.specs.Words.{Header, Line}
 use Rattle.arj_protocol.specs.World.{Asked, format, journal, run_all}
 use Rattle.arj_law.specs.Growth.{first_stores}
 use Rattle.arj_disk_law.specs.Order.{counts_of}
-use Rattle.arj_disk_law.specs.State.{Done, State}
+use Rattle.arj_disk_law.specs.State.{Done, State, decided}
 use Rattle.arj_view_law.specs.Keeps.{Holds}
 use Rattle.arj_view_law.specs.Seen.{Seen, see}
 use Rattle.arj_binding_law.specs.Scripts.{most_events}
@@ -47,10 +47,10 @@ abbrev pub ExcludesNoListed : List Line → ℕ → (Top → Bool) → List ℕ 
 ExcludesNoListed lines x counts stores [] = ⊤
 ExcludesNoListed lines x counts stores (t ∷ ts) = (counts t ≡ false → (s : ℕ) → is_among stores s ≡ true → is_among (leaves_of lines t.id x) s ≡ false) × ExcludesNoListed lines x counts (listed_after lines x stores t) ts
 
--- Whoever the decided tops that count are in the journal, each other top whose commit didn't end without a record excludes no store that is listed
--- in its place: of what `DecideChanges` of `arj_serial_law` has all else is given.
-abbrev pub OthersAreIdle : Header → List Line → ℕ → State → Type 0
-OthersAreIdle header lines x S = (those : List Top) → AreNamed lines (filter counts_of S.tops) those → ExcludesNoListed lines x (λ t. is_one_of those t || S.bare (number_of lines t)) (first_stores header x) (serial_tops lines)
+-- Whoever the decided tops that count are in the journal, each other decided top excludes no store that is listed in its place: of what
+-- `DecideChanges` of `arj_serial_law` has all else is given.
+abbrev pub LightAreIdle : Header → List Line → ℕ → State → Type 0
+LightAreIdle header lines x S = (those : List Top) → AreNamed lines (filter counts_of S.tops) those → ExcludesNoListed lines x (λ t. is_one_of those t || not (decided S (number_of lines t))) (first_stores header x) (serial_tops lines)
 
 -- the state of the disk machine
 abbrev pub disk_of : {hd : Header} {x : ℕ} {M : Seen} → IsOrderedSo hd x M → State
@@ -58,11 +58,11 @@ disk_of o = (let b = o.begun in let j = b.journalled in let W = j.machine in W.d
 
 -- so it is of each state in which the disk machine is seen after the run, with the journal's decisions in order
 abbrev pub DecideSo : Header → ℕ → List Asked → Type 0
-DecideSo hd x es = (h : Holds hd (IsOrderedSo hd x) (run_all es (format hd))) → OthersAreIdle hd (journal hd es) x (disk_of h.holds)
+DecideSo hd x es = (h : Holds hd (IsOrderedSo hd x) (run_all es (format hd))) → LightAreIdle hd (journal hd es) x (disk_of h.holds)
 
 -- and they wrote what they gave to the stores, and those without a record nothing
 abbrev pub DecideWrittenSo : Header → ℕ → List Asked → Type 0
-DecideWrittenSo hd x es = (h : Holds hd (IsOrderedSo hd x) (run_all es (format hd))) → OthersAreIdle hd (journal hd es) x (disk_of h.holds) × AreWritten (first_values hd) (journal hd es) x (let S = disk_of h.holds in S.tops) × AreBareSo (journal hd es) x (disk_of h.holds)
+DecideWrittenSo hd x es = (h : Holds hd (IsOrderedSo hd x) (run_all es (format hd))) → LightAreIdle hd (journal hd es) x (disk_of h.holds) × AreWritten (first_values hd) (journal hd es) x (let S = disk_of h.holds in S.tops) × AreBareSo (journal hd es) x (disk_of h.holds)
 
 -- The journal is tied to the lock machines: of objects of which a call was answered, and of those of the header.
 pub record AreLockTied (hd : Header) (lines : List Line) : Type 0 where

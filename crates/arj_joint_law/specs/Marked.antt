@@ -1,16 +1,21 @@
--- What lines say of the exclusions of a commit under way.
-use Rattle.std.specs.Prelude.{◌≡◌, ◌==◌, ◌&&◌, ℕ, Bool, false, List, [], Some}
+-- What lines say of the exclusions of commits, and what was asked of naming for those of which they say some.
+use Rattle.std.specs.Prelude.{◌≡◌, ◌==◌, ◌&&◌, ℕ, Bool, true, false, List, [], Some, Contains}
 use Rattle.std.specs.List.{list_any}
 use Rattle.std.specs.Str.{bytes_eq}
-use Rattle.arj_protocol.specs.Words.{Body, Header, Line, Uid, name}
+use Rattle.arj_model.specs.Actions.{Act, act_in, acts}
+use Rattle.arj_protocol.specs.Words.{Body, Head, Header, Line, Message, Uid, asks, name}
+use Rattle.arj_protocol.specs.Words.ask
 use Rattle.arj_protocol.specs.Words.body
+use Rattle.arj_protocol.specs.Ask.{actor}
+use Rattle.arj_protocol.specs.Confirm.{Grants, Marks}
 use Rattle.arj_protocol.specs.Commit.{Confirming, Machine, Preparing, Voting, is_empty, is_marked}
 use Rattle.arj_protocol.specs.Coord.{Committing, Doing, doing_of}
 use Rattle.arj_protocol.specs.Node.{Parts}
 use Rattle.arj_protocol.specs.Step.{Node}
 use Rattle.arj_protocol.specs.World.{Asked, format, run_all}
 use Rattle.arj_view_law.specs.Keeps.{Holds}
-use Rattle.arj_view_law.specs.Seen.{Seen}
+use Rattle.arj_view_law.specs.Seen.{In, Post, Seen}
+use Rattle.arj_line_law.specs.Book.{book}
 
 -- the line says that the commit of the action with this name excludes the store for the object
 abbrev pub excludes : List ℕ → ℕ → ℕ → Body → Bool
@@ -39,3 +44,38 @@ MarksAreSaid M = (j : ℕ) (n : Node) (t : Parts) (u : Uid) (d : Doing) → M.no
 -- So it is in every run.
 abbrev pub RunsSayMarks : Type 0
 RunsSayMarks = (hd : Header) (es : List Asked) → Holds hd MarksAreSaid (run_all es (format hd))
+
+-- ---- what naming is asked
+
+-- The message asks naming to confirm the commit of this action.
+pub record ConfirmsFor (u : Uid) (m : Message) : Type 0 where
+  pub head : Head
+  pub grants : Grants
+  pub excluded : Marks
+  pub included : Marks
+  pub asked : asks m ≡ Some (head, ask.Confirm grants excluded included)
+  pub whose : actor head.path ≡ u
+
+-- Among what was sent naming was asked to confirm the commit of the action that the lines have by this name.
+pub record WasAsked (lines : List Line) (sent : List Post) (l : List ℕ) : Type 0 where
+  pub act : Act
+  pub there : Contains (acts lines) act
+  pub label : act.label ≡ l
+  pub post : Post
+  pub posted : In post sent
+  pub confirms : ConfirmsFor act.uid post.message
+
+-- so it is of each action of which a line says an exclusion
+abbrev pub MarksAreAsked : Seen → Type 0
+MarksAreAsked M = (l : List ℕ) (x s : ℕ) → was_marked M.lines l x s ≡ true → WasAsked M.lines M.sent l
+
+-- So it is in every run.
+abbrev pub RunsAskMarks : Type 0
+RunsAskMarks = (hd : Header) (es : List Asked) → Holds hd MarksAreAsked (run_all es (format hd))
+
+-- The lines have the action, and none of them says an exclusion of it.
+pub record IsSpared (lines : List Line) (u : Uid) : Type 0 where
+  pub act : Act
+  pub named : act_in (let B = book lines in B.acts) act.label ≡ Some act
+  pub uid : act.uid ≡ u
+  pub spared : (x s : ℕ) → was_marked lines act.label x s ≡ false

@@ -9,7 +9,7 @@ use Rattle.arj_protocol.specs.Order.{uid_number}
 use Rattle.arj_protocol.specs.World.{Asked, format, run_all}
 use Rattle.arj_disk_law.specs.Effects.{World}
 use Rattle.arj_disk_law.specs.Names.{Office}
-use Rattle.arj_disk_law.specs.State.{Done, target}
+use Rattle.arj_disk_law.specs.State.{Done, State, decided, target}
 use Rattle.arj_disk_law.specs.Words.{In}
 use Rattle.arj_view_law.specs.Keeps.{Holds}
 use Rattle.arj_view_law.specs.Seen.{Seen}
@@ -22,6 +22,7 @@ use Rattle.arj_disk_run_law.specs.Rest.{KeepsHeard}
 use Rattle.arj_disk_line_law.specs.Said.{IsPlain}
 use Rattle.arj_line_law.specs.Book.{book, is_decided, is_top}
 use Rattle.arj_line_law.specs.Idle.{HasNothing}
+use Rattle.arj_line_law.specs.Laws.{IsDone}
 use Rattle.arj_run_law.specs.Worlds.{IsGood}
 use Rattle.arj_joint_law.specs.Begun.{IsBegunSo}
 
@@ -78,8 +79,14 @@ AreStill ds = (d : Done) → In d ds → d.counts ≡ false → (s : ℕ) → d.
 abbrev pub AreUntouched : List Line → ℕ → (ℕ → Bool) → Type 0
 AreUntouched lines x bare = (a : Act) → Contains (acts lines) a → bare (uid_number a.uid) ≡ true → (s : ℕ) → (is_among (leaves_of lines a.id x) s ≡ false) × (is_among (joins_of lines a.id x) s ≡ false)
 
+-- Of these actions each committed top is decided by the machine, or its commit ended without a record; or nothing of it survives in the journal, and it
+-- excluded no store.
+abbrev pub AreSpared : List Line → ℕ → State → Type 0
+AreSpared lines x S = (a : Act) → Contains (acts lines) a → is_top a.kind ≡ true → IsDone lines a
+    → (decided S (uid_number a.uid) ≡ true) ⊎ (S.bare (uid_number a.uid) ≡ true) ⊎ (HasNothing lines a × ((s : ℕ) → is_among (leaves_of lines a.id x) s ≡ false))
+
 -- The machine began as the header says and decided as the journal says, in this order, excluded and included what the journal says, and has its
--- roots; and who didn't count, or ended without a record, changed as little as that.
+-- roots; and who didn't count, ended without a record, or committed at once changed as little as that.
 pub record IsOrderedSo (hd : Header) (x : ℕ) (M : Seen) : Type 0 where
   pub begun : IsBegunSo hd x M
   pub once : AreOnce (let j = (let b = begun in b.journalled) in let W = j.machine in let S = W.disk in S.tops)
@@ -91,6 +98,7 @@ pub record IsOrderedSo (hd : Header) (x : ℕ) (M : Seen) : Type 0 where
   pub counted : AreCountedOf M.lines x (let j = (let b = begun in b.journalled) in let W = j.machine in let S = W.disk in S.tops)
   pub still : AreStill (let j = (let b = begun in b.journalled) in let W = j.machine in let S = W.disk in S.tops)
   pub untouched : AreUntouched M.lines x (let j = (let b = begun in b.journalled) in let W = j.machine in let S = W.disk in S.bare)
+  pub spared : AreSpared M.lines x (let j = (let b = begun in b.journalled) in let W = j.machine in W.disk)
 
 -- So it is in the run of every script, of each object of the header, with what is still taken of what coordinators have of naming's
 -- answers; and beside any relation that is kept with the machine's state.

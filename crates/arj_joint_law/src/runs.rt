@@ -5,7 +5,7 @@ ghost use Rattle.arj_joint_law.specs.Cleaned.{RunsAreClean, WholeRunsAreClean};
 ghost use Rattle.arj_joint_law.specs.Includers.{RunsTakeTurns};
 ghost use Rattle.arj_joint_law.specs.Joined.{JoinedRunsAreSerial, RunsAreJoined};
 ghost use Rattle.arj_joint_law.specs.Joins.{RunsSayIncludes};
-ghost use Rattle.arj_joint_law.specs.Marked.{RunsSayMarks};
+ghost use Rattle.arj_joint_law.specs.Marked.{RunsAskMarks, RunsSayMarks};
 ghost use Rattle.arj_joint_law.specs.Ordered.{RunsAreOrdered, RunsAreOrderedBeside};
 ghost use Rattle.arj_joint_law.specs.Shown.{FilesShowDisks, IncludesAreListed};
 
@@ -24,7 +24,8 @@ pub fn runs_begin_as_the_header_says()
 /// was decided earlier had been called at a place of the journal where the later one wasn't decided yet, by its line or by a record that
 /// was found; or nothing of the later one survives. And the stores that a decided top takes out of the list are those that its commit excluded, by the
 /// journal, and those that it adds the ones of its surviving includes that its commit didn't exclude; one that counts and gave nothing to the
-/// stores included one; and its root is the one at the head of its path there. And of each two of them that count the one that was decided
+/// stores included one; and its root is the one at the head of its path there. Of a committed top that it hasn't decided, and whose commit
+/// didn't end without a record, nothing survives, and it excluded no store. And of each two of them that count the one that was decided
 /// first had its commit called first too, where the later one includes a store, or changes the object and the earlier one didn't
 /// (`includers`): so long as a commit uses what naming has of the object, that has given no other the right to change it. It takes the same as
 /// `runs_begin_as_the_header_says`. It does nothing when it runs.
@@ -36,10 +37,10 @@ pub fn decisions_come_behind_calls()
 
 /// After the run of each script whose header is in form, of at most 1,000,000 events, files that are those of its nodes' pairs are clean:
 /// with what the disk machine's half takes alone, where the journal is tied to the lock machines, or with what the lock half takes (`whole`),
-/// which ties the journal and takes nothing of the disk half; and where
-/// who isn't decided for the object, and whose commit didn't end without a record, excludes no store that is listed in its place
-/// (`OthersAreIdle`), and decided tops wrote what they gave to the stores, and those without a record nothing, which is given with both halves
-/// (`runs_have_both_machines`). That decided tops are the journal's, that machines began as the header says, that all states are of their class,
+/// which ties the journal and takes nothing of the disk half; and where a decided top that doesn't count for the object excludes no store
+/// that is listed in its place (`LightAreIdle`), and decided tops wrote what they gave to the stores, and those without a record nothing,
+/// which is given with both halves (`runs_have_both_machines`). That decided tops are the journal's, that machines began as the header says,
+/// that all states are of their class,
 /// that decided writers stand as their commits were called, that decided tops take those stores out of the list that their commits excluded and
 /// add those that they included, and that each include names a node of the header, is given here. It does nothing when it runs.
 pub fn runs_are_clean()
@@ -65,9 +66,10 @@ pub fn runs_have_both_machines()
 
 /// In the run of every script each commit under way at a node that is up has said what it excludes: while its votes are collected, and while
 /// its prepare step runs, no line says an exclusion of it; and behind that the lines say exactly the stores that its plan has marked, by
-/// object. It does nothing when it runs.
+/// object. And of whom a line says an exclusion naming was asked to confirm its commit. It does nothing when it runs.
 pub fn commits_say_what_they_exclude()
-    ensures { RunsSayMarks }
+    ensures said { RunsSayMarks }
+    ensures asked { RunsAskMarks }
 {}
 
 /// In the run of every script, of one root one commit at most goes on: where a line calls the commit of a top, each other action of its root
