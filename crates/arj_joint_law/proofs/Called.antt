@@ -127,6 +127,37 @@ all_ids p (y ∷ ys) all = by (p y.id) all (all_ids p ys)
     by true is ih = ih is
     by false is ih = absurd (cc is)
 
+-- ---- what stands in the front of a journal is read of it
+
+module _ (lines : List Line) (right : AreRight new_book lines) (before behind : List Line) (is : lines ≡ before ++ behind) where
+  front : AreRight new_book before
+  front = right_front new_book before behind (subst (AreRight new_book) is right)
+
+  acts_front : (z : Act) → In z (acts before) → In z (acts lines)
+  acts_front z k = subst (λ ls. In z (acts ls)) (sym is) (let e = by [] before in subst (In z) (sym e) (in_later behind (acts before) z k))
+    where
+      by : (us : List Act) (xs : List Line) → acts_from us (xs ++ behind) ≡ acts_from (acts_from us xs) behind
+      by us [] = refl
+      by us (l ∷ xs) = by (acts_after us l.body) xs
+
+  taken : take (length before) lines ≡ before
+  taken = ap (take (length before)) is ∙ take_front before behind
+
+  -- what stands before its end
+  to_front : {A : Type 0} (f : List Act → Body → Option A) (e : Placed A) → In e (read f [] 0 lines) → e.at < length before → In e (read f [] 0 before)
+  to_front f e k less = subst (λ ls. In e (read f [] 0 ls)) taken (read_taken f [] 0 lines (length before) e k (omega (arith, less)))
+
+  -- an action whose commit was called there is in it
+  act_front : (a : Act) → In a (acts lines) → (e : Placed ℕ) → In e (called lines) → e.it ≡ a.id → e.at < length before → In a (acts before)
+  act_front a there e k its less =
+      let small = called_low before e (to_front called_of e k less) in
+      let r = with_number (acts before) (let q = its_sound before front in q.distinct) e.it small in
+      subst (λ z. In z (acts before)) (same_number lines right r.0 a (acts_front r.0 r.1) there (r.2 ∙ its)) r.1
+
+  -- so it was called by it
+  pub on_front : (a : Act) → In a (acts lines) → (e : Placed ℕ) → In e (called lines) → e.it ≡ a.id → e.at < length before → is_on (let B = book before in B.called) a.uid ≡ true
+  on_front a there e k its less = sym (its_call before front a (act_front a there e k its less)) ∙ has_in (called before) a.id e (to_front called_of e k less) its
+
 -- ---- the law
 
 module _ (values : Values) (lines : List Line) (right : AreRight new_book lines) (x : ℕ) (S : State) (t : IsTied values lines x S) where
@@ -142,23 +173,6 @@ module _ (values : Values) (lines : List Line) (right : AreRight new_book lines)
   -- ---- its front
 
   module _ (before behind : List Line) (is : lines ≡ before ++ behind) where
-    front : AreRight new_book before
-    front = right_front new_book before behind (subst (AreRight new_book) is right)
-
-    acts_front : (z : Act) → In z (acts before) → In z (acts lines)
-    acts_front z k = subst (λ ls. In z (acts ls)) (sym is) (let e = by [] before in subst (In z) (sym e) (in_later behind (acts before) z k))
-      where
-        by : (us : List Act) (xs : List Line) → acts_from us (xs ++ behind) ≡ acts_from (acts_from us xs) behind
-        by us [] = refl
-        by us (l ∷ xs) = by (acts_after us l.body) xs
-
-    taken : take (length before) lines ≡ before
-    taken = ap (take (length before)) is ∙ take_front before behind
-
-    -- what stands before there is read of the front
-    to_front : {A : Type 0} (f : List Act → Body → Option A) (e : Placed A) → In e (read f [] 0 lines) → e.at < length before → In e (read f [] 0 before)
-    to_front f e k less = subst (λ ls. In e (read f [] 0 ls)) taken (read_taken f [] 0 lines (length before) e k (omega (arith, less)))
-
     module _ (u : Top) (a : Act) (u_there : In u (tops lines)) (a_there : In a (acts lines)) (a_is : a.id ≡ u.id) where
       its : IsTopOf lines u
       its = top_item lines right u u_there
@@ -169,7 +183,7 @@ module _ (values : Values) (lines : List Line) (right : AreRight new_book lines)
       -- a top whose commit was called by then has its call there
       called_front : is_on (let B = book before in B.called) a.uid ≡ true → u.at < length before
       called_front on =
-          let e = end_in (called before) a.id (its_call before front a a_front ∙ on) in
+          let e = end_in (called before) a.id (its_call before (front lines right before behind is) a a_front ∙ on) in
           let whole = subst (λ ls. In e.0 (called ls)) (sym is) (read_front called_of [] 0 before behind e.0 e.1) in
           let said = tie.actions its.act (in_to its.act (acts lines) its.there) (top_plain its.act.kind its.kind) in
           let here = said.place (record { at = u.at; it = its.act.id }) (in_to _ (called lines) its.call) refl in
@@ -179,22 +193,16 @@ module _ (values : Values) (lines : List Line) (right : AreRight new_book lines)
         where
           a_front : In a (acts before)
           a_front =
-              let sane = sane_lines new_book before front sane_new in
-              let r = act_with (acts before) a.uid (subst (λ us. has_act us a.uid ≡ true) (its_acts before front) (sane.called a.uid on)) in
-              subst (λ z. In z (acts before)) (one_act (acts lines) sound.distinct r.0 a (acts_front r.0 r.1) a_there r.2) r.1
+              let sane = sane_lines new_book before (front lines right before behind is) sane_new in
+              let r = act_with (acts before) a.uid (subst (λ us. has_act us a.uid ≡ true) (its_acts before (front lines right before behind is)) (sane.called a.uid on)) in
+              subst (λ z. In z (acts before)) (one_act (acts lines) sound.distinct r.0 a (acts_front lines right before behind is r.0 r.1) a_there r.2) r.1
 
-      -- and the other way round
-      call_front : u.at < length before → In (record { at = u.at; it = (let k = its in k.act.id) }) (called before)
-      call_front less = to_front called_of (record { at = u.at; it = its.act.id }) its.call less
+      -- its call
+      abbrev call : Placed ℕ
+      call = record { at = u.at; it = its.act.id }
 
-      act_front : u.at < length before → In a (acts before)
-      act_front less =
-          let low = called_low before (record { at = u.at; it = its.act.id }) (call_front less) in
-          let r = with_number (acts before) (let q = its_sound before front in q.distinct) its.act.id low in
-          subst (λ z. In z (acts before)) (same_number lines right r.0 a (acts_front r.0 r.1) a_there (r.2 ∙ ap (λ (z : Act). z.id) its_a)) r.1
-
-      on_front : u.at < length before → is_on (let B = book before in B.called) a.uid ≡ true
-      on_front less = sym (its_call before front a (act_front less)) ∙ has_in (called before) a.id (record { at = u.at; it = its.act.id }) (call_front less) (ap (λ (z : Act). z.id) its_a)
+      call_is : its.act.id ≡ a.id
+      call_is = ap (λ (z : Act). z.id) its_a
 
   -- of two tops one whose commit was called where that of the other wasn't was called first
   pub called_in_turn : (u v : Top) (a b : Act) → In u (tops lines) → In v (tops lines) → In a (acts lines) → In b (acts lines) → a.id ≡ u.id → b.id ≡ v.id → IsCalledBefore lines a.uid b.uid → u.at < v.at
@@ -204,7 +212,7 @@ module _ (values : Values) (lines : List Line) (right : AreRight new_book lines)
       cases m n = grind arith
 
       by : (v.at < length before) ⊎ (length before ≤ v.at) → u.at < length before → u.at < v.at
-      by (inl less) early = absurd (never (on_front before behind is v b v_there b_there b_is less) off)
+      by (inl less) early = absurd (never (on_front lines right before behind is b b_there (call before behind is v b v_there b_there b_is) (let k = its before behind is v b v_there b_there b_is in k.call) (call_is before behind is v b v_there b_there b_is) less) off)
       by (inr more) early = omega (arith, more, early)
 
   module _ (u v : Top) (a b : Act) (u_there : In u (tops lines)) (v_there : In v (tops lines)) (a_there : In a (acts lines)) (b_there : In b (acts lines)) (a_is : a.id ≡ u.id) (b_is : b.id ≡ v.id) (apart : u.id ≢ v.id)
@@ -277,17 +285,17 @@ module _ (values : Values) (lines : List Line) (right : AreRight new_book lines)
 
         -- its call is in the front, and so is it
         b_front : In b (acts before)
-        b_front = act_front before behind is v b v_there b_there b_is (omega (arith, v_first, before_u, first_front))
+        b_front = act_front lines right before behind is b b_there (call before behind is v b v_there b_there b_is) (let k = its before behind is v b v_there b_there b_is in k.call) (call_is before behind is v b v_there b_there b_is) (omega (arith, v_first, before_u, first_front))
 
         at_line : IsDecidedAt lines b (let m = S.action (tie.act b.uid) in m.done)
         at_line = let k = s_d.top_of_it in let said = tie.actions b (in_to b (acts lines) b_there) (top_plain b.kind (ap (λ (z : Act). is_top z.kind) (sym its_b) ∙ k.kind)) in said.decided stage
 
         committed_front : IsDecidedAt lines b (let m = S.action (tie.act b.uid) in m.done) → is_committed (committed before) (recovered before) b ≡ true
-        committed_front (inl (e, k, same, at)) = or_left (has_end (committed before) b.id) (list_any (λ (z : Placed Uid). uid_eq z.it b.uid) (recovered before)) (has_in (committed before) b.id e (to_front before behind is committed_of e (in_from e (committed lines) k) (omega (arith, at, done, before_u, first_front))) same)
-        committed_front (inr (e, k, same, at)) = or_right (has_end (committed before) b.id) (list_any (λ (z : Placed Uid). uid_eq z.it b.uid) (recovered before)) (found_in (recovered before) b.uid e (to_front before behind is recovered_of e (in_from e (recovered lines) k) (omega (arith, at, done, before_u, first_front))) same)
+        committed_front (inl (e, k, same, at)) = or_left (has_end (committed before) b.id) (list_any (λ (z : Placed Uid). uid_eq z.it b.uid) (recovered before)) (has_in (committed before) b.id e (to_front lines right before behind is committed_of e (in_from e (committed lines) k) (omega (arith, at, done, before_u, first_front))) same)
+        committed_front (inr (e, k, same, at)) = or_right (has_end (committed before) b.id) (list_any (λ (z : Placed Uid). uid_eq z.it b.uid) (recovered before)) (found_in (recovered before) b.uid e (to_front lines right before behind is recovered_of e (in_from e (recovered lines) k) (omega (arith, at, done, before_u, first_front))) same)
 
         decided : is_decided (book before) b.uid ≡ true
-        decided = sym (its_decision before (front before behind is) b b_front) ∙ committed_front at_line
+        decided = sym (its_decision before (front lines right before behind is) b b_front) ∙ committed_front at_line
 
     cases : (m n : ℕ) → (m < n) ⊎ ((n < m) ⊎ (m ≡ n))
     cases m n = grind arith

@@ -31,11 +31,10 @@ use Rattle.arj_joint_law.specs.Excluded.{CommitsBeginIt, IsNew, lines_before}
 use Rattle.arj_joint_law.specs.InTime.{IncluderKnows, IncludersKnow, IsSaidFirst}
 use Rattle.arj_joint_law.specs.Ordered.{IsOrderedSo}
 use Rattle.arj_joint_law.specs.Outcome.{is_said}
-use Rattle.arj_joint_law.proofs.Called.{end_in, there_before}
+use Rattle.arj_joint_law.proofs.Called.{end_in, on_front, there_before}
 use Rattle.arj_joint_law.proofs.CommitCalls.{commits_begin}
 use Rattle.arj_joint_law.proofs.Excluding.{each_decision}
 use Rattle.arj_joint_law.proofs.JoinOrder.{counts_there}
-use Rattle.arj_joint_law.proofs.Fronts.{called_front}
 use Rattle.arj_joint_law.proofs.NewWriters.{IsReadAt, call_is, its_uid, read_at, said_before}
 
 -- ---- lists
@@ -131,7 +130,7 @@ module _ (hd : Header) (es : List Asked) (x : ℕ) (h : Holds hd (IsOrderedSo hd
       cases m n = grind arith
 
       by : ((let e = call.0 in e.at) < length before) ⊎ (length before ≤ (let e = call.0 in e.at)) → ⊥
-      by (inl less) = never (called_front lines right before behind is a a_there call.0 call.1 call.2 less) off
+      by (inl less) = never (on_front lines right before behind is a a_there call.0 call.1 call.2 less) off
       by (inr more) =
           let at = spot.place in
           let m = longer before spot.before behind (spot.line ∷ spot.behind) (sym is ∙ spot.are) (omega (arith, more, at)) in

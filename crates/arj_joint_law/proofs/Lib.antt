@@ -38,7 +38,6 @@ pub mod DecidedTops
 pub mod RestGiven
 pub mod Alone
 pub mod Takers
-pub mod Fronts
 pub mod Knowing
 pub mod Counting
 pub mod JoinedRuns

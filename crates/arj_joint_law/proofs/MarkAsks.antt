@@ -1,9 +1,8 @@
 -- In every run naming was asked to confirm the commit of each action of which a line says an exclusion.
-use Rattle.std.proofs.Common.{◌≡◌, ◌⊎◌, ◌||◌, ◌++◌, ◌∙◌, ◌+◌, ℕ, Bool, true, false, cond, List, [], ◌∷◌, Some, Contains, ap, inl, inr, refl, subst, sym, ⊎_elim}
-use Rattle.std.specs.Str.{bytes_eq}
+use Rattle.std.proofs.Common.{◌≡◌, ◌⊎◌, ◌||◌, ◌++◌, ◌∙◌, ◌+◌, ℕ, Bool, true, false, cond, List, [], ◌∷◌, Some, ap, inl, inr, refl, subst, sym, ⊎_elim}
 use Rattle.std.proofs.lemmas.Slice.Eq.{bytes_eq-Decides}
 use Rattle.arj_call_law.proofs.Given.{KeepsGiven, kept_both}
-use Rattle.arj_line_law.specs.Book.{book, new_book}
+use Rattle.arj_line_law.specs.Book.{book}
 use Rattle.arj_line_law.specs.Knows.{AreIdle, IsKept}
 use Rattle.arj_line_law.proofs.Books.{or_which}
 use Rattle.arj_line_law.proofs.Models.{in_later, its_acts, named_in}
@@ -23,7 +22,7 @@ use Rattle.arj_protocol.specs.Effect.{Disk, Do, Effect, Say, Send, stopped, work
 use Rattle.arj_protocol.specs.Follow.{tick_outs}
 use Rattle.arj_protocol.specs.Node.{Parts, with_coord}
 use Rattle.arj_protocol.specs.Step.{acts as acts_of, parent_of, parts_in, restart_outs}
-use Rattle.arj_protocol.specs.Words.{Body, Header, Line, Uid, name}
+use Rattle.arj_protocol.specs.Words.{Body, Header, Line, name}
 use Rattle.arj_protocol.specs.Words.body
 use Rattle.arj_protocol.specs.World.{is_serial_kind, numbered}
 use Rattle.arj_run_law.proofs.Handled.{good_coord, one_tree}
@@ -32,7 +31,7 @@ use Rattle.arj_view_law.specs.Seen as seen
 use Rattle.arj_view_law.specs.Seen.{AreQuiet, Post, Seen, given, posted, said as said_lines, up}
 use Rattle.arj_view_law.specs.Walks.{Up, Walks, halted}
 use Rattle.arj_view_law.proofs.Happens.{runs_hold}
-use Rattle.arj_joint_law.specs.Marked.{ConfirmsFor, MarksAreAsked, MarksAreSaid, RunsAskMarks, WasAsked, excludes, was_marked}
+use Rattle.arj_joint_law.specs.Marked.{MarksAreAsked, MarksAreSaid, RunsAskMarks, WasAsked, excludes, was_marked}
 use Rattle.arj_joint_law.proofs.MarkMoves.{Confirms, IsMarking, NoMark, apart_none, said_in, unmarked_said}
 use Rattle.arj_joint_law.proofs.MarkRuns.{IsNamed, act_moved, marked_more, marks_given, message_moved, named_at, or_false, or_more, same_marked}
 

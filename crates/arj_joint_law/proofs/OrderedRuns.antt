@@ -29,7 +29,7 @@ use Rattle.arj_disk_run_law.proofs.BothEach.{counted_with, heard_part}
 use Rattle.arj_line_law.specs.Book.{book, is_decided, is_top, new_book}
 use Rattle.arj_line_law.specs.Idle.{HasNothing}
 use Rattle.arj_line_law.specs.Knows.{IsKept}
-use Rattle.arj_line_law.specs.Laws.{IsDone, IsSound}
+use Rattle.arj_line_law.specs.Laws.{IsSound}
 use Rattle.arj_line_law.specs.Right.{AreRight}
 use Rattle.arj_line_law.proofs.Nothing.{idle_has_nothing}
 use Rattle.arj_line_law.proofs.Runs.{lines_keep}

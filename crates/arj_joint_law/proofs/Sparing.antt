@@ -1,11 +1,11 @@
 -- Of a top that committed while nobody took part in it no line says an exclusion, and none will.
-use Rattle.std.proofs.Common.{◌≡◌, ◌⊎◌, ◌||◌, ◌==◌, ◌&&◌, ◌++◌, ◌∙◌, ℕ, Bool, true, false, cond, List, [], ◌∷◌, Option, Some, None, ap, inl, inr, refl, subst, sym, ⊎_elim}
+use Rattle.std.proofs.Common.{◌≡◌, ◌||◌, ◌==◌, ◌&&◌, ◌++◌, ◌∙◌, ℕ, Bool, true, false, cond, List, [], ◌∷◌, Option, Some, ap, inl, inr, refl, subst, sym, ⊎_elim}
 use Rattle.std.specs.Prelude.{is_some}
 use Rattle.std.specs.Str.{bytes_eq}
 use Rattle.std.proofs.lemmas.Slice.Eq.{bytes_eq-Decides}
 use Rattle.arj_base.specs.Rows.{is_on}
 use Rattle.arj_disk_line_law.proofs.IdleKnown.{KnowsIdle}
-use Rattle.arj_line_law.specs.Book.{Book, book, book_from, is_decided, is_top, new_book, turned}
+use Rattle.arj_line_law.specs.Book.{Book, book, is_decided, new_book, turned}
 use Rattle.arj_line_law.specs.Idle.{IsIdle}
 use Rattle.arj_line_law.specs.Knows.{IsKept, IsKnown, KnowsUp}
 use Rattle.arj_line_law.specs.Right.{AreRight, Right}
@@ -28,7 +28,7 @@ use Rattle.arj_protocol.specs.Effect.{Disk}
 use Rattle.arj_protocol.specs.Node.{Parts}
 use Rattle.arj_protocol.specs.Order.{has}
 use Rattle.arj_protocol.specs.Tree.{Branch, branch_of, is_own}
-use Rattle.arj_protocol.specs.Words.{Ask, Body, End, Line, Uid, name}
+use Rattle.arj_protocol.specs.Words.{Ask, Body, Line, Uid, name}
 use Rattle.arj_protocol.specs.Words.ask
 use Rattle.arj_protocol.specs.Words.body
 use Rattle.arj_protocol.specs.Words.ending
