@@ -94,3 +94,4 @@ pub mod GivenWriters
 pub mod GivenValue
 pub mod GivenFirst
 pub mod GivenLast
+pub mod Fits

@@ -38,6 +38,8 @@ use Rattle.arj_lock_whole_law.specs.Whole.{KnowsWhole}
 use Rattle.arj_serial_law.specs.Cleaned.{BeginsSo}
 use Rattle.arj_view_law.specs.Seen.{Seen}
 use Rattle.arj_joint_law.specs.Forms.{AreSo, kind_of}
+use Rattle.arj_serial_law.specs.Tied.{AreApart}
+use Rattle.arj_joint_law.specs.Fit.{OpsFit}
 use Rattle.arj_joint_law.specs.Housed.{AreHoused}
 use Rattle.arj_joint_law.specs.Joined.{ArePlannedSo, SeesRecorded}
 use Rattle.arj_joint_law.specs.Loads.{AreLoadsLast}
@@ -45,7 +47,7 @@ use Rattle.arj_joint_law.specs.Ordered.{AreTurnsOf}
 
 -- The object in one state of a run, by both machines: the disk machine, which began as the header says, whose decisions are said, none of them
 -- late, recorded, and ordered as commits were called; this state of the lock machine, with all that goes with it; for all else that may be
--- fixed such a state; and what is known of the protocol alone, with the nodes of all labels there.
+-- fixed such a state; what is known of the protocol alone, with the nodes of all labels there; and values are told apart, and operations in form.
 pub record AreBeside (hd : Header) (f : Fixed) (x : ℕ) (begun : List Action) (S : lock.State) (M : Seen) : Type 0 where
   pub tops : Kinds
   pub unwalked : tops.walk ≡ None
@@ -65,6 +67,8 @@ pub record AreBeside (hd : Header) (f : Fixed) (x : ℕ) (begun : List Action) (
   pub whole : KnowsWhole x begun M
   pub known : (AreGoodCounted M × IsKept M) × KnowsScript M
   pub forms : AreSo (kind_of hd x) M
+  pub apart : AreApart (let g = f in g.code)
+  pub fit : OpsFit x M.lines
   pub housed : AreHoused M
 
 -- A store has this state for a call that waits for it under a binding that is current by both machines: its top has the write lock of the entry, which

@@ -22,3 +22,4 @@ pub mod Based
 pub mod BasedSteps
 pub mod Given
 pub mod Nodes
+pub mod Fit
