@@ -1,114 +1,58 @@
 -- Both machines of each object at once, in every run.
-use Rattle.std.proofs.Common.{◌≡◌, ◌==◌, ℕ, true, List, is_some, subst, refl, Option, Some, None, eqb-true}
-use Rattle.arj_joint_law.specs.Joined.{IsBeside, IsCountedJoined, IsJoinedSo, IsKnownJoined, RunsAreJoined, SeesInOrder, SeesRecorded, SeesTied, world_of}
-use Rattle.arj_joint_law.specs.Nodes.{NodesAreThere}
-use Rattle.arj_joint_law.proofs.LastWriters.{Idle}
-use Rattle.arj_joint_law.proofs.NextGiven.{IsTiedInOrder, KnowsPair, gives_next, one_requests}
-use Rattle.arj_joint_law.proofs.NodesThere.{nodes_keep}
-use Rattle.arj_joint_law.proofs.Ordering.{ordered_part}
-use Rattle.arj_joint_law.proofs.Owns.{own_part}
+use Rattle.std.proofs.Common.{◌≡◌, true, List, subst}
+use Rattle.arj_joint_law.specs.Joined.{IsCountedJoined, IsJoinedSo, IsKnownJoined, RunsAreJoined, SeesInOrder, world_of}
+use Rattle.arj_joint_law.proofs.NextGiven.{one_requests}
 use Rattle.arj_joint_law.specs.Includers.{IncludersTakeTurns}
 use Rattle.arj_joint_law.proofs.JoinKeeps.{WithTurns, turns_part}
-use Rattle.arj_joint_law.proofs.Joining.{HasLocks, WithLocks, locks_part}
-use Rattle.arj_joint_law.proofs.Recorded.{recorded_part}
-use Rattle.arj_joint_law.proofs.RestGiven.{rest_beside}
+use Rattle.arj_joint_law.proofs.Joining.{HasLocks, WithLocks}
 use Rattle.arj_joint_law.proofs.OrderedRuns.{IsOrderedBeside, early, ordered_beside}
-use Rattle.arj_disk_run_law.proofs.Bindings.{good_counted, names_own, records_free_in}
 use Rattle.arj_disk_run_law.proofs.Copies.{copies_agree}
-use Rattle.arj_disk_run_law.proofs.HeardKept.{heard_kept}
-use Rattle.arj_call_law.proofs.Given.{keeps_given, kept_both}
-use Rattle.arj_line_law.proofs.Runs.{lines_keep}
-use Rattle.arj_view_law.specs.Keeps.{Keeps}
 use Rattle.arj_disk_run_law.specs.Part.{KeepsPart}
-use Rattle.arj_disk_run_law.specs.Rest.{SeesCarried}
-use Rattle.arj_call_law.specs.Runs.{KnowsFew}
 use Rattle.arj_lock_whole_law.specs.Whole.{KnowsWhole}
-use Rattle.arj_lock_whole_law.proofs.WholeRuns.{kept_beside}
-use Rattle.arj_lock_whole_law.proofs.Gives.{gives_locks}
-use Rattle.arj_call_law.proofs.WorldRuns.{votes_in}
-use Rattle.arj_joint_law.proofs.Firsts.{line_there}
 use Rattle.arj_disk_view_law.specs.Sees.{Kinds}
 use Rattle.arj_disk_law.specs.Effects.{World}
 use Rattle.arj_disk_law.specs.Names.{Office}
 use Rattle.arj_view_law.specs.Seen.{Post, Seen, see}
-use Rattle.arj_protocol.specs.Words.{Header, ObjectLine}
 use Rattle.arj_part_law.specs.Actions.{Action}
-use Rattle.arj_model.specs.Last.{first_values, object_line}
+use Rattle.arj_model.specs.Last.{first_values}
 use Rattle.arj_protocol.specs.World.{format, run_all}
-use Rattle.arj_lock.proofs.Members.{in_find, in_to}
 use Rattle.arj_line_law.specs.Book.{new_book}
 use Rattle.arj_line_law.specs.Right.{AreRight}
 use Rattle.arj_line_law.proofs.Runs.{run_written}
 use Rattle.arj_serial_law.specs.Seen.{RequestsAreOne}
 use Rattle.arj_joint_law.proofs.Written.{bare, wrote}
-use Rattle.arj_lock_fact_law.specs.Entries.{HasObject}
 use Rattle.arj_disk_run_law.proofs.Scripts.{part_more}
-use Rattle.arj_disk_line_law.proofs.IdleKnown.{knows_idle}
-use Rattle.arj_disk_line_law.proofs.Tying.{tied_part}
-use Rattle.arj_line_law.specs.Knows.{IsKept}
-use Rattle.arj_disk_run_law.specs.Bindings.{AreGoodCounted, KnowsScript}
-
-pub header_has : (hd : Header) (x : ℕ) → is_some (object_line hd x) ≡ true → HasObject hd x
-header_has hd x there = by (object_line hd x) refl there
-  where
-    by : (o : Option ObjectLine) → object_line hd x ≡ o → is_some o ≡ true → HasObject hd x
-    by None is some = absurd (cc some)
-    by (Some o) is some = let f = in_find (λ (p : ObjectLine). p.x == x) o hd.objects is in (o, in_to o hd.objects f.0, eqb-true o.x x f.1)
+use Rattle.std.specs.Prelude.{⊤}
+use Rattle.arj_lock_law.specs.State.{State}
+use Rattle.arj_lock_run_law.specs.Fixed.{Fixed}
+use Rattle.arj_joint_law.proofs.JoinedParts.{counted_kept, locked}
 
 -- ---- the law
 
 pub runs_are_joined : RunsAreJoined
 runs_are_joined hd x test form there rest es short =
-    let h = ordered_beside hd x IsCountedJoined Joined form there counted_kept (early hd x IsCountedJoined Joined part) es short in
+    let h = ordered_beside hd x IsCountedJoined Joined form there (counted_kept hd x E form there rest) (early hd x IsCountedJoined Joined part) es short in
     record { sent = h.sent; stands = h.stands; holds = joined h.sent h.holds }
   where
-    has : HasObject hd x
-    has = header_has hd x there
-
     E : List Action → Seen → Type 0
     E begun M = test begun M ≡ true
 
     R : List Action → Seen → Type 0
     R begun M = KnowsWhole x begun M × E begun M
 
-    -- what the lock half has beside
-    Locks : World → Seen → Type 0
-    Locks W M = HasLocks (first_values hd) x R W M
+    -- of the lock machine's state nothing more
+    Nothing : Fixed → State → Seen → Type 0
+    Nothing f S M = ⊤
 
     Joined : Kinds → Office → Seen → Type 0
-    Joined tops A M = WithTurns x (WithLocks (first_values hd) x R (SeesInOrder x)) tops A M
+    Joined tops A M = WithTurns x (WithLocks (first_values hd) x R Nothing (SeesInOrder x)) tops A M
 
-    counted_kept : Keeps hd IsCountedJoined
-    counted_kept = kept_both hd (λ M. AreGoodCounted M × IsKept M) NodesAreThere (kept_both hd AreGoodCounted IsKept (good_counted hd) (keeps_given hd AreGoodCounted IsKept (lines_keep hd))) (keeps_given hd (λ M. AreGoodCounted M × IsKept M) NodesAreThere (nodes_keep hd))
-
-    lines_kept : Keeps hd (λ M. IsCountedJoined M × IsKept M)
-    lines_kept = kept_both hd IsCountedJoined IsKept counted_kept (keeps_given hd IsCountedJoined IsKept (lines_keep hd))
-
-    -- the disk half, beside states of the lock half, and with its own tie to the journal
-    heard_there : KeepsPart hd x (λ W M. IsCountedJoined M × (KnowsScript M × (Locks W M × IsTiedInOrder W M))) (SeesCarried x)
-    heard_there = part_more hd x (KnowsPair (first_values hd) x) (λ W M. IsCountedJoined M × (KnowsScript M × (Locks W M × IsTiedInOrder W M))) (SeesCarried x) (λ W M q. let j = q.1.1.0 in ((q.0, q.1.0), ((j.0, j.1, j.2.0, (λ f a. let z = j.3 f a in (z.0, z.1, z.2, z.3, z.4, z.6))), q.1.1.1)))
-        (heard_kept hd x (KnowsPair (first_values hd) x) (λ W M r. ((let g = r.0.0.0.0 in g.0.0.0), (let s = r.0.1 in s.0))) (λ W M r. let g = r.0.0.0.0 in let s = r.0.1 in (names_own M g s.0, g.0.0.1, records_free_in M g s.0, r.0.0.0.1, s.1)) (line_there hd x form there).0 (gives_next (first_values hd) x))
-
-    -- and tied to the journal
-    tied : KeepsPart hd x (λ W M. (IsCountedJoined M × IsKept M) × (KnowsScript M × (Locks W M × IsTiedInOrder W M))) (SeesTied x)
-    tied = tied_part hd x IsCountedJoined (λ W M. KnowsScript M × (Locks W M × IsTiedInOrder W M)) (SeesCarried x) Idle counted_kept heard_there (knows_idle IsCountedJoined)
-
-    -- and what is decided was recorded
-    recorded : KeepsPart hd x (λ W M. (IsCountedJoined M × IsKept M) × (KnowsScript M × (Locks W M × IsTiedInOrder W M))) (SeesRecorded x)
-    recorded = recorded_part hd x (λ W M. (IsCountedJoined M × IsKept M) × (KnowsScript M × (Locks W M × IsTiedInOrder W M))) (SeesTied x) (λ W M q. let r = q.1.1.0 in let k = r.2.0 in let a = k.acks in let w = a.world in w.asked) tied
-
-    -- and decisions are in order; so what the disk half counts on of its own is there
-    in_order : KeepsPart hd x (λ W M. IsKnownJoined M × Locks W M) (SeesInOrder x)
-    in_order = own_part hd x (λ W M. IsKnownJoined M × Locks W M) IsTiedInOrder (SeesInOrder x) (λ tops A M p. (p.0.0.1, p.1))
-        (part_more hd x (λ W M. (IsCountedJoined M × IsKept M) × (KnowsScript M × (Locks W M × IsTiedInOrder W M))) (λ W M. (IsKnownJoined M × Locks W M) × IsTiedInOrder W M) (SeesInOrder x) (λ W M q. let r = q.0.0 in ((r.0, r.0.0.1), (r.1, (q.0.1, q.1))))
-        (ordered_part hd x (λ M. IsCountedJoined M × IsKept M) (λ W M. KnowsScript M × (Locks W M × IsTiedInOrder W M)) (SeesRecorded x) Idle lines_kept (λ M r. r.1) (knows_idle (λ M. IsCountedJoined M × IsKept M)) recorded (λ tops A M p. p.0.1.1)))
-
-    locked : KeepsPart hd x (λ W M. IsKnownJoined M) (WithLocks (first_values hd) x R (SeesInOrder x))
-    locked = locks_part hd (first_values hd) x IsKnownJoined KnowsFew R (SeesInOrder x) (λ M r. let s = r.1 in s.0) (kept_beside hd x has E rest.kept) (λ f begins. gives_locks hd x has E f (λ begun S M. IsBeside x f begun S M) (first_values hd, begins) (rest_beside (first_values hd) x E f begins)) rest.gives (λ b M r. r.0) (λ M few. votes_in M few.1.1) (λ M few. few.1.1) in_order (λ tops A M p. p.0.0.0.0) (λ tops A M p. p.0.0.1.1)
+    paired : KeepsPart hd x (λ W M. IsKnownJoined M) (WithLocks (first_values hd) x R Nothing (SeesInOrder x))
+    paired = part_more hd x (λ W M. IsKnownJoined M × ⊤) (λ W M. IsKnownJoined M) (WithLocks (first_values hd) x R Nothing (SeesInOrder x)) (λ W M q. (q, tt)) (locked hd x E form there rest (λ M. ⊤) Nothing (λ M N l f S T run past. tt) (λ f S. tt))
 
     -- and each two of which one includes a store took turns
     part : KeepsPart hd x (λ W M. IsKnownJoined M) Joined
-    part = turns_part hd x (λ W M. IsKnownJoined M) (WithLocks (first_values hd) x R (SeesInOrder x)) (λ W M q. q.0.0.1) (λ tops A M p. p.0.0.0.0.0) (λ tops A M p. p.0.0.0.0.1) locked
+    part = turns_part hd x (λ W M. IsKnownJoined M) (WithLocks (first_values hd) x R Nothing (SeesInOrder x)) (λ W M q. q.0.0.1) (λ tops A M p. p.0.0.0.0.0) (λ tops A M p. p.0.0.0.0.1) paired
 
     joined : (sent : List Post) → IsOrderedBeside Joined hd x (see sent (run_all es (format hd))) → IsJoinedSo hd x (see sent (run_all es (format hd)))
     joined sent (o, tops, A, same, p, few) = record {
@@ -126,8 +70,8 @@ runs_are_joined hd x test form there rest es short =
         M : Seen
         M = see sent (run_all es (format hd))
 
-        locks : HasLocks (first_values hd) x R (world_of o) M
-        locks = subst (λ W. HasLocks (first_values hd) x R W M) same p.0.1
+        locks : HasLocks (first_values hd) x R Nothing (world_of o) M
+        locks = subst (λ W. HasLocks (first_values hd) x R Nothing W M) same p.0.1
 
         right : AreRight new_book (let w = run_all es (format hd) in w.lines)
         right = let r = run_written hd es in let z = r.1 in z.right

@@ -40,6 +40,7 @@ pub mod Alone
 pub mod Takers
 pub mod Knowing
 pub mod Counting
+pub mod JoinedParts
 pub mod JoinedRuns
 pub mod Writing
 pub mod Written
