@@ -22,9 +22,9 @@ use Rattle.arj_view_law.specs.Seen.{Seen, at, posted, said, up}
 use Rattle.arj_view_law.specs.Walks.{Up, Walks, halted}
 use Rattle.arj_disk_view_law.specs.Asking.{SeesConfirming}
 use Rattle.arj_disk_view_law.specs.Pairs.{packed}
-use Rattle.arj_disk_view_law.specs.Plans.{IsTidy, Uses, plan_by, used_at}
+use Rattle.arj_disk_view_law.specs.Plans.{IsTidy, plan_by, used_at}
 use Rattle.arj_disk_view_law.specs.Sees.{Kinds}
-use Rattle.arj_disk_view_law.proofs.Planned.{has_same}
+use Rattle.arj_disk_view_law.proofs.Planned.{has_same, used_there}
 use Rattle.arj_names_view_law.specs.Both.{SeesBoth}
 use Rattle.arj_disk_run_law.specs.Decided.{AreOnce}
 use Rattle.arj_disk_run_law.specs.Heard.{SeesPlan}
@@ -87,14 +87,6 @@ module _ (P : Parts → Type 0) (k : ℕ) where
 
 -- ---- a top that waits for naming
 
-uses_there : (x : ℕ) (v : Used) (us : List Used) → used_at x us ≡ Some v → Uses v us
-uses_there x v [] is = not_some refl is
-uses_there x v (y ∷ us) is = by (y.x == x) is (uses_there x v us)
-  where
-    by : (b : Bool) → cond b (Some y) (used_at x us) ≡ Some v → (used_at x us ≡ Some v → Uses v us) → (y ≡ v) ⊎ Uses v us
-    by true e ih = inl (some_is refl e)
-    by false e ih = inr (ih e)
-
 -- by its plan in the machine
 pub plan_includes_none : (x : ℕ) (tops : Kinds) (A : Office) (u : Uid) (p : commit.Plan) (q : Plan) → SeesConfirming x A.world.disk (uid_number u) p → SeesPlan x tops u (Confirming p) A → UsesNone x q p.used → IncludesNone (A.world.disk.plan (uid_number u)) q
 plan_includes_none x tops A u p q sees plan none = subst (λ (z : Plan). IncludesNone z q) (sym sees.plan) (by (used_at x p.used) refl)
@@ -104,7 +96,7 @@ plan_includes_none x tops A u p q sees plan none = subst (λ (z : Plan). Include
     by (Some v) is = (joins (none v is).0, writes (none v is).1 (changed_of x p) refl)
       where
         joins : (v.loaded ≡ None) ⊎ ((s : ℕ) → has s v.joins ≡ true → ⊥) → (s : ℕ) → has s v.joins ≡ true → ⊥
-        joins (inl unloaded) s on = let t : IsTidy p = sees.tidy in let l = t.loaded v s (uses_there x v p.used is) (sym (has_same s v.joins) ∙ on) in not_some unloaded l.1
+        joins (inl unloaded) s on = let t : IsTidy p = sees.tidy in let l = t.loaded v s (used_there x p.used v is).0 (sym (has_same s v.joins) ∙ on) in not_some unloaded l.1
         joins (inr without) s on = without s on
 
         writes : (v.called ≡ false) ⊎ (is_some q.writes ≡ true) → (o : Option ObjectState) → changed_of x p ≡ o → (option_map packed o ≡ None) ⊎ (is_some q.writes ≡ true)

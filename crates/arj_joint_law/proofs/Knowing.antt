@@ -1,5 +1,5 @@
--- Where decided tops that only include a store knew those that wrote the object before them, none of these is behind a top that is new in the
--- last event.
+-- As decided tops that only include a store knew those that wrote the object before them, none of these is behind a top that is new in the last
+-- event.
 use Rattle.std.proofs.Common.{Contains, ◌≡◌, ◌⊎◌, ◌≤◌, ◌<◌, ◌++◌, ℕ, List, [], ◌∷◌, Bool, true, false, cond, filter, length, Option, Some, None, is_some, refl, sym, ◌∙◌, ap, subst, inl, inr, arith}
 use Rattle.arj_base.specs.Rows.{is_on}
 use Rattle.arj_lock.proofs.Members as list
@@ -28,7 +28,7 @@ use Rattle.arj_serial_law.proofs.Tying.{all_at}
 use Rattle.arj_view_law.specs.Keeps.{Holds}
 use Rattle.arj_joint_law.specs.Cleaned.{disk_of}
 use Rattle.arj_joint_law.specs.Excluded.{CommitsBeginIt, IsNew, lines_before}
-use Rattle.arj_joint_law.specs.InTime.{IncluderKnows, IncludersKnow, IsSaidFirst}
+use Rattle.arj_joint_law.specs.SaidFirst.{IncluderKnows, IncludersKnow, IsSaidFirst}
 use Rattle.arj_joint_law.specs.Ordered.{IsOrderedSo}
 use Rattle.arj_joint_law.specs.Outcome.{is_said}
 use Rattle.arj_joint_law.proofs.Called.{end_in, on_front, there_before}
@@ -87,7 +87,7 @@ later_one values lines x (d ∷ ds) (v ∷ us) are know order u w (inr i) (inr j
 
 -- ---- after a run
 
-module _ (hd : Header) (es : List Asked) (x : ℕ) (h : Holds hd (IsOrderedSo hd x) (run_all es (format hd))) (know : IncludersKnow (journal hd es) (let Q = disk_of h.holds in Q.tops)) (d : AreDecided hd (journal hd es) x (let Q = disk_of h.holds in Q.tops))
+module _ (hd : Header) (es : List Asked) (x : ℕ) (h : Holds hd (IsOrderedSo hd x) (run_all es (format hd))) (d : AreDecided hd (journal hd es) x (let Q = disk_of h.holds in Q.tops))
     (t : Top) (new : IsNew (let w = run_all es (format hd) in w.event) (journal hd es) t) (wrote : Wrote (journal hd es) x t) where
   abbrev lines : List Line
   lines = journal hd es
@@ -161,7 +161,7 @@ module _ (hd : Header) (es : List Asked) (x : ℕ) (h : Holds hd (IsOrderedSo hd
       whose = let o = h.holds in let b = o.begun in let k = b.journalled in k.whose z.top (in_decided S.tops z inside)
 
   pub none_last : (u : Top) → Contains d.those u → (Wrote lines x u → ⊥) → u.at ≤ t.at
-  none_last u c silent = by (later_one values lines x (filter counts_of S.tops) d.those d.each (know_left lines counts_of S.tops know) d.called u there.0 (in_from u d.those c) (in_from there.0 d.those there.1))
+  none_last u c silent = by (later_one values lines x (filter counts_of S.tops) d.those d.each (know_left lines counts_of S.tops (let o = h.holds in o.know)) d.called u there.0 (in_from u d.those c) (in_from there.0 d.those there.1))
     where
       apart : AreApart (tops lines)
       apart = let l = listed lines right in l.apart

@@ -60,9 +60,13 @@ pub mod JoinUses
 pub mod JoinTurns
 pub mod JoinFresh
 pub mod JoinStep
+pub mod JoinNodes
+pub mod JoinBeside
 pub mod JoinKeeps
 pub mod LightStates
 pub mod LightStep
+pub mod KnowStep
+pub mod KnowKeeps
 pub mod JoinOrder
 pub mod IdlePlaces
 pub mod BasedServers

@@ -1,5 +1,5 @@
 -- The order in which an object's machine decides tops, in every run.
-use Rattle.std.proofs.Common.{◌≡◌, ◌⊎◌, ℕ, List, [], ◌∷◌, true, ◌∙◌, ap, subst, inl, inr, is_some, length, not, sym, ◌&&◌, ◌||◌, Bool, false, filter, None}
+use Rattle.std.proofs.Common.{◌≡◌, ◌⊎◌, ℕ, List, [], ◌∷◌, true, ◌∙◌, ap, subst, inl, inr, is_some, length, not, sym, ◌&&◌, ◌||◌, Bool, false, filter, None, Some}
 use Rattle.std.specs.Prelude.{◌≤◌, Contains}
 use Rattle.arj_journal.specs.ScriptForm.{HeaderInForm}
 use Rattle.arj_lock.proofs.Members.{In, in_from, in_to}
@@ -40,7 +40,7 @@ use Rattle.arj_disk_line_law.proofs.Tying.{both_too, journalled_beside, one_act,
 use Rattle.arj_serial_law.specs.Cleaned.{BeginsSo}
 use Rattle.arj_disk_run_law.specs.Decided.{AreCalled, AreOnce}
 use Rattle.arj_joint_law.specs.Includers.{IncludersTakeTurns, RunsTakeTurns, TakesTurnsSo}
-use Rattle.arj_joint_law.specs.Ordered.{AreCountedOf, AreJoinedOf, AreLeftOf, AreRootedSo, AreSpared, AreStill, AreTurns, AreTurnsOf, AreUntouched, IsCalledFirst, IsOrderedSo, RunsAreOrdered, RunsAreOrderedBeside}
+use Rattle.arj_joint_law.specs.Ordered.{AreCountedOf, AreJoinedOf, AreLeftOf, AreRootedSo, AreSpared, AreStill, AreTurns, AreTurnsOf, AreUntouched, IsCalledFirst, IsOrdered, IsOrderedSo, RunsAreOrdered, RunsAreOrderedBeside}
 use Rattle.arj_joint_law.proofs.Beginning.{WithFirst, first_begins, first_part}
 use Rattle.arj_joint_law.proofs.Firsts.{line_there}
 use Rattle.arj_joint_law.proofs.Ordering.{ordered_part}
@@ -59,6 +59,10 @@ use Rattle.arj_line_law.proofs.Owners.{have_nodes}
 use Rattle.arj_joint_law.proofs.JoinLists.{filtered_same, has_is}
 use Rattle.arj_joint_law.proofs.JoinModel.{joined}
 use Rattle.arj_joint_law.proofs.JoinKeeps.{WithTurns, turns_part}
+use Rattle.arj_joint_law.proofs.KnowKeeps.{WithKnown, known_part}
+use Rattle.arj_joint_law.proofs.KnowStep.{AllKnow}
+use Rattle.arj_protocol.proofs.Numbers.{number_tells}
+use Rattle.arj_joint_law.specs.SaidFirst.{IncludersKnow}
 use Rattle.arj_joint_law.proofs.Leaving.{left}
 use Rattle.arj_joint_law.proofs.Listing.{in_among}
 use Rattle.arj_joint_law.proofs.JoinRuns.{IsBased, based_keep, joins_given}
@@ -179,6 +183,18 @@ module _ (hd : Header) (x : ℕ) (es : List Asked) (sent : List Post) (W : machi
   counted_all : AreCountedOf lines x W.disk.tops
   counted_all d a i there number counts plain = counted_here d a i there number counts plain
 
+-- as nodes of actions are there, so it is in the words of the journal
+all_know : (hd : Header) (es : List Asked) (sent : List Post) (ds : List Done) → ((e : Done) → disk_list.In e ds → (a : Act) × Contains (acts_of (run_all es (format hd)).lines) a × (uid_number a.uid ≡ e.top)) → AllKnow (see sent (run_all es (format hd))) ds
+    → IncludersKnow (run_all es (format hd)).lines ds
+all_know hd es sent [] whose know = tt
+all_know hd es sent (d ∷ ds) whose know = (
+  λ e i t u dc ec wrote none te ud.
+      let a = whose e (inr i) in
+      let n = have_nodes hd es a.0 a.1 in
+      know.0 e i t u n.node (subst (λ (y : Uid). (see sent (run_all es (format hd))).nodes y.node ≡ Some n.node) (number_tells (let b = a.0 in b.uid) t (a.2 ∙ sym te)) n.there) dc ec wrote none te ud,
+  all_know hd es sent ds (λ e i. whose e (inr i)) know.1,
+)
+
 -- where nobody is late, too
 pub early : (hd : Header) (x : ℕ) (R : Seen → Type 0) (P : Kinds → Office → Seen → Type 0) → KeepsPart hd x (λ W M. R M × KnowsScript M) P → KeepsPart hd x (λ W M. R M × IsKnownEarly W M) P
 early hd x R P parts = part_more hd x (λ W M. R M × KnowsScript M) (λ W M. R M × IsKnownEarly W M) P (λ W M q. (q.0, q.1.0)) parts
@@ -201,17 +217,19 @@ ordered_beside hd x R P form there kept parts es short =
     let idles : KnowsIdle (Marking R) Idle = knows_spared (Marking R) (λ M r. r.1.1) in
     let tied = tied_part hd x (Marking R) IsKnownEarly (WithFirst hd x (WithMarks x P)) Idle marking first idles in
     let ordered = ordered_part hd x (λ M. Marking R M × IsKept M) IsKnownEarly (WithTie (WithFirst hd x (WithMarks x P)) Idle) Idle (both_too hd x (Marking R) IsKnownEarly (WithFirst hd x (WithMarks x P)) Idle marking first idles) (λ M r. r.1) (knows_spared (λ M. Marking R M × IsKept M) (λ M r. r.0.1.1)) tied (λ tops A M p. (p.1).1) in
-    let h = journalled_beside hd x (λ M. Marking R M × IsKept M) _ (both_too hd x (Marking R) IsKnownEarly (WithFirst hd x (WithMarks x P)) Idle marking first idles) ordered es short in
+    let Q : Kinds → Office → Seen → Type 0 = λ tops A M. WithTie (WithFirst hd x (WithMarks x P)) Idle tops A M × IsOrdered (IdleThere Idle) A.world M in
+    let knowing = known_part hd x (λ W M. (Marking R M × IsKept M) × IsKnownEarly W M) Q (λ W M r. (let z = r.0 in z.1)) (λ W M r. (let z = r.1 in z.1)) (λ tops A M p. (let o = p.1 in o.once)) (λ tops A M p. (let z = p.0 in let t = z.1 in t.0)) ordered in
+    let h = journalled_beside hd x (λ M. Marking R M × IsKept M) (WithKnown x Q) (both_too hd x (Marking R) IsKnownEarly (WithFirst hd x (WithMarks x P)) Idle marking first idles) knowing es short in
     let b = h.holds in
-    let order = (let z = b.3 in z.1) in
-    let more = (let z = b.3 in let t = z.0 in let p = t.0 in p.0) in
+    let order = (let y = b.3 in let z = y.0 in z.1) in
+    let more = (let y = b.3 in let z = y.0 in let t = z.0 in let p = t.0 in p.0) in
     let right = (let r = runs_hold hd IsKept (lines_keep hd) es in let k = r.holds in let w = k.1 in w.right) in
     record {
       sent = h.sent;
       stands = h.stands;
       holds = (
         record {
-          begun = record { journalled = b.0; begins = subst (λ (W : machine.World). BeginsSo hd x W.disk) b.2 (let z = b.3 in let t = z.0 in let p = t.0 in p.1) };
+          begun = record { journalled = b.0; begins = subst (λ (W : machine.World). BeginsSo hd x W.disk) b.2 (let y = b.3 in let z = y.0 in let t = z.0 in let p = t.0 in p.1) };
           once = subst (λ (W : machine.World). AreOnce W.disk.tops) b.2 order.once;
           called = subst (λ (W : machine.World). AreCalled (run_all es (format hd)).lines W.disk.tops) b.2 order.called;
           turns = subst (λ (W : machine.World). AreTurnsOf (run_all es (format hd)).lines W.disk.tops) b.2 (turns_of (run_all es (format hd)).lines right (let A = b.1 in A.world.disk.tops) order.turns);
@@ -220,8 +238,9 @@ ordered_beside hd x R P form there kept parts es short =
           joins = (let j = b.0 in joins_all hd x es h.sent j.machine right (let s = j.sees in s.whole) (subst (λ (W : machine.World). AreMarkedSo x W (see h.sent (run_all es (format hd)))) b.2 more.1));
           counted = (let j = b.0 in counted_all hd x es h.sent j.machine right (let s = j.sees in s.whole) (subst (λ (W : machine.World). AreMarkedSo x W (see h.sent (run_all es (format hd)))) b.2 more.1));
           still = subst (λ (W : machine.World). AreStill W.disk.tops) b.2 (let q = more.1 in q.still);
-          spared = subst (λ (W : machine.World). AreSpared (run_all es (format hd)).lines x W.disk) b.2 (spared_of x (run_all es (format hd)).lines right (let A = b.1 in A.world) (let z = b.3 in let t = z.0 in let tie = t.1 in tie.1));
+          spared = subst (λ (W : machine.World). AreSpared (run_all es (format hd)).lines x W.disk) b.2 (spared_of x (run_all es (format hd)).lines right (let A = b.1 in A.world) (let y = b.3 in let z = y.0 in let t = z.0 in let tie = t.1 in tie.1));
           untouched = (let j = b.0 in untouched_all hd x es h.sent j.machine right (let s = j.sees in s.whole) (subst (λ (W : machine.World). AreMarkedSo x W (see h.sent (run_all es (format hd)))) b.2 more.1));
+          know = (let j = b.0 in all_know hd es h.sent (let W = j.machine in W.disk.tops) (λ e i. j.whose e.top (in_decided (let W = j.machine in W.disk.tops) e i)) (subst (λ (W : machine.World). AllKnow (see h.sent (run_all es (format hd))) W.disk.tops) b.2 (let y = b.3 in let k = y.1 in k.know)));
         },
         (let j = b.0 in j.tops),
         b.1,

@@ -7,15 +7,14 @@ use Rattle.arj_protocol.specs.World.{Asked, World, format, journal, run_all}
 use Rattle.arj_view_law.specs.Seen.{see}
 use Rattle.arj_joint_law.specs.Cleaned.{AreLockTied}
 use Rattle.arj_joint_law.specs.Excluded.{AreExcludedInTime, IsSeenSo}
-use Rattle.arj_joint_law.specs.InTime.{AreInTime, RunsExcludeInTime, WholeRunsExcludeInTime}
+use Rattle.arj_joint_law.specs.InTime.{RunsExcludeInTime, WholeRunsExcludeInTime}
 use Rattle.arj_joint_law.proofs.Clean.{Decides, Held, decided, decides_in, formed, held_in, joined_at, lock_tied, ordered_held, ordered_of, right, ties}
 use Rattle.arj_joint_law.proofs.CommitCalls.{commits_begin}
 use Rattle.arj_joint_law.proofs.Excluding.{is_in_time, newest_by_calls, nodes_have_form}
 use Rattle.arj_joint_law.proofs.Knowing.{none_last}
 use Rattle.arj_joint_law.proofs.Takers.{takers}
 
-module _ (hd : Header) (es : List Asked) (form : HeaderInForm hd) (tied : AreLockTied hd (journal hd es)) (held : Held hd es) (decide : Decides hd es held)
-    (behind : (x : ℕ) (there : is_some (object_line hd x) ≡ true) → AreInTime hd x es) where
+module _ (hd : Header) (es : List Asked) (form : HeaderInForm hd) (tied : AreLockTied hd (journal hd es)) (held : Held hd es) (decide : Decides hd es held) where
   abbrev w : World
   w = run_all es (format hd)
 
@@ -35,13 +34,13 @@ module _ (hd : Header) (es : List Asked) (form : HeaderInForm hd) (tied : AreLoc
       let r = right hd es form tied held decide in
       let h = ordered_of hd es x (held x there) in
       let i = seen_so x there in
-      let newest = newest_by_calls hd w.event (see h.sent w) r tied.called (commits_begin hd es) x i t new wrote (record { last = none_last hd es x h (let a = behind x there in a.know h) (decided hd es form tied held decide x there) t new wrote }) in
+      let newest = newest_by_calls hd w.event (see h.sent w) r tied.called (commits_begin hd es) x i t new wrote (record { last = none_last hd es x h (decided hd es form tied held decide x there) t new wrote }) in
       is_in_time hd w.event (see h.sent w) r (ties hd es form tied held decide) x i t new wrote newest s n m st at_naming at_store held_there has_it
 
 pub runs_exclude : RunsExcludeInTime
-runs_exclude hd es test form short heard tied decide all = let held = ordered_held hd es test form short heard in in_time hd es form tied held (λ x there. decide x there (ordered_of hd es x (held x there))) all
+runs_exclude hd es test form short heard tied decide = let held = ordered_held hd es test form short heard in in_time hd es form tied held (λ x there. decide x there (ordered_of hd es x (held x there)))
 
 pub whole_runs_exclude : WholeRunsExcludeInTime
-whole_runs_exclude hd es test form short rest decide all =
+whole_runs_exclude hd es test form short rest decide =
     let joined = joined_at hd es test form short rest in
-    in_time hd es form (lock_tied hd es joined) (held_in hd es joined) (decides_in hd es joined decide) all
+    in_time hd es form (lock_tied hd es joined) (held_in hd es joined) (decides_in hd es joined decide)

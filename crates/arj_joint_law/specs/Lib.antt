@@ -1,6 +1,7 @@
 pub mod Begun
 pub mod Cleaned
 pub mod Forms
+pub mod SaidFirst
 pub mod Ordered
 pub mod Shown
 pub mod Marked

@@ -24,6 +24,7 @@ use Rattle.arj_line_law.specs.Book.{book, is_decided, is_top}
 use Rattle.arj_line_law.specs.Idle.{HasNothing}
 use Rattle.arj_line_law.specs.Laws.{IsDone}
 use Rattle.arj_run_law.specs.Worlds.{IsGood}
+use Rattle.arj_joint_law.specs.SaidFirst.{IncludersKnow}
 use Rattle.arj_joint_law.specs.Begun.{IsBegunSo}
 
 -- ---- against the journal
@@ -86,7 +87,8 @@ AreSpared lines x S = (a : Act) → Contains (acts lines) a → is_top a.kind �
     → (decided S (uid_number a.uid) ≡ true) ⊎ (S.bare (uid_number a.uid) ≡ true) ⊎ (HasNothing lines a × ((s : ℕ) → is_among (leaves_of lines a.id x) s ≡ false))
 
 -- The machine began as the header says and decided as the journal says, in this order, excluded and included what the journal says, and has its
--- roots; and who didn't count, ended without a record, or committed at once changed as little as that.
+-- roots; who didn't count, ended without a record, or committed at once changed as little as that; and who only includes a store had its
+-- commit called when those that wrote the object before it had been said.
 pub record IsOrderedSo (hd : Header) (x : ℕ) (M : Seen) : Type 0 where
   pub begun : IsBegunSo hd x M
   pub once : AreOnce (let j = (let b = begun in b.journalled) in let W = j.machine in let S = W.disk in S.tops)
@@ -99,6 +101,7 @@ pub record IsOrderedSo (hd : Header) (x : ℕ) (M : Seen) : Type 0 where
   pub still : AreStill (let j = (let b = begun in b.journalled) in let W = j.machine in let S = W.disk in S.tops)
   pub untouched : AreUntouched M.lines x (let j = (let b = begun in b.journalled) in let W = j.machine in let S = W.disk in S.bare)
   pub spared : AreSpared M.lines x (let j = (let b = begun in b.journalled) in let W = j.machine in W.disk)
+  pub know : IncludersKnow M.lines (let j = (let b = begun in b.journalled) in let W = j.machine in let S = W.disk in S.tops)
 
 -- So it is in the run of every script, of each object of the header, with what is still taken of what coordinators have of naming's
 -- answers; and beside any relation that is kept with the machine's state.

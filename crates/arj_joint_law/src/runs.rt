@@ -27,8 +27,10 @@ pub fn runs_begin_as_the_header_says()
 /// stores included one; and its root is the one at the head of its path there. Of a committed top that it hasn't decided, and whose commit
 /// didn't end without a record, nothing survives, and it excluded no store. And of each two of them that count the one that was decided
 /// first had its commit called first too, where the later one includes a store, or changes the object and the earlier one didn't
-/// (`includers`): so long as a commit uses what naming has of the object, that has given no other the right to change it. It takes the same as
-/// `runs_begin_as_the_header_says`. It does nothing when it runs.
+/// (`includers`): so long as a commit uses what naming has of the object, that has given no other the right to change it. And whoever wrote the
+/// object before one that counts and only includes a store was said before that one's commit was called (`IncludersKnow`): what its commit loaded
+/// was known then by decisions that had been said, and is the last state as it is decided. It takes the same as `runs_begin_as_the_header_says`.
+/// It does nothing when it runs.
 pub fn decisions_come_behind_calls()
     ensures heard { RunsAreOrdered }
     ensures beside { RunsAreOrderedBeside }
