@@ -18,12 +18,12 @@ use Rattle.arj_table_law.specs.Tables.{IsOfPart, IsSteady, TablesFollowEffects, 
 use Rattle.arj_table_law.proofs.Rows.{lines_go_by_objects}
 
 -- the table goes on from what it was
-goes_on : (n : ℕ) (begun : List Act) (up : ℕ) (rows : List Row) (ls ms : List Line) → table_from n begun up rows (ls ++ ms) ≡ table_from n (acts_from begun ls) (up_from n up ls) (table_from n begun up rows ls) ms
+pub goes_on : (n : ℕ) (begun : List Act) (up : ℕ) (rows : List Row) (ls ms : List Line) → table_from n begun up rows (ls ++ ms) ≡ table_from n (acts_from begun ls) (up_from n up ls) (table_from n begun up rows ls) ms
 goes_on n begun up rows [] ms = refl
 goes_on n begun up rows (l ∷ ls) ms = goes_on n (acts_after begun l.body) (up_step n l.event l.body up) (table_step n begun up l.event l.body rows) ls ms
 
 -- who was begun, and when the node started, stays
-acts_stay : (begun : List Act) (b : Body) → is_steady b ≡ true → acts_after begun b ≡ begun
+pub acts_stay : (begun : List Act) (b : Body) → is_steady b ≡ true → acts_after begun b ≡ begun
 acts_stay begun (body.Began a b c d) is = absurd (cc is)
 acts_stay begun (body.Ok a b c d) is = refl
 acts_stay begun (body.Includes a b c) is = refl

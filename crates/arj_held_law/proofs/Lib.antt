@@ -1,0 +1,12 @@
+pub mod Sorts
+pub mod Lines
+pub mod Says
+pub mod Keeping
+pub mod Facts
+pub mod Messages
+pub mod Running
+pub mod Writes
+pub mod Telling
+pub mod Starts
+pub mod Events
+pub mod Holding
