@@ -77,12 +77,15 @@ module _ (hd : Header) (x : ℕ) (R : World → Seen → Type 0) (P : Kinds → 
   abbrev pub Ups : Kinds → Office → Seen → (Uid → Type 0) → Seen → Type 0
   Ups tops A M Cand Z = EachCommit (T.uses tops A M Cand) Z
 
+  -- so they are where nobody is newly decided
   abbrev pub WhereNone : Type 0
   WhereNone = (tops : Kinds) (A : Office) (M : Seen) → T.kept tops A M → Ups tops A M none M
 
+  -- and where one that waits for naming may be, by a message
   abbrev pub WhereHeard : Type 0
   WhereHeard = (k : ℕ) (d : Disk) (t : Parts) (M : Seen) (tops : Kinds) (A : Office) → IsHere k d t M tops A → Ups tops A (up k d t M) (λ u. IsConfirming t.coord u) (up k d t M)
 
+  -- and where a restart finds records
   abbrev pub WhereFound : Type 0
   WhereFound = (k : ℕ) (d : Disk) (M : Seen) (tops : Kinds) (A : Office) → SeesBoth x tops A (down k d M) → P tops A (down k d M) → R A.world (down k d M) → T.kept tops A (down k d M) → Ups tops A (down k d M) (IsFound d A) (down k d M)
 
