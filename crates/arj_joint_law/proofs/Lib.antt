@@ -67,6 +67,7 @@ pub mod LightStates
 pub mod LightStep
 pub mod KnowStep
 pub mod KnowKeeps
+pub mod LightKeeps
 pub mod JoinOrder
 pub mod IdlePlaces
 pub mod BasedServers

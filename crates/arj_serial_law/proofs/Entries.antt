@@ -98,7 +98,7 @@ module _ (values : Values) (lines : List Line) (x : ℕ) (first : List ℕ) wher
 -- ---- the last entry
 
 -- the entry is that of the tops that count
-entry_counted : (first : Packed) (ds : List Done) → entry_in first ds ≡ entry_by_all first (filter counts_of ds)
+pub entry_counted : (first : Packed) (ds : List Done) → entry_in first ds ≡ entry_by_all first (filter counts_of ds)
 entry_counted first [] = refl
 entry_counted first (d ∷ ds) = by d.counts (entry_counted first ds)
   where

@@ -1,11 +1,12 @@
 -- Tops that had their turns one after another stand in the serial order as their commits were called.
-use Rattle.std.proofs.Common.{◌≡◌, ◌⊎◌, ◌<◌, ℕ, ◌==◌, List, [], ◌∷◌, ◌++◌, filter, reverse, Bool, true, false, cond, Option, Some, None, refl, sym, ◌∙◌, ap, subst, inl, inr, ⊎_elim, arith, eqb-true, eq-eqb}
+use Rattle.std.proofs.Common.{Contains, ◌≡◌, ◌⊎◌, ◌<◌, ℕ, ◌==◌, List, [], ◌∷◌, ◌++◌, filter, reverse, Bool, true, false, cond, Option, Some, None, refl, sym, ◌∙◌, ap, subst, inl, inr, ⊎_elim, arith, eqb-true, eq-eqb}
 use Rattle.std.specs.List.{AllByRecursion}
 use Rattle.std.proofs.lemmas.List.{reverse-append}
 use Rattle.arj_journal.specs.declared.header.Header.{Header}
 use Rattle.arj_journal.specs.declared.body.Line.{Line}
 use Rattle.arj_lock.proofs.Members.{In, in_filter, in_from, in_to}
 use Rattle.arj_model.specs.Actions.{Act, Placed, committed, is_committed, recovered, root_in, top_in}
+use Rattle.arj_model.specs.Last.{serial_tops}
 use Rattle.arj_model.specs.Calls.{Call, Top, committed_calls, committing_of, committings, root_or, top_by, top_of, tops}
 use Rattle.arj_model.specs.Serial.{Values, lex, root_of, serial_key, top_place, unit_place}
 use Rattle.arj_law.specs.Growth.{AreDecidedInOrder}
@@ -25,10 +26,10 @@ use Rattle.arj_serial_law.proofs.Values.{to_filter}
 
 -- ---- lists of tops by place
 
-abbrev Rise : List Top → Type 0
+abbrev pub Rise : List Top → Type 0
 Rise ts = Pairwise (λ (a b : Top). a.at < b.at) ts
 
-tops_rise : (lines : List Line) → Rise (tops lines)
+pub tops_rise : (lines : List Line) → Rise (tops lines)
 tops_rise lines = pairwise_filter_map (λ (m n : Placed (List Act)). m.at < n.at) (λ (a b : Top). a.at < b.at) (top_of (committed lines) (recovered lines))
     (λ m n a b less e f. subst (λ k. k < b.at) (sym (at_is m a e)) (subst (λ k. m.at < k) (sym (at_is n b f)) less)) (committings lines) (read_rises committing_of [] 0 lines)
   where
@@ -43,7 +44,7 @@ tops_rise lines = pairwise_filter_map (λ (m n : Placed (List Act)). m.at < n.at
         by None f = absurd (cc f)
         by (Some a) f = from a (is_committed (committed lines) (recovered lines) a) f
 
-rises_kept : (p : Top → Bool) (ts : List Top) → Rise ts → Rise (filter p ts)
+pub rises_kept : (p : Top → Bool) (ts : List Top) → Rise ts → Rise (filter p ts)
 rises_kept p [] w = tt
 rises_kept p (t ∷ ts) w = by (p t) (rises_kept p ts w.1)
   where
@@ -67,7 +68,7 @@ rise_last (u ∷ ts) t w all = (more ts w.0, rise_last ts t w.1 all.1)
     more [] a = (all.0, tt)
     more (v ∷ us) a = (a.0, more us a.1)
 
-turned : (t : Top) (ts : List Top) → reverse (t ∷ ts) ≡ reverse ts ++ t ∷ []
+pub turned : (t : Top) (ts : List Top) → reverse (t ∷ ts) ≡ reverse ts ++ t ∷ []
 turned t ts = reverse-append (t ∷ []) ts
 
 in_last : (t u : Top) (ts : List Top) → In u ts ⊎ (t ≡ u) → In u (ts ++ t ∷ [])
@@ -83,24 +84,24 @@ last_in t u [] (inr i) = absurd i
 last_in t u (v ∷ ts) (inl is) = inl (inl is)
 last_in t u (v ∷ ts) (inr i) = ⊎_elim (λ j. inl (inr j)) (λ is. inr is) (last_in t u ts i)
 
-to_reverse : (u : Top) (ts : List Top) → In u ts → In u (reverse ts)
+pub to_reverse : (u : Top) (ts : List Top) → In u ts → In u (reverse ts)
 to_reverse u [] i = absurd i
 to_reverse u (t ∷ ts) i = subst (In u) (sym (turned t ts)) (in_last t u (reverse ts) (⊎_elim (λ is. inr is) (λ j. inl (to_reverse u ts j)) i))
 
-from_reverse : (u : Top) (ts : List Top) → In u (reverse ts) → In u ts
+pub from_reverse : (u : Top) (ts : List Top) → In u (reverse ts) → In u ts
 from_reverse u [] i = absurd i
 from_reverse u (t ∷ ts) i = ⊎_elim (λ j. inr (from_reverse u ts j)) (λ is. inl is) (last_in t u (reverse ts) (subst (In u) (turned t ts) i))
 
-all_of : (P : Top → Type 0) (ts : List Top) → ((t : Top) → In t ts → P t) → AllByRecursion P ts
+pub all_of : (P : Top → Type 0) (ts : List Top) → ((t : Top) → In t ts → P t) → AllByRecursion P ts
 all_of P [] f = tt
 all_of P (t ∷ ts) f = (f t (inl refl), all_of P ts (λ u i. f u (inr i)))
 
-reversed_rises : (ts : List Top) → AreNewestFirst ts → Rise (reverse ts)
+pub reversed_rises : (ts : List Top) → AreNewestFirst ts → Rise (reverse ts)
 reversed_rises [] w = tt
 reversed_rises (t ∷ ts) w = subst Rise (sym (turned t ts)) (rise_last (reverse ts) t (reversed_rises ts w.1) (all_of (λ (u : Top). u.at < t.at) (reverse ts) (λ u i. all_at (λ (v : Top). v.at < t.at) ts w.0 u (from_reverse u ts i))))
 
 -- lists of the same tops, by place, are one
-one_list : (ts us : List Top) → Rise ts → Rise us → ((t : Top) → In t ts → In t us) → ((t : Top) → In t us → In t ts) → ts ≡ us
+pub one_list : (ts us : List Top) → Rise ts → Rise us → ((t : Top) → In t ts → In t us) → ((t : Top) → In t us → In t ts) → ts ≡ us
 one_list [] [] w v f g = refl
 one_list [] (u ∷ us) w v f g = absurd (g u (inl refl))
 one_list (t ∷ ts) [] w v f g = absurd (f t (inl refl))
@@ -120,37 +121,41 @@ one_list (t ∷ ts) (u ∷ us) w v f g = (λ i. first i ∷ one_list ts us w.1 v
 
 -- ---- the serial order
 
-module _ (header : Header) (lines : List Line) (right : AreRight new_book lines) (x : ℕ) (counts : Top → Bool) (those : List Top) (h : HaveTurns header lines x counts those) where
-  abbrev less : Top → Top → Bool
+module _ (lines : List Line) (right : AreRight new_book lines) where
+  abbrev pub less : Top → Top → Bool
   less t u = lex (serial_key (tops lines) t.id) (serial_key (tops lines) u.id)
 
   key_is : (t : Top) → In t (tops lines) → serial_key (tops lines) t.id ≡ unit_place (tops lines) t.root ∷ t.at ∷ []
   key_is t i = let a = let l = listed lines right in l.apart in (λ k. unit_place (tops lines) (root_of_top (tops lines) t a i k) ∷ place_of_top (tops lines) t a i k ∷ [])
 
   -- one whose commit was called later isn't less
-  stays : (u t : Top) → In u (tops lines) → In t (tops lines) → IsInTurn lines u t → u.at < t.at → less t u ≡ false
+  pub stays : (u t : Top) → In u (tops lines) → In t (tops lines) → IsInTurn lines u t → u.at < t.at → less t u ≡ false
   stays u t i j turn called = lex_turn (serial_key (tops lines) u.id) (serial_key (tops lines) t.id) ((λ k. lex (key_is u i k) (key_is t j k)) ∙ by turn)
     where
       by : IsInTurn lines u t → lex (unit_place (tops lines) u.root ∷ u.at ∷ []) (unit_place (tops lines) t.root ∷ t.at ∷ []) ≡ true
       by (inl same) = lex_second (unit_place (tops lines) u.root) (unit_place (tops lines) t.root) u.at t.at (ap (unit_place (tops lines)) same) called
       by (inr before) = let l = unit_behind (tops lines) t j in lex_first (unit_place (tops lines) u.root) (unit_place (tops lines) t.root) u.at t.at (omega (arith, before, l))
 
-  pairs : (ts : List Top) → ((t : Top) → In t ts → In t (tops lines)) → Rise ts → Pairwise (λ (u t : Top). counts u ≡ true → counts t ≡ true → less t u ≡ false) ts
-  pairs [] f w = tt
-  pairs (u ∷ ts) f w = (
-    all_of (λ (t : Top). counts u ≡ true → counts t ≡ true → less t u ≡ false) ts (λ t i cu ct.
-        let iu = f u (inl refl) in
-        let it = f t (inr i) in
-        let called = all_at (λ (b : Top). u.at < b.at) ts w.0 t i in
-        stays u t iu it (h.turns u t (h.all u (in_to u (tops lines) iu) cu) (h.all t (in_to t (tops lines) it) ct) called) called),
-    pairs ts (λ t i. f t (inr i)) w.1,
-  )
+  -- Of tops that had their turns one after another the serial order is that of their commit calls.
+  module _ (counts : Top → Bool) (turns : (u t : Top) → In u (tops lines) → In t (tops lines) → counts u ≡ true → counts t ≡ true → u.at < t.at → IsInTurn lines u t) where
+    pairs : (ts : List Top) → ((t : Top) → In t ts → In t (tops lines)) → Rise ts → Pairwise (λ (u t : Top). counts u ≡ true → counts t ≡ true → less t u ≡ false) ts
+    pairs [] f w = tt
+    pairs (u ∷ ts) f w = (
+      all_of (λ (t : Top). counts u ≡ true → counts t ≡ true → less t u ≡ false) ts (λ t i cu ct. let called = all_at (λ (b : Top). u.at < b.at) ts w.0 t i in stays u t (f u (inl refl)) (f t (inr i)) (turns u t (f u (inl refl)) (f t (inr i)) cu ct called) called),
+      pairs ts (λ t i. f t (inr i)) w.1,
+    )
 
-  counting : filter counts (tops lines) ≡ reverse those
-  counting = one_list (filter counts (tops lines)) (reverse those) (rises_kept counts (tops lines) (tops_rise lines)) (reversed_rises those h.called)
-      (λ t i. let f = in_filter counts t (tops lines) i in to_reverse t those (in_from t those (h.all t (in_to t (tops lines) f.0) f.1)))
-      (λ t i. let l = h.listed t (in_to t those (from_reverse t those i)) in to_filter counts t (tops lines) (in_from t (tops lines) l.0) l.1)
+    pub in_call_order : filter counts (serial_tops lines) ≡ filter counts (tops lines)
+    in_call_order = filter_arrange counts less (tops lines) (pairs (tops lines) (λ t i. i) (tops_rise lines))
 
+-- tops that count, the newest first, are all that do
+module _ (lines : List Line) (counts : Top → Bool) (those : List Top) (called : AreNewestFirst those) (there : (t : Top) → Contains those t → Contains (tops lines) t × (counts t ≡ true)) (every : (t : Top) → Contains (tops lines) t → counts t ≡ true → Contains those t) where
+  pub counting : filter counts (tops lines) ≡ reverse those
+  counting = one_list (filter counts (tops lines)) (reverse those) (rises_kept counts (tops lines) (tops_rise lines)) (reversed_rises those called)
+      (λ t i. let f = in_filter counts t (tops lines) i in to_reverse t those (in_from t those (every t (in_to t (tops lines) f.0) f.1)))
+      (λ t i. let l = there t (in_to t those (from_reverse t those i)) in to_filter counts t (tops lines) (in_from t (tops lines) l.0) l.1)
+
+module _ (header : Header) (lines : List Line) (right : AreRight new_book lines) (x : ℕ) (counts : Top → Bool) (those : List Top) (h : HaveTurns header lines x counts those) where
   all_counted : filter counts (reverse those) ≡ reverse those
   all_counted = keep (reverse those) (λ t i. let l = h.listed t (in_to t those (from_reverse t those i)) in l.1)
     where
@@ -160,7 +165,7 @@ module _ (header : Header) (lines : List Line) (right : AreRight new_book lines)
 
   pub in_decided_order : AreDecidedInOrder header lines x counts (reverse those)
   in_decided_order = record {
-    order = filter_arrange counts less (tops lines) (pairs (tops lines) (λ t i. i) (tops_rise lines)) ∙ counting ∙ sym all_counted;
+    order = in_call_order lines right counts (λ u t iu it cu ct called. h.turns u t (h.all u (in_to u (tops lines) iu) cu) (h.all t (in_to t (tops lines) it) ct) called) ∙ counting lines counts those h.called h.listed h.all ∙ sym all_counted;
     idle = h.idle;
   }
 
