@@ -43,8 +43,7 @@ use Rattle.arj_serial_law.proofs.Order.{IsShown, IsTopOf, before_top, called_fir
 use Rattle.arj_serial_law.proofs.Ties.{Tie, tie_of}
 use Rattle.arj_serial_law.proofs.Turning.{one_call}
 use Rattle.arj_disk_run_law.specs.Decided.{AreOnce}
-use Rattle.arj_joint_law.specs.Includers.{IsCalledBefore}
-use Rattle.arj_joint_law.specs.Ordered.{AreTurnsOf}
+use Rattle.arj_joint_law.specs.Ordered.{AreTurnsOf, IsCalledBefore}
 use Rattle.arj_joint_law.specs.Writers.{DecidedWritersStand, IsWriter, WritersAreCalledFirst, WritersAreNewestFirst}
 
 -- ---- the front of a journal

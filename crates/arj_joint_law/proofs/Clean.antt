@@ -431,7 +431,7 @@ module _ (hd : Header) (es : List Asked) (joined : (x : ℕ) → is_some (object
   serial = locked_runs_are_serial hd es (λ x called. let h = joined x (object_some hd x (runs_call_objects hd es x called)) in let j = h.holds in record { sent = h.sent; stands = h.stands; holds = (j.begun, j.alike, (λ f a. let z = j.seen f a in (z.0, z.1, z.2)), j.requests) })
 
 abbrev pub held_in : (hd : Header) (es : List Asked) → ((x : ℕ) → is_some (object_line hd x) ≡ true → Holds hd (IsJoinedSo hd x) (run_all es (format hd))) → Held hd es
-held_in hd es joined x there = let h = joined x there in record { sent = h.sent; stands = h.stands; holds = (let j = h.holds in record { ordered = j.ordered; includers = j.includers }) }
+held_in hd es joined x there = let h = joined x there in record { sent = h.sent; stands = h.stands; holds = (let j = h.holds in record { ordered = j.ordered; includers = j.includers; lights = j.lights }) }
 
 pub decides_in : (hd : Header) (es : List Asked) (joined : (x : ℕ) → is_some (object_line hd x) ≡ true → Holds hd (IsJoinedSo hd x) (run_all es (format hd))) → ((x : ℕ) → is_some (object_line hd x) ≡ true → DecideSo hd x es) → Decides hd es (held_in hd es joined)
 decides_in hd es joined decide x there =

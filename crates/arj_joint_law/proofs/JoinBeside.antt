@@ -79,7 +79,7 @@ module _ (hd : Header) (x : ℕ) (R : World → Seen → Type 0) (P : Kinds → 
 
   -- so they are where nobody is newly decided
   abbrev pub WhereNone : Type 0
-  WhereNone = (tops : Kinds) (A : Office) (M : Seen) → T.kept tops A M → Ups tops A M none M
+  WhereNone = (tops : Kinds) (A : Office) (M : Seen) → SeesBoth x tops A M → P tops A M → R A.world M → T.kept tops A M → Ups tops A M none M
 
   -- and where one that waits for naming may be, by a message
   abbrev pub WhereHeard : Type 0
@@ -100,12 +100,12 @@ module _ (hd : Header) (x : ℕ) (R : World → Seen → Type 0) (P : Kinds → 
 
   -- a step keeps it
   abbrev pub StepsKeep : Type 1
-  StepsKeep = (tops : Kinds) (D : Office → Type 0) (C Cand : Uid → Type 0) (A : Office) (M : Seen) → SeesBoth x tops A M → Goes x D C Cand A M → T.kept tops A M → ((u : Uid) → C u → T.waits tops A M Cand u)
+  StepsKeep = (tops : Kinds) (D : Office → Type 0) (C Cand : Uid → Type 0) (A : Office) (M : Seen) → SeesBoth x tops A M → P tops A M → R A.world M → Goes x D C Cand A M → T.kept tops A M → ((u : Uid) → C u → T.waits tops A M Cand u)
       → (B : Office) → D B → (Z : Seen) → SeesBoth x tops B Z → P tops B Z → IsStep M Z → Ups tops A M Cand Z → AreRecordedBy C M Z → T.kept tops B Z
 
   -- nothing is decided yet
   abbrev pub WhereFirst : Type 0
-  WhereFirst = (tops : Kinds) (A : Office) → (let W = A.world in let S = W.disk in S.tops) ≡ [] → T.kept tops A (see [] (format hd))
+  WhereFirst = (tops : Kinds) (A : Office) → SeesBoth x tops A (see [] (format hd)) → (let W = A.world in let S = W.disk in S.tops) ≡ [] → T.kept tops A (see [] (format hd))
 
 -- ---- each handler
 
@@ -118,12 +118,12 @@ module _ (hd : Header) (x : ℕ) (R : World → Seen → Type 0) (P : Kinds → 
   abbrev OfEach : Kinds → (Office → Type 0) → (Kinds → Office → Seen → Type 0) → Seen → Type 0
   OfEach tops D O Z = (B : Office) → D B → SeesBoth x tops B Z → O tops B Z
 
-  module _ (tops : Kinds) (D : Office → Type 0) (C Cand : Uid → Type 0) (A : Office) (M : Seen) (both : SeesBoth x tops A M) (goes : Goes x D C Cand A M) (before : T.kept tops A M) (waiting : (u : Uid) → C u → T.waits tops A M Cand u) where
+  module _ (tops : Kinds) (D : Office → Type 0) (C Cand : Uid → Type 0) (A : Office) (M : Seen) (both : SeesBoth x tops A M) (part_now : P tops A M) (run : R A.world M) (goes : Goes x D C Cand A M) (before : T.kept tops A M) (waiting : (u : Uid) → C u → T.waits tops A M Cand u) where
     abbrev Y : Seen → Type 0
     Y = Ups hd x R P T tops A M Cand
 
     next : (Z : Seen) → OfEach tops D P Z → Y Z → AreRecordedBy C M Z → IsStep M Z → OfEach tops D Beside Z
-    next Z part ups recs step B into seen = let p = part B into seen in (p, steps_keep tops D C Cand A M both goes before waiting B into Z seen p step ups recs)
+    next Z part ups recs step B into seen = let p = part B into seen in (p, steps_keep tops D C Cand A M both part_now run goes before waiting B into Z seen p step ups recs)
 
     along : (e k : ℕ) (outs : List Effect) (v : Parts) (d : Disk) (N : Seen) → Walks (OfEach tops D P) e k outs (Up (OfEach tops D P) k v) d N → Walks Y e k outs (Up Y k v) d N
         → Walks (AreRecordedBy C M) e k outs (Up (AreRecordedBy C M) k v) d N → Walks (IsStep M) e k outs (Up (IsStep M) k v) d N → Walks (OfEach tops D Beside) e k outs (Up (OfEach tops D Beside) k v) d N
@@ -154,13 +154,13 @@ module _ (hd : Header) (x : ℕ) (R : World → Seen → Type 0) (P : Kinds → 
   pub beside_part : KeepsPart hd x R Beside
   beside_part = record {
     quiet = λ tops e bs M A walk quiet r both (part, before).
-        next tops (Changes Quietly A) none none A M both (quiet_goes tops none A M both) before (λ u off. absurd off) (said e bs M)
-        (parts.quiet tops e bs M A walk quiet r both part) (where_none tops A M before) (λ u c. inl (record { place = c.place; node = c.node; intent = c.intent; here = c.here; there = c.there })) (quiet_step e bs M);
+        next tops (Changes Quietly A) none none A M both part r (quiet_goes tops none A M both) before (λ u off. absurd off) (said e bs M)
+        (parts.quiet tops e bs M A walk quiet r both part) (where_none tops A M both part r before) (λ u c. inl (record { place = c.place; node = c.node; intent = c.intent; here = c.here; there = c.there })) (quiet_step e bs M);
     stop = λ tops e k d live M A walk r both (part, before).
         let M0 = at k d live M in
         let Y0 : Parts → Type 0 = λ t. AreAt (UsesSo (T.uses tops A M0 none)) t.coord in
-        next tops (Changes Quietly A) none none A M0 both (quiet_goes tops none A M0 both) before (λ u off. absurd off) (halted e k d M)
-        (parts.stop tops e k d live M A walk r both part) (ups_at Y0 k d None M (halted e k d M) (λ j. refl) (others_up Y0 k d live M (where_none tops A M0 before)) (λ t is. not_some refl is)) (recorded_at none M0 k d None M (halted e k d M) (λ i. refl) (others_then none k d live M) (here_then none k d live M)) (step_halted k d live M e d M (near_same M) (λ down. refl));
+        next tops (Changes Quietly A) none none A M0 both part r (quiet_goes tops none A M0 both) before (λ u off. absurd off) (halted e k d M)
+        (parts.stop tops e k d live M A walk r both part) (ups_at Y0 k d None M (halted e k d M) (λ j. refl) (others_up Y0 k d live M (where_none tops A M0 both part r before)) (λ t is. not_some refl is)) (recorded_at none M0 k d None M (halted e k d M) (λ i. refl) (others_then none k d live M) (here_then none k d live M)) (step_halted k d live M e d M (near_same M) (λ down. refl));
     message = λ tops e k d t v from m outs M A walk n r sent meant is of own both (part, before).
         let p = parts.message tops e k d t v from m outs M A walk n r sent meant is of own both part in
         let h = p.0 in
@@ -175,7 +175,7 @@ module _ (hd : Header) (x : ℕ) (R : World → Seen → Type 0) (P : Kinds → 
             office = h.office;
             only = h.only;
             both = h.both;
-            along = along tops (Changes o h.office) C C A M0 both
+            along = along tops (Changes o h.office) C C A M0 both part r
                 (record {
                   further = λ B c. further_answers A h.office B h.only (further_by o h.office B (whole tops h.office M0 h.both) c);
                   grown = λ B c. subst (λ W. IsGrown C W B.world) (let z = h.only in z.world) (grown_by C o h.office B (λ z keeps by. let w = who_decides x d t m z keeps by in (w.top, message_ends x d t w.top m (ap (λ y. ends_of y (uid_number w.top)) by ∙ eq-eqb (uid_number w.top) z w.number), w.number)) c);
@@ -198,12 +198,12 @@ module _ (hd : Header) (x : ℕ) (R : World → Seen → Type 0) (P : Kinds → 
         let Q0 : Uid → List Used → Type 0 = T.uses tops A M0 none in
         let Y0 : Parts → Type 0 = λ t. AreAt (UsesSo Q0) t.coord in
         let h0 : IsHere hd x R P T k d t M tops A = record { knows = n; both = both; part = part; run = r; before = before } in
-        let each : EachCommit Q0 M0 = where_none tops A M0 before in (
+        let each : EachCommit Q0 M0 = where_none tops A M0 both part r before in (
           record {
             office = h.office;
             only = h.only;
             both = h.both;
-            along = along tops (Changes Quietly h.office) C none A M0 both
+            along = along tops (Changes Quietly h.office) C none A M0 both part r
                 (calmly (Changes Quietly h.office) C A M0
                 (λ B c. further_answers A h.office B h.only (further_by Quietly h.office B (whole tops h.office M0 h.both) c))
                 (λ B c. subst (λ W. IsGrown none W B.world) (let z = h.only in z.world) (grown_by none Quietly h.office B (λ z keeps by. quietly z keeps by) c)))
@@ -219,8 +219,8 @@ module _ (hd : Header) (x : ℕ) (R : World → Seen → Type 0) (P : Kinds → 
         let M0 = up k d t M in
         let Q0 : Uid → List Used → Type 0 = T.uses tops A M0 none in
         let Y0 : Parts → Type 0 = λ t. AreAt (UsesSo Q0) t.coord in
-        let each : EachCommit Q0 M0 = where_none tops A M0 before in
-        along tops (Changes Quietly A) none none A M0 both (quiet_goes tops none A M0 both) before (λ u off. absurd off) e k did.outs (with_coord t did.part) d N
+        let each : EachCommit Q0 M0 = where_none tops A M0 both part r before in
+        along tops (Changes Quietly A) none none A M0 both part r (quiet_goes tops none A M0 both) before (λ u off. absurd off) e k did.outs (with_coord t did.part) d N
         (parts.begin tops e k d t l how parent M A walk n r new may free kind both part)
         (ups_walk Y0 k e (with_coord t did.part) (at_begins (UsesSo Q0) t.coord (mine k d t M Q0 each) l how parent) did.outs d N (others_up Y0 k d (Some t) M each))
         (records_walk none M0 k anyone e (with_coord t did.part) did.outs d N (others_then none k d (Some t) M) (tt, tt) (here_then none k d (Some t) M)) (step_walk k d (Some t) M e (with_coord t did.part) did.outs d N (given_near l how k M) (was_up t) (was_up t));
@@ -232,8 +232,8 @@ module _ (hd : Header) (x : ℕ) (R : World → Seen → Type 0) (P : Kinds → 
         let Q0 : Uid → List Used → Type 0 = T.uses tops A M0 none in
         let Y0 : Parts → Type 0 = λ t. AreAt (UsesSo Q0) t.coord in
         let h0 : IsHere hd x R P T k d t M tops A = record { knows = n; both = both; part = part; run = r; before = before } in
-        let each : EachCommit Q0 M0 = where_none tops A M0 before in
-        along tops (Changes Quietly A) C none A M0 both (quiet_goes tops C A M0 both) before (where_waits k d t M tops A h0 none each) e k outs v d M
+        let each : EachCommit Q0 M0 = where_none tops A M0 both part r before in
+        along tops (Changes Quietly A) C none A M0 both part r (quiet_goes tops C A M0 both) before (where_waits k d t M tops A h0 none each) e k outs v d M
         (parts.tick tops e k d t M A walk n r both part)
         (ups_walk Y0 k e v (at_again (UsesSo Q0) t.coord.doings t.coord (mine k d t M Q0 each)) outs d M (others_up Y0 k d (Some t) M each))
         (records_walk C M0 k anyone e v outs d M (others_then C k d (Some t) M) (tick_puts anyone k d t (theirs tops k d t M n)) (here_then C k d (Some t) M)) (step_walk k d (Some t) M e v outs d M (near_same M) (was_up t) (was_up t));
@@ -245,7 +245,7 @@ module _ (hd : Header) (x : ℕ) (R : World → Seen → Type 0) (P : Kinds → 
         let Q0 : Uid → List Used → Type 0 = T.uses tops A M0 Cand in
         let Y0 : Parts → Type 0 = λ t. AreAt (UsesSo Q0) t.coord in
         let each : EachCommit Q0 M0 = where_found k d M tops A both part r before in
-        along tops (OnlyFound (are_recorded d.intents) A) none Cand A M0 both
+        along tops (OnlyFound (are_recorded d.intents) A) none Cand A M0 both part r
         (record {
           further = λ B c. further_found (are_recorded d.intents) A B (whole tops A M0 both) c;
           grown = λ B c. along_grown Cand (are_recorded d.intents) A.world B.world (λ z on undone. let w = recorded_in d.intents z on in (w.0, (w.1, w.2, ap (λ y. decided A.world.disk y) w.3 ∙ undone), w.3)) c.along;
@@ -256,7 +256,7 @@ module _ (hd : Header) (x : ℕ) (R : World → Seen → Type 0) (P : Kinds → 
         (parts.restart tops e k d M A walk r both part)
         (ups_walk Y0 k e v (none_at (UsesSo Q0) k (d.inc + 1) d) outs d M (others_up Y0 k d None M each))
         (records_walk none M0 k anyone e v outs d M (others_then none k d None M) (plainly none anyone outs (restart_plain [] hd k d)) (here_then none k d None M)) (step_walk k d None M e v outs d M (near_same M) (λ down. restart_plain [] hd k d) (λ down. refl));
-    first = λ tops walk kinds. let f = parts.first tops walk kinds in (f.0, f.1, (f.2, where_first tops f.0 f.3), f.3, f.4);
+    first = λ tops walk kinds. let f = parts.first tops walk kinds in (f.0, f.1, (f.2, where_first tops f.0 f.1 f.3), f.3, f.4);
   }
     where
       other : (i : Input) → is_act i ≡ true → (l : Label) (how : Kind) (parent : Option Label) → i ≢ input.Begin l how parent

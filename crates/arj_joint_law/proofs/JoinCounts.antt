@@ -1,5 +1,5 @@
--- Whoever is decided and counts, and didn't write, includes a store, and who doesn't count has taken no Yes: each effect of the disk machine
--- keeps it.
+-- Whoever is decided and counts, and didn't write, includes a store, and who doesn't count has taken no Yes and was confirmed as one that changes
+-- nothing: each effect of the disk machine keeps it.
 use Rattle.std.proofs.Common.{◌≡◌, ◌==◌, ◌&&◌, ◌||◌, ◌∙◌, ℕ, Bool, true, false, not, List, [], ◌∷◌, ap, inl, refl, subst, sym, ⊎_elim}
 use Rattle.arj_disk_law.specs.Effects
 use Rattle.arj_disk_law.specs.Effects.{Allowed, Effect, Follows, Whole, World, after, done_of, run}
@@ -8,26 +8,30 @@ use Rattle.arj_disk_law.specs.Names.{Office}
 use Rattle.arj_disk_law.specs.State.{Done, is_open, undecided}
 use Rattle.arj_disk_law.specs.Words as disk
 use Rattle.arj_disk_law.specs.Words.{In}
+use Rattle.arj_disk_law.proofs.Base.{or_left, put_cases}
 use Rattle.arj_disk_law.proofs.Keeps.{effect_keeps}
 use Rattle.arj_disk_view_law.specs.Sees.{Along}
 use Rattle.arj_names_view_law.specs.Handlers.{Answering, Change, Changes, Deciding, Quietly}
 use Rattle.arj_disk_run_law.proofs.Decisions.{Goes, goes_along}
 use Rattle.arj_disk_line_law.proofs.Tying.{goes_by}
 use Rattle.arj_joint_law.specs.MarkedTops.{AreJoiners}
-use Rattle.arj_joint_law.specs.Ordered.{AreStill}
+use Rattle.arj_joint_law.specs.Ordered.{AreDim, AreStill}
 use Rattle.arj_joint_law.proofs.Ending.{Ends, ends_along, ends_by, ends_of}
 
 abbrev Joins : World → Type 0
-Joins W = AreJoiners W.disk.tops × AreStill W.disk.tops
+Joins W = AreJoiners W.disk.tops × AreStill W.disk.tops × AreDim W.disk
 
 effect_joins : (W : World) (e : Effect) → Allowed W e → Whole W → Joins W → Joins (after W e)
-effect_joins W (Effects.Decide t) can whole (joins, still) = (
+effect_joins W (Effects.Decide t) can whole (joins, still, dim) = (
   λ d i counts plain. ⊎_elim
       (λ (same : done_of W.disk t ≡ d). subst (λ (z : Done). (s : ℕ) × (disk.has s z.plan.joins ≡ true)) same (whole.core.covered.plain t (conf (ap (λ (z : Done). z.counts) same ∙ counts)) open_yet (ap (λ (z : Done). z.plan.writes) same ∙ plain)).0)
       (λ (old : In d W.disk.tops). joins d old counts plain) i,
   λ d i light s. ⊎_elim
       (λ (same : done_of W.disk t ≡ d). subst (λ (z : Done). z.got s ≡ false) same (whole.core.light.none t s (turn (W.disk.light t) (ap (λ (z : Done). z.counts) same ∙ light))))
       (λ (old : In d W.disk.tops). still d old light s) i,
+  λ d i light. ⊎_elim
+      (λ (same : done_of W.disk t ≡ d). subst (λ (z : Done). W.disk.light z.top ≡ true) same (turn (W.disk.light t) (ap (λ (z : Done). z.counts) same ∙ light)))
+      (λ (old : In d W.disk.tops). dim d old light) i,
 )
   where
     next : Whole (after W (Effects.Decide t))
@@ -58,7 +62,11 @@ effect_joins W (Effects.Move s h) can whole joins = joins
 effect_joins W (Effects.Finish s h) can whole joins = joins
 effect_joins W (Effects.Drop s h) can whole joins = joins
 effect_joins W (Effects.Agree t) can whole joins = joins
-effect_joins W (Effects.Pass t) can whole joins = joins
+effect_joins W (Effects.Pass t) can whole (joins, still, dim) = (
+  joins,
+  still,
+  λ d i light. put_cases (λ b. b ≡ true) t (W.disk.light t || undecided W.disk t) W.disk.light d.top (λ same. or_left (W.disk.light t) (undecided W.disk t) (ap W.disk.light (sym same) ∙ dim d i light)) (λ other. dim d i light),
+)
 effect_joins W (Effects.Enter t) can whole joins = joins
 effect_joins W (Effects.MoveEntry h) can whole joins = joins
 effect_joins W (Effects.FinishEntry h) can whole joins = joins
@@ -82,6 +90,6 @@ pub goes_on_by : (o : Change) (A B : Office) → Whole A.world → Changes o A B
 goes_on_by o A B whole c = (goes_by o A B whole c, joins_by o c, ends_by o A B whole c)
   where
     joins_by : (q : Change) → Changes q A B → Joins A.world → Joins B.world
-    joins_by Quietly z (joins, still) = (subst AreJoiners (sym z.tops) joins, subst AreStill (sym z.tops) still)
-    joins_by (Answering t r) z (joins, still) = (subst AreJoiners (sym (let q = z.0 in q.tops)) joins, subst AreStill (sym (let q = z.0 in q.tops)) still)
-    joins_by (Deciding t keeps) z (joins, still) = (goes_on_along (λ y. y == t) A.world B.world whole z.along).1 (joins, still)
+    joins_by Quietly z (joins, still, dim) = (subst AreJoiners (sym z.tops) joins, subst AreStill (sym z.tops) still, λ d i light. (let o = z.onward in o.light d.top (dim d (subst (In d) z.tops i) light)))
+    joins_by (Answering t r) z (joins, still, dim) = (subst AreJoiners (sym (let q = z.0 in q.tops)) joins, subst AreStill (sym (let q = z.0 in q.tops)) still, λ d i light. (let q = z.0 in let o = q.onward in o.light d.top (dim d (subst (In d) q.tops i) light)))
+    joins_by (Deciding t keeps) z joins = (goes_on_along (λ y. y == t) A.world B.world whole z.along).1 joins

@@ -36,7 +36,7 @@ use Rattle.arj_joint_law.proofs.MarkRuns.{own_doing}
 use Rattle.arj_joint_law.proofs.JoinUses.{UsesSo}
 use Rattle.arj_joint_law.proofs.Recording.{IsConfirming}
 use Rattle.arj_joint_law.proofs.JoinBeside.{Keeping, StepsKeep, WhereCalled, WhereFirst, WhereFound, WhereHeard, WhereNone, WhereWaits, beside_part}
-use Rattle.arj_joint_law.proofs.JoinNodes.{coord_seen, found_opened, here, machine_there, none_at, opened, records_of, sees, uncalled}
+use Rattle.arj_joint_law.proofs.JoinNodes.{IsFound, coord_seen, found_opened, here, machine_there, none_at, opened, records_of, sees, uncalled}
 
 -- what is kept
 abbrev pub Turning : ℕ → Keeping
@@ -52,7 +52,7 @@ module _ (x k : ℕ) (d : Disk) (t : Parts) (M : Seen) (tops : Kinds) (A : Offic
   abbrev S : State
   S = A.world.disk
 
-  plan_seen : SeesPlan x tops w (Confirming c.plan) A
+  pub plan_seen : SeesPlan x tops w (Confirming c.plan) A
   plan_seen = let h = heard_so.coords k (record { number = k; disk = d; live = Some t }) t (here x k d t M tops A knows both kept) refl in h.plans w c.doing (Confirming c.plan) c.works c.now
 
   its_machine : KnowsMachine tops t.coord w (Confirming c.plan)
@@ -65,7 +65,7 @@ module _ (x k : ℕ) (d : Disk) (t : Parts) (M : Seen) (tops : Kinds) (A : Offic
   its_coord = coord_seen x k d t M tops A knows both kept
 
   -- of its root no other commit is under way
-  alone : (j : ℕ) (n : Node) (v : Parts) → (up k d t M).nodes j ≡ Some n → n.live ≡ Some v → (u : Uid) (q : Doing) (m : Machine) → doing_of u v.coord ≡ Some q → q.now ≡ Committing m → u ≢ w → S.root (uid_number u) ≡ S.root (uid_number w) → ⊥
+  pub alone : (j : ℕ) (n : Node) (v : Parts) → (up k d t M).nodes j ≡ Some n → n.live ≡ Some v → (u : Uid) (q : Doing) (m : Machine) → doing_of u v.coord ≡ Some q → q.now ≡ Committing m → u ≢ w → S.root (uid_number u) ≡ S.root (uid_number w) → ⊥
   alone j n v at live u q m works now apart same = apart (by here_is)
     where
       kinds : KnowsKinds tops
@@ -113,14 +113,35 @@ module _ (x k : ℕ) (d : Disk) (t : Parts) (M : Seen) (tops : Kinds) (A : Offic
               ∙ number_tells (root_of (let y = a.branch in y.path)) (root_of (let y = b.branch in y.path)) (sym (z.root w a.branch a.found a.top) ∙ sym roots ∙ z.root u b.branch b.found b.top)
               ∙ ap root_of b.path
 
+-- ---- a node that restarts
+
+module _ (x k : ℕ) (d : Disk) (M : Seen) (tops : Kinds) (A : Office) (both : SeesBoth x tops A (down k d M)) where
+  -- of a top with a record there no commit of its root is under way
+  pub of_others : SeesHeard x tops A (down k d M) → (w : Uid) → IsFound d A w → A.world.disk.begun (uid_number w) ≡ true
+      → (j : ℕ) (n : Node) (v : Parts) → (down k d M).nodes j ≡ Some n → n.live ≡ Some v → (u : Uid) (q : Doing) (m : Machine) → doing_of u v.coord ≡ Some q → q.now ≡ Committing m → A.world.disk.root (uid_number u) ≡ A.world.disk.root (uid_number w) → ⊥
+  of_others heard_so w found begun j n v at_node live u q m works now same =
+      let kinds = heard_so.kinds in
+      let u_top : tops.is_top (uid_number u) ≡ true = (let h = heard_so.coords j n v at_node live in let p = h.plans u q m works now in p.top) in
+      let s = records_of x k d M tops A both in
+      let b = both.disks in
+      let w_top : tops.is_top (uid_number w) ≡ true = (b.kinds (uid_number w) begun).0 in
+      let f = b.fixed in
+      let roots : tops.root (uid_number u) ≡ tops.root (uid_number w) = ap (λ r. r (uid_number u)) (sym f.root) ∙ same ∙ ap (λ r. r (uid_number w)) f.root in
+      let r = kinds.rooted u u_top in
+      let c = b.coords j n v at_node live in
+      let home : u.node ≡ v.coord.tree.node = eqb-true u.node v.coord.tree.node (and_parts (u.node == v.coord.tree.node) (u.inc == v.coord.tree.inc) (own_doing u v.coord q works)).0 in
+      let at_k : j ≡ k = sym (home ∙ c.node) ∙ (kinds.own u r.0 u_top r.1).0 ∙ sym (kinds.own w r.0 w_top (sym roots ∙ r.1)).0 ∙ s.own w found.0 (in_at (w, found.0) d.intents s.sorted found.1) in
+      let one : record { number = k; disk = d; live = None } ≡ n = some_is (node_here M k (record { number = k; disk = d; live = None })) (ap (λ i. (down k d M).nodes i) (sym at_k) ∙ at_node) in
+      not_some (ap (λ (z : Node). z.live) (sym one)) live
+
 -- ---- each handler
 
 module _ (hd : Header) (x : ℕ) (R : World → Seen → Type 0) (P : Kinds → Office → Seen → Type 0) (known : (W : World) (M : Seen) → R W M → IsKept M) (heard_of : (tops : Kinds) (A : Office) (M : Seen) → P tops A M → SeesHeard x tops A M) (decides : (tops : Kinds) (A : Office) (M : Seen) → P tops A M → SeesDecided tops A M)
     (parts : KeepsPart hd x R P) where
   -- where nobody is newly decided
   either_none : WhereNone hd x R P (Turning x)
-  either_none tops A M turns j n t at_node live u q m works now w (inl counted) apart = let y = turns.works in y j n t at_node live u q m works now w counted apart
-  either_none tops A M turns j n t at_node live u q m works now w (inr fresh) apart = absurd fresh.0
+  either_none tops A M both part r turns j n t at_node live u q m works now w (inl counted) apart = let y = turns.works in y j n t at_node live u q m works now w counted apart
+  either_none tops A M both part r turns j n t at_node live u q m works now w (inr fresh) apart = absurd fresh.0
 
   either_message : WhereHeard hd x R P (Turning x)
   either_message k d t M tops A h j a v at_node live u q m works now w (inl counted) apart = let turns = h.before in let y = turns.works in y j a v at_node live u q m works now w counted apart
@@ -132,26 +153,10 @@ module _ (hd : Header) (x : ℕ) (R : World → Seen → Type 0) (P : Kinds → 
   either_restart : WhereFound hd x R P (Turning x)
   either_restart k d M tops A both part r turns j n v at_node live u q m works now w (inl counted) apart = let y = turns.works in y j n v at_node live u q m works now w counted apart
   either_restart k d M tops A both part r turns j n v at_node live u q m works now w (inr fresh) apart =
-      fine x tops A (down k d M) both M.lines w fresh.1 (found_opened x k d M tops A both w fresh.0) heard_so (known A.world (down k d M) r).0 j n v at_node live u q m works now apart (λ same idle. elsewhere same)
+      fine x tops A (down k d M) both M.lines w fresh.1 (found_opened x k d M tops A both w fresh.0) heard_so (known A.world (down k d M) r).0 j n v at_node live u q m works now apart (λ same idle. of_others x k d M tops A both heard_so w fresh.0 (let y = both.disks in let z = y.whole in let c = z.core in let f = c.fresh in f.conf (uid_number w) fresh.1) j n v at_node live u q m works now same)
     where
       heard_so : SeesHeard x tops A (down k d M)
       heard_so = heard_of tops A (down k d M) part
-
-      elsewhere : A.world.disk.root (uid_number u) ≡ A.world.disk.root (uid_number w) → ⊥
-      elsewhere same =
-          let kinds = heard_so.kinds in
-          let u_top : tops.is_top (uid_number u) ≡ true = (let h = heard_so.coords j n v at_node live in let p = h.plans u q m works now in p.top) in
-          let s = records_of x k d M tops A both in
-          let b = both.disks in
-          let w_top : tops.is_top (uid_number w) ≡ true = (b.kinds (uid_number w) (let y = b.whole in let z = y.core in let f = z.fresh in f.conf (uid_number w) fresh.1)).0 in
-          let f = b.fixed in
-          let roots : tops.root (uid_number u) ≡ tops.root (uid_number w) = ap (λ r. r (uid_number u)) (sym f.root) ∙ same ∙ ap (λ r. r (uid_number w)) f.root in
-          let r = kinds.rooted u u_top in
-          let c = b.coords j n v at_node live in
-          let home : u.node ≡ v.coord.tree.node = eqb-true u.node v.coord.tree.node (and_parts (u.node == v.coord.tree.node) (u.inc == v.coord.tree.inc) (own_doing u v.coord q works)).0 in
-          let at_k : j ≡ k = sym (home ∙ c.node) ∙ (kinds.own u r.0 u_top r.1).0 ∙ sym (kinds.own w r.0 w_top (sym roots ∙ r.1)).0 ∙ s.own w (fresh.0).0 (in_at (w, (fresh.0).0) d.intents s.sorted (fresh.0).1) in
-          let one : record { number = k; disk = d; live = None } ≡ n = some_is (node_here M k (record { number = k; disk = d; live = None })) (ap (λ i. (down k d M).nodes i) (sym at_k) ∙ at_node) in
-          not_some (ap (λ (z : Node). z.live) (sym one)) live
 
   starts : WhereCalled hd x R P (Turning x)
   starts k d t M tops A h i free l b same named w (inl (z, there, counts, top)) apart =
@@ -168,10 +173,10 @@ module _ (hd : Header) (x : ℕ) (R : World → Seen → Type 0) (P : Kinds → 
       kept = known A.world (up k d t M) h.run
 
   turn_steps : StepsKeep hd x R P (Turning x)
-  turn_steps tops D C Cand A M both goes before waiting B into Z seen p step ups recs = keeps x tops D C Cand A M both goes.further goes.grown goes.opened goes.cand before waiting B into Z seen (let d = decides tops B Z p in d.once) step ups recs
+  turn_steps tops D C Cand A M both part r goes before waiting B into Z seen p step ups recs = keeps x tops D C Cand A M both goes.further goes.grown goes.opened goes.cand before waiting B into Z seen (let d = decides tops B Z p in d.once) step ups recs
 
   nothing_yet : WhereFirst hd x R P (Turning x)
-  nothing_yet tops A empty = record {
+  nothing_yet tops A both empty = record {
     works = λ j n t at_node live. let same : parts_in j 1 (first_disk hd j) ≡ t = some_is refl (ap (λ (z : Node). z.live) (first_at hd j n at_node) ∙ live) in subst (λ (z : Parts). AreAgainst x A [] (IsCounted A) z) same (none_at (UsesSo (IsAgainst x A [] (IsCounted A))) j 1 (first_disk hd j));
     records = λ u r undone w (d, i, counts, top). absurd (subst (In d) empty i);
     turns = subst (IncludersTakeTurns []) (sym empty) tt;

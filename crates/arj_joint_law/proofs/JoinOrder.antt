@@ -16,7 +16,8 @@ use Rattle.arj_protocol.specs.Words.{Line}
 use Rattle.arj_serial_law.specs.Decided.{AreDecisions, IsDecision, Joined, Wrote, WroteSo}
 use Rattle.arj_serial_law.specs.Tied.{IsTied}
 use Rattle.arj_serial_law.proofs.Values.{to_filter}
-use Rattle.arj_joint_law.specs.Includers.{DecidedJoinersStand, IncludersTakeTurns, IncludesNone, IsCalledBefore, JoinersAreNewestFirst}
+use Rattle.arj_joint_law.specs.Includers.{DecidedJoinersStand, IncludersTakeTurns, IncludesNone, JoinersAreNewestFirst}
+use Rattle.arj_joint_law.specs.Ordered.{IsCalledBefore}
 use Rattle.arj_joint_law.proofs.Called.{IsOf, called_in_turn, its_top_of, there_before}
 
 -- ---- parts of these

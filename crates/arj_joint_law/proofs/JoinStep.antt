@@ -31,7 +31,8 @@ use Rattle.arj_disk_run_law.specs.Heard.{SeesPlan}
 use Rattle.arj_disk_run_law.proofs.Grows.{in_both, in_front}
 use Rattle.arj_disk_line_law.proofs.Steps.{IsStep}
 use Rattle.arj_lock_fact_law.proofs.CommitCoords.{AreAt}
-use Rattle.arj_joint_law.specs.Includers.{IncludersAreCalledFirst, IncludersTakeTurns, IncludesNone, IsCalledBefore}
+use Rattle.arj_joint_law.specs.Includers.{IncludersAreCalledFirst, IncludersTakeTurns, IncludesNone}
+use Rattle.arj_joint_law.specs.Ordered.{IsCalledBefore}
 use Rattle.arj_joint_law.specs.Joined.{IsRecordedAt}
 use Rattle.arj_joint_law.proofs.JoinFresh.{not_some, recorded_fine}
 use Rattle.arj_joint_law.proofs.JoinTurns.{IsFine, IsFurther, Settled, UsesNone, before_more, called_first, changes_nothing, counts_on_old, fine_later, includes_none, root_is_gone, settled_later}

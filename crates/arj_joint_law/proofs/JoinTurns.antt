@@ -15,9 +15,10 @@ use Rattle.arj_disk_view_law.specs.Sees.{IsLater}
 use Rattle.arj_disk_view_law.proofs.Later.{effects_are_later}
 use Rattle.arj_names_view_law.specs.Both.{GoesOnward, IsPassedNow, OnlyAnswers, OnlyDecided, OnlyFound, OnlyMemory}
 use Rattle.arj_names_view_law.specs.Handlers.{Answering, Change, Changes, Deciding, Quietly}
-use Rattle.arj_names_view_law.proofs.Onward.{goes_onward}
+use Rattle.arj_names_view_law.proofs.Onward.{goes_onward, none_passed}
 use Rattle.arj_disk_run_law.specs.Heard.{IsHadBy}
-use Rattle.arj_joint_law.specs.Includers.{IncludesNone, IsCalledBefore}
+use Rattle.arj_joint_law.specs.Includers.{IncludesNone}
+use Rattle.arj_joint_law.specs.Ordered.{IsCalledBefore}
 
 -- ---- what keeps it
 
@@ -45,8 +46,13 @@ IsFine x A lines w u used = Settled A lines w u ⊎ UsesNone x (A.world.disk.pla
 
 -- ---- it stays
 
+-- Who was confirmed as one that changes nothing was so before, or is so since, and nothing was decided.
+abbrev pub IsLitOn : World → Office → Type 0
+IsLitOn W B = (t : ℕ) → B.world.disk.light t ≡ true → (W.disk.light t ≡ true) ⊎ ((B.world.disk.tops ≡ W.disk.tops) × IsPassedNow W.disk B.world.disk B.names t)
+
 pub record IsFurther (A B : Office) : Type 0 where
   pub onward : GoesOnward A B
+  pub lit : IsLitOn A.world B
   pub had : (h i : ℕ) → A.names.had h i ≡ true → B.names.had h i ≡ true
   pub inc : A.names.inc ≤ B.names.inc
   pub later : IsLater A.world B.world
@@ -102,6 +108,7 @@ further_on A B C world had inc f = record {
     gone = λ t on. o.gone t (ap (λ (W : _). is_gone (W.disk.stage t)) (sym world) ∙ on);
     begins = λ t on. ⊎_elim (λ old. inl (ap (λ (W : _). W.disk.begun t) world ∙ old)) (λ there. inr (ap (λ (W : _). is_gone (W.disk.stage (W.disk.root t))) world ∙ there)) (o.begins t on);
   });
+  lit = subst (λ W. IsLitOn W C) (sym world) f.lit;
   had = λ h i on. f.had h i (had h i on);
   inc = (let l = f.inc in omega (arith, l, inc));
   later = subst (λ W. IsLater W C.world) (sym world) f.later;
@@ -111,11 +118,12 @@ pub further_answers : (A C B : Office) → OnlyAnswers A C → IsFurther C B →
 further_answers A C B o f = further_on A C B (sym o.world) o.grows (ap (λ (N : Names). N.inc) o.names) f
 
 pub further_memory : (A B : Office) → OnlyMemory A B → IsFurther A B
-further_memory A B o = record { onward = o.onward; had = λ h i on. ap (λ g. g h i) o.had ∙ on; inc = same_inc A.names.inc B.names.inc (sym o.inc); later = o.later }
+further_memory A B o = record { onward = o.onward; lit = λ t on. ⊎_elim (λ old. inl old) (λ n. inr (o.tops, n)) (let g = o.onward in g.passed t on); had = λ h i on. ap (λ g. g h i) o.had ∙ on; inc = same_inc A.names.inc B.names.inc (sym o.inc); later = o.later }
 
 pub further_decided : (g keeps : ℕ → Bool) (A B : Office) → Whole A.world → OnlyDecided g keeps A B → IsFurther A B
 further_decided g keeps A B whole o = record {
   onward = goes_onward (only_decides g) (λ z. refl) A B o.along;
+  lit = λ t on. inl (none_passed (only_decides g) t refl A.world B.world o.along on);
   had = (let r = o.only in r.grows);
   inc = same_inc A.names.inc B.names.inc (sym (let r = o.only in ap (λ (N : Names). N.inc) r.names));
   later = (let a = o.along in subst (IsLater A.world) a.here (effects_are_later A.world a.effects a.allowed whole));
@@ -124,6 +132,7 @@ further_decided g keeps A B whole o = record {
 pub further_found : (g : ℕ → Bool) (A B : Office) → Whole A.world → OnlyFound g A B → IsFurther A B
 further_found g A B whole o = record {
   onward = goes_onward (only_decides g) (λ z. refl) A B o.along;
+  lit = λ t on. inl (none_passed (only_decides g) t refl A.world B.world o.along on);
   had = (let r = o.only in r.grows);
   inc = o.inc;
   later = (let a = o.along in subst (IsLater A.world) a.here (effects_are_later A.world a.effects a.allowed whole));

@@ -4,8 +4,9 @@ use Rattle.arj_joint_law.specs.Joined.{IsCountedJoined, IsJoinedSo, IsKnownJoine
 use Rattle.arj_joint_law.proofs.NextGiven.{one_requests}
 use Rattle.arj_joint_law.specs.Includers.{IncludersTakeTurns}
 use Rattle.arj_joint_law.proofs.JoinKeeps.{WithTurns, turns_part}
+use Rattle.arj_joint_law.proofs.LightKeeps.{WithLights, lights_part}
 use Rattle.arj_joint_law.proofs.Joining.{HasLocks, WithLocks}
-use Rattle.arj_joint_law.proofs.OrderedRuns.{IsOrderedBeside, early, ordered_beside}
+use Rattle.arj_joint_law.proofs.OrderedRuns.{IsOrderedBeside, early, lights_split, ordered_beside}
 use Rattle.arj_disk_run_law.proofs.Copies.{copies_agree}
 use Rattle.arj_disk_run_law.specs.Part.{KeepsPart}
 use Rattle.arj_lock_whole_law.specs.Whole.{KnowsWhole}
@@ -45,19 +46,21 @@ runs_are_joined hd x test form there rest es short =
     Nothing f S M = ⊤
 
     Joined : Kinds → Office → Seen → Type 0
-    Joined tops A M = WithTurns x (WithLocks (first_values hd) x R Nothing (SeesInOrder x)) tops A M
+    Joined tops A M = WithLights x (WithTurns x (WithLocks (first_values hd) x R Nothing (SeesInOrder x))) tops A M
 
     paired : KeepsPart hd x (λ W M. IsKnownJoined M) (WithLocks (first_values hd) x R Nothing (SeesInOrder x))
     paired = part_more hd x (λ W M. IsKnownJoined M × ⊤) (λ W M. IsKnownJoined M) (WithLocks (first_values hd) x R Nothing (SeesInOrder x)) (λ W M q. (q, tt)) (locked hd x E form there rest (λ M. ⊤) Nothing (λ M N l f S T run past. tt) (λ f S. tt))
 
-    -- and each two of which one includes a store took turns
+    -- and each two of which one includes a store took turns; and so did those that change nothing
     part : KeepsPart hd x (λ W M. IsKnownJoined M) Joined
-    part = turns_part hd x (λ W M. IsKnownJoined M) (WithLocks (first_values hd) x R Nothing (SeesInOrder x)) (λ W M q. q.0.0.1) (λ tops A M p. p.0.0.0.0.0) (λ tops A M p. p.0.0.0.0.1) paired
+    part = lights_part hd x (λ W M. IsKnownJoined M) (WithTurns x (WithLocks (first_values hd) x R Nothing (SeesInOrder x))) (λ W M q. q.0.0.1) (λ tops A M p. p.0.0.0.0.0.0) (λ tops A M p. p.1)
+        (turns_part hd x (λ W M. IsKnownJoined M) (WithLocks (first_values hd) x R Nothing (SeesInOrder x)) (λ W M q. q.0.0.1) (λ tops A M p. p.0.0.0.0.0) (λ tops A M p. p.0.0.0.0.1) paired)
 
     joined : (sent : List Post) → IsOrderedBeside Joined hd x (see sent (run_all es (format hd))) → IsJoinedSo hd x (see sent (run_all es (format hd)))
     joined sent (o, tops, A, same, p, few) = record {
       ordered = o;
-      includers = subst (λ (W : World). IncludersTakeTurns M.lines W.disk.tops) same (let k = p.1 in k.turns);
+      includers = subst (λ (W : World). IncludersTakeTurns M.lines W.disk.tops) same (let k = p.0.1 in k.turns);
+      lights = lights_split hd x es sent o A same p.1;
       begun = locks.0;
       alike = locks.1;
       seen = (λ f a. let z = locks.3 f a in (z.0, z.1, z.2, z.3, z.4, z.6));
@@ -71,7 +74,7 @@ runs_are_joined hd x test form there rest es short =
         M = see sent (run_all es (format hd))
 
         locks : HasLocks (first_values hd) x R Nothing (world_of o) M
-        locks = subst (λ W. HasLocks (first_values hd) x R Nothing W M) same p.0.1
+        locks = subst (λ W. HasLocks (first_values hd) x R Nothing W M) same p.0.0.1
 
         right : AreRight new_book (let w = run_all es (format hd) in w.lines)
         right = let r = run_written hd es in let z = r.1 in z.right

@@ -135,7 +135,7 @@ module _ (hd : Header) (x : ℕ) (R : World → Seen → Type 0) (P : Kinds → 
   -- ---- each handler
 
   where_none : WhereNone hd x R P (Knowing x)
-  where_none tops A M before = before.works
+  where_none tops A M both part run before = before.works
 
   where_heard : WhereHeard hd x R P (Knowing x)
   where_heard k d t M tops A h = let b = h.before in b.works
@@ -150,10 +150,10 @@ module _ (hd : Header) (x : ℕ) (R : World → Seen → Type 0) (P : Kinds → 
   where_waits k d t M tops A h Cand each u c = waits k d t M tops A h each u c
 
   steps_keep : StepsKeep hd x R P (Knowing x)
-  steps_keep tops D C Cand A M both goes before waiting B into Z seen p step ups recs = known_next x tops D C Cand A M both goes before waiting B into Z seen (once tops B Z p) step ups recs
+  steps_keep tops D C Cand A M both part run goes before waiting B into Z seen p step ups recs = known_next x tops D C Cand A M both goes before waiting B into Z seen (once tops B Z p) step ups recs
 
   where_first : WhereFirst hd x R P (Knowing x)
-  where_first tops A empty = record {
+  where_first tops A both empty = record {
     works = λ j n t at_node live. let same : parts_in j 1 (first_disk hd j) ≡ t = some_is refl (ap (λ (z : Node). z.live) (first_at hd j n at_node) ∙ live) in
         subst (λ (z : Parts). AreAt (UsesSo (LoadedKnown x tops A (see [] (format hd)))) z.coord) same (none_at (UsesSo (LoadedKnown x tops A (see [] (format hd)))) j 1 (first_disk hd j));
     records = λ u r. absurd (subst (λ (n : Node). list.In {X = Uid × Intent} (u, r.intent) (let c = n.disk in c.intents)) (sym (first_at hd r.place r.node r.here)) r.there);

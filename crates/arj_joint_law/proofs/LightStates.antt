@@ -32,7 +32,8 @@ use Rattle.arj_disk_run_law.specs.Heard.{IsHadBy, SeesHeard, SeesPlan}
 use Rattle.arj_run_law.specs.Worlds.{IsGood, IsMemory, IsUp}
 use Rattle.arj_line_law.specs.Book.{book}
 use Rattle.arj_line_law.specs.Knows.{IsKept, KnowsUp}
-use Rattle.arj_joint_law.specs.Includers.{IsCalledBefore, IncludesNone}
+use Rattle.arj_joint_law.specs.Includers.{IncludesNone}
+use Rattle.arj_joint_law.specs.Ordered.{IsCalledBefore}
 use Rattle.arj_joint_law.specs.Joined.{IsRecordedAt}
 use Rattle.arj_joint_law.specs.Lights.{AreBefore, IsSplit}
 use Rattle.arj_joint_law.proofs.JoinFresh.{committing_there, not_ended, not_some, some_or_none}

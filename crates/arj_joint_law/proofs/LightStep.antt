@@ -8,7 +8,6 @@ use Rattle.arj_protocol.specs.Order.{uid_number}
 use Rattle.arj_protocol.specs.Step.{Node}
 use Rattle.arj_protocol.proofs.Numbers.{number_tells}
 use Rattle.arj_disk_law.specs.Core.{Core}
-use Rattle.arj_disk_law.specs.Effects.{World}
 use Rattle.arj_disk_law.specs.Guards.{IsPresent}
 use Rattle.arj_disk_law.specs.Names.{Office}
 use Rattle.arj_disk_law.specs.State.{Done, Packed, Plan, State, decided, decided_in, entry_in, is_open, undecided}
@@ -23,17 +22,13 @@ use Rattle.arj_disk_run_law.proofs.Grows.{called_later, in_both, in_front}
 use Rattle.arj_disk_line_law.proofs.Steps.{HasKept, IsStep}
 use Rattle.arj_line_law.specs.Book.{book}
 use Rattle.arj_line_law.specs.Knows.{IsKept}
-use Rattle.arj_joint_law.specs.Includers.{IsCalledBefore}
+use Rattle.arj_joint_law.specs.Ordered.{IsCalledBefore}
 use Rattle.arj_joint_law.specs.Joined.{IsRecordedAt}
 use Rattle.arj_joint_law.specs.Lights.{AddsNone, IsSplit}
 use Rattle.arj_joint_law.proofs.JoinStep.{EachUp, IsGrown, KeepTurns}
 use Rattle.arj_joint_law.proofs.JoinTurns.{IsFine, IsFurther, Settled, before_more, called_first, changes_nothing, counts_on_old, fine_later, had_later, includes_none, root_is_gone, settled_later}
 use Rattle.arj_joint_law.proofs.LightStates.{AreBeside, AreOfTwo, IsApart, IsPassed, IsPassing, KeepLights, passing_before, passing_called, passing_recorded, past, recorded_open}
 use Rattle.arj_joint_law.proofs.Recording.{AreRecordedBy}
-
--- Who was confirmed as one that changes nothing was so before, or is so since, and nothing was decided.
-abbrev pub IsLitOn : World → Office → Type 0
-IsLitOn W B = (t : ℕ) → B.world.disk.light t ≡ true → (W.disk.light t ≡ true) ⊎ ((B.world.disk.tops ≡ W.disk.tops) × IsPassedNow W.disk B.world.disk B.names t)
 
 -- It was confirmed so, or may be; and it is decided, or may be now, or the other one is of another root.
 abbrev pub IsWatched : (Uid → Type 0) → Office → Seen → Uid → Uid → Type 0
@@ -51,7 +46,7 @@ decided_out : (ds : List Done) (t : ℕ) → decided_in ds t ≡ true → (d : D
 decided_out [] t on = absurd (cc on)
 decided_out (e ∷ ds) t on = ⊎_elim (λ here. (e, inl refl, eqb-true e.top t here)) (λ there. let r = decided_out ds t there in (r.0, inr r.1, r.2)) (or_cases (e.top == t) (decided_in ds t) on)
 
-module _ (x : ℕ) (tops : Kinds) (D : Office → Type 0) (C Cand : Uid → Type 0) (A : Office) (M : Seen) (both : SeesBoth x tops A M) (heard : SeesHeard x tops A M) (kept : IsKept M) (turns : KeepTurns x A M) (further : (B : Office) → D B → IsFurther A B) (grown : (B : Office) → D B → IsGrown Cand A.world B.world) (lit : (B : Office) → D B → IsLitOn A.world B)
+module _ (x : ℕ) (tops : Kinds) (D : Office → Type 0) (C Cand : Uid → Type 0) (A : Office) (M : Seen) (both : SeesBoth x tops A M) (heard : SeesHeard x tops A M) (kept : IsKept M) (turns : KeepTurns x A M) (further : (B : Office) → D B → IsFurther A B) (grown : (B : Office) → D B → IsGrown Cand A.world B.world)
     (opened : (w : Uid) → Cand w → undecided A.world.disk (uid_number w) ≡ true) (cand : (w : Uid) → Cand w → IsRecordedAt M w ⊎ C w) (before : KeepLights x A M) (waiting : (u : Uid) → C u → (w : Uid) → IsWatched Cand A M w u → Settled A M.lines w u) where
   abbrev S : State
   S = A.world.disk
@@ -110,7 +105,7 @@ module _ (x : ℕ) (tops : Kinds) (D : Office → Type 0) (C Cand : Uid → Type
       present : IsPresent B.world.disk B.names (uid_number w)
 
     passed_before : (w : Uid) → IsPassed B Z w → IsPassed A M w ⊎ IsNew w
-    passed_before w p = by (lit B into (uid_number w) p.light)
+    passed_before w p = by (f.lit (uid_number w) p.light)
       where
         there : (m : Node) × (M.nodes w.node ≡ Some m) × HasKept m p.node
         there = step.nodes w.node p.node p.there

@@ -115,7 +115,7 @@ marked_later x W V M N later step right u p same = record {
 
 module _ (x : ℕ) (C : Uid → Type 0) (g : ℕ → Bool) (who : List ℕ → Type 0) (W : World) (M : Seen) (whose : (u : Uid) → g (uid_number u) ≡ true → IsRecordedAt M u ⊎ C u) (before : AreMarkedSo x W M) (waiting : (u : Uid) → C u → IsMarkedSo x W M u) (apart : (u : Uid) (p : IsMarkedSo x W M u) → who p.act.label → ⊥) where
   marked_then : (tops : Kinds) (V : World) (N : Seen) → GoesOn g W V → SeesDisks x tops V N → AreRecordedBy C M N → IsStep M N → MarkedFrom who M N → AreRight new_book N.lines → AreMarkedSo x V N
-  marked_then tops V N goes sees recs step from right = let kept = goes.1 (before.joiners, before.still) in record { decisions = decisions; records = records; bares = bares; joiners = kept.0; still = kept.1 }
+  marked_then tops V N goes sees recs step from right = let kept = goes.1 (before.joiners, before.still, before.dim) in record { decisions = decisions; records = records; bares = bares; joiners = kept.0; still = kept.1; dim = kept.2 }
     where
       later : (u : Uid) → IsMarkedSo x W M u → IsMarkedSo x V N u
       later u p = marked_later x W V M N goes.0.1 step right u p (λ s. ⊎_elim (λ same. same) (λ its. absurd (apart u p its)) (from p.act.label x s))
@@ -354,5 +354,6 @@ module _ (hd : Header) (x : ℕ) (K L : World → Seen → Type 0) (P : Kinds �
         bares = λ u on. absurd (never on (none_bare (uid_number u)));
         joiners = λ d i. absurd (subst (disk_list.In d) empty i);
         still = λ d i. absurd (subst (disk_list.In d) empty i);
+        dim = λ d i. absurd (subst (disk_list.In d) empty i);
         records = λ u r. absurd (subst (λ (n : Node). list.In {X = Uid × Intent} (u, r.intent) (let c = n.disk in c.intents)) (sym (first_at hd r.place r.node r.here)) r.there);
       }

@@ -40,7 +40,7 @@ use Rattle.arj_disk_line_law.proofs.Tying.{both_too, journalled_beside, one_act,
 use Rattle.arj_serial_law.specs.Cleaned.{BeginsSo}
 use Rattle.arj_disk_run_law.specs.Decided.{AreCalled, AreOnce}
 use Rattle.arj_joint_law.specs.Includers.{IncludersTakeTurns, RunsTakeTurns, TakesTurnsSo}
-use Rattle.arj_joint_law.specs.Ordered.{AreCountedOf, AreJoinedOf, AreLeftOf, AreRootedSo, AreSpared, AreStill, AreTurns, AreTurnsOf, AreUntouched, IsCalledFirst, IsOrdered, IsOrderedSo, RunsAreOrdered, RunsAreOrderedBeside}
+use Rattle.arj_joint_law.specs.Ordered.{AreCountedOf, AreDim, AreIncludedOf, AreJoinedOf, AreLeftOf, AreRootedSo, AreSpared, AreStill, AreTurns, AreTurnsOf, AreUntouched, IsCalledFirst, IsOrdered, IsOrderedSo, RunsAreOrdered, RunsAreOrderedBeside}
 use Rattle.arj_joint_law.proofs.Beginning.{WithFirst, first_begins, first_part}
 use Rattle.arj_joint_law.proofs.Firsts.{line_there}
 use Rattle.arj_joint_law.proofs.Ordering.{ordered_part}
@@ -63,6 +63,9 @@ use Rattle.arj_joint_law.proofs.KnowKeeps.{WithKnown, known_part}
 use Rattle.arj_joint_law.proofs.KnowStep.{AllKnow}
 use Rattle.arj_protocol.proofs.Numbers.{number_tells}
 use Rattle.arj_joint_law.specs.SaidFirst.{IncludersKnow}
+use Rattle.arj_joint_law.proofs.LightKeeps.{WithLights, lights_part}
+use Rattle.arj_joint_law.proofs.LightStates.{IsPassed, KeepLights}
+use Rattle.arj_joint_law.specs.Lights.{IsSplit, LightsAreSplit}
 use Rattle.arj_joint_law.proofs.Leaving.{left}
 use Rattle.arj_joint_law.proofs.Listing.{in_among}
 use Rattle.arj_joint_law.proofs.JoinRuns.{IsBased, based_keep, joins_given}
@@ -154,6 +157,9 @@ module _ (hd : Header) (x : ℕ) (es : List Asked) (sent : List Post) (W : machi
     joins_here : filter d.got (let p = d.plan in p.joins) ≡ increasing (filter (λ s. not (is_among (leaves_of lines a.id x) s)) (joins_of lines a.id x))
     joins_here = filtered_same d.got (λ s. not (is_among (leaves_of lines a.id x) s)) (let p = d.plan in p.joins) (joins_of lines a.id x) (subst (λ (p : Plan). AreRising p.joins) (sym its_plan) marked.rising) same_joins got_so
 
+    included_here : (s : ℕ) → disk_list.has s (let p = d.plan in p.joins) ≡ is_among (joins_of lines a.id x) s
+    included_here s = has_is s (let p = d.plan in p.joins) ∙ same_joins s
+
     counted_here : d.counts ≡ true → (let p = d.plan in p.writes) ≡ None → (s : ℕ) × Contains (joins_of lines a.id x) s
     counted_here counts plain =
         let j = marks.joiners d i counts plain in
@@ -179,6 +185,9 @@ module _ (hd : Header) (x : ℕ) (es : List Asked) (sent : List Post) (W : machi
 
   joins_all : AreJoinedOf lines x W.disk.tops
   joins_all d a i there number = joins_here d a i there number
+
+  included_all : AreIncludedOf lines x W.disk.tops
+  included_all d a i there number s = included_here d a i there number s
 
   counted_all : AreCountedOf lines x W.disk.tops
   counted_all d a i there number counts plain = counted_here d a i there number counts plain
@@ -237,8 +246,10 @@ ordered_beside hd x R P form there kept parts es short =
           leaves = (let j = b.0 in leaves_all hd x es h.sent j.machine right (let s = j.sees in s.whole) (subst (λ (W : machine.World). AreMarkedSo x W (see h.sent (run_all es (format hd)))) b.2 more.1));
           joins = (let j = b.0 in joins_all hd x es h.sent j.machine right (let s = j.sees in s.whole) (subst (λ (W : machine.World). AreMarkedSo x W (see h.sent (run_all es (format hd)))) b.2 more.1));
           counted = (let j = b.0 in counted_all hd x es h.sent j.machine right (let s = j.sees in s.whole) (subst (λ (W : machine.World). AreMarkedSo x W (see h.sent (run_all es (format hd)))) b.2 more.1));
+          included = (let j = b.0 in included_all hd x es h.sent j.machine right (let s = j.sees in s.whole) (subst (λ (W : machine.World). AreMarkedSo x W (see h.sent (run_all es (format hd)))) b.2 more.1));
           still = subst (λ (W : machine.World). AreStill W.disk.tops) b.2 (let q = more.1 in q.still);
           spared = subst (λ (W : machine.World). AreSpared (run_all es (format hd)).lines x W.disk) b.2 (spared_of x (run_all es (format hd)).lines right (let A = b.1 in A.world) (let y = b.3 in let z = y.0 in let t = z.0 in let tie = t.1 in tie.1));
+          dim = subst (λ (W : machine.World). AreDim W.disk) b.2 (let q = more.1 in q.dim);
           untouched = (let j = b.0 in untouched_all hd x es h.sent j.machine right (let s = j.sees in s.whole) (subst (λ (W : machine.World). AreMarkedSo x W (see h.sent (run_all es (format hd)))) b.2 more.1));
           know = (let j = b.0 in all_know hd es h.sent (let W = j.machine in W.disk.tops) (λ e i. j.whose e.top (in_decided (let W = j.machine in W.disk.tops) e i)) (subst (λ (W : machine.World). AllKnow (see h.sent (run_all es (format hd))) W.disk.tops) b.2 (let y = b.3 in let k = y.1 in k.know)));
         },
@@ -274,11 +285,43 @@ runs_are_ordered_beside hd x part form there parts es short = ordered hd x (λ t
 
 -- ---- where one includes a store
 
+-- who doesn't count, by what is kept of those that naming confirmed so
+pub lights_split : (hd : Header) (x : ℕ) (es : List Asked) (sent : List Post) (o : IsOrderedSo hd x (see sent (run_all es (format hd)))) (A : Office) → A.world ≡ world_of o → KeepLights x A (see sent (run_all es (format hd))) → LightsAreSplit (run_all es (format hd)).lines (let W = world_of o in W.disk)
+lights_split hd x es sent o A same lights = subst (λ (W : machine.World). LightsAreSplit (run_all es (format hd)).lines W.disk) same each
+  where
+    dim : AreDim A.world.disk
+    dim = subst (λ (W : machine.World). AreDim W.disk) (sym same) o.dim
+
+    whole : machine.Whole A.world
+    whole = subst machine.Whole (sym same) (let b = o.begun in let j = b.journalled in let s = j.sees in s.whole)
+
+    each : LightsAreSplit (run_all es (format hd)).lines A.world.disk
+    each d a i off there number s on = subst (λ (p : Plan). IsSplit A.world.disk.first_entry (run_all es (format hd)).lines a.uid p.joins A.world.disk.tops) plan (lights.splits a.uid passed)
+      where
+        plan : A.world.disk.plan (uid_number a.uid) ≡ d.plan
+        plan = ap A.world.disk.plan number ∙ sym (let c = whole.core in let j = c.journal in j.plan d i)
+
+        passed : IsPassed A (see sent (run_all es (format hd))) a.uid
+        passed = record {
+          node = (let n = have_nodes hd es a there in n.node);
+          there = (let n = have_nodes hd es a there in n.there);
+          light = ap A.world.disk.light number ∙ dim d i off;
+          store = s;
+          joins = ap (λ (p : Plan). disk_list.has s p.joins) plan ∙ on;
+          stands = inr (ap (decided_in A.world.disk.tops) number ∙ in_decided A.world.disk.tops d i);
+        }
+
 pub runs_take_turns : RunsTakeTurns
 runs_take_turns hd x test form there rest es short =
-    let h = ordered_beside hd x (IsCountedWith test) (WithTurns x (SeesCarried x)) form there (counted_with hd x test rest)
-    (early hd x (IsCountedWith test) (WithTurns x (SeesCarried x)) (turns_part hd x (λ W M. IsKnownWith test M) (SeesCarried x) (λ W M q. q.0.0.1) (λ tops A M p. p.0) (λ tops A M p. p.1) (heard_part hd x test (line_there hd x form there).0 rest))) es short in
-    record { sent = h.sent; stands = h.stands; holds = turned (see h.sent (run_all es (format hd))) h.holds }
+    let h = ordered_beside hd x (IsCountedWith test) Kept form there (counted_with hd x test rest) (early hd x (IsCountedWith test) Kept part) es short in
+    record { sent = h.sent; stands = h.stands; holds = turned h.sent h.holds }
   where
-    turned : (M : Seen) → IsOrderedBeside (WithTurns x (SeesCarried x)) hd x M → TakesTurnsSo hd x M
-    turned M (o, tops, A, same, p, few) = record { ordered = o; includers = subst (λ (W : machine.World). IncludersTakeTurns M.lines W.disk.tops) same (let k = p.1 in k.turns) }
+    Kept : Kinds → Office → Seen → Type 0
+    Kept tops A M = WithLights x (WithTurns x (SeesCarried x)) tops A M
+
+    part : KeepsPart hd x (λ W M. IsKnownWith test M) Kept
+    part = lights_part hd x (λ W M. IsKnownWith test M) (WithTurns x (SeesCarried x)) (λ W M q. q.0.0.1) (λ tops A M p. p.0.0) (λ tops A M p. p.1)
+        (turns_part hd x (λ W M. IsKnownWith test M) (SeesCarried x) (λ W M q. q.0.0.1) (λ tops A M p. p.0) (λ tops A M p. p.1) (heard_part hd x test (line_there hd x form there).0 rest))
+
+    turned : (sent : List Post) → IsOrderedBeside Kept hd x (see sent (run_all es (format hd))) → TakesTurnsSo hd x (see sent (run_all es (format hd)))
+    turned sent (o, tops, A, same, p, few) = record { ordered = o; includers = subst (λ (W : machine.World). IncludersTakeTurns (run_all es (format hd)).lines W.disk.tops) same (let k = p.0.1 in k.turns); lights = lights_split hd x es sent o A same p.1 }

@@ -1,6 +1,5 @@
 -- In which order the commits of two decided tops were called, where one of them includes a store of the object.
-use Rattle.std.specs.Prelude.{⊤, ◌≡◌, ◌⊎◌, ◌<◌, ◌≤◌, ◌++◌, ℕ, Bool, true, false, List, [], ◌∷◌, None, Contains, filter, is_some, length}
-use Rattle.arj_base.specs.Rows.{is_on}
+use Rattle.std.specs.Prelude.{⊤, ◌≡◌, ◌⊎◌, ◌<◌, ◌≤◌, ℕ, Bool, true, List, [], ◌∷◌, None, Contains, filter, is_some, length}
 use Rattle.arj_journal.specs.ScriptForm.{HeaderInForm}
 use Rattle.arj_model.specs.Calls.{Top}
 use Rattle.arj_model.specs.Last.{object_line}
@@ -15,16 +14,13 @@ use Rattle.arj_disk_run_law.specs.Rest.{KeepsHeard}
 use Rattle.arj_view_law.specs.Keeps.{Holds}
 use Rattle.arj_view_law.specs.Seen.{Seen}
 use Rattle.arj_binding_law.specs.Scripts.{most_events}
-use Rattle.arj_line_law.specs.Book.{book, new_book}
+use Rattle.arj_line_law.specs.Book.{new_book}
 use Rattle.arj_line_law.specs.Right.{AreRight}
 use Rattle.arj_lock_law.specs.State as lock
 use Rattle.arj_serial_law.specs.Decided.{AreDecisions, Joined, Wrote}
 use Rattle.arj_serial_law.specs.Tied.{IsTied}
-use Rattle.arj_joint_law.specs.Ordered.{IsOrderedSo}
-
--- The commit of the first action was called before that of the second one: at some place of the journal the one had been, and the other hadn't.
-abbrev pub IsCalledBefore : List Line → Uid → Uid → Type 0
-IsCalledBefore lines t u = (before : List Line) × (behind : List Line) × (lines ≡ before ++ behind) × (is_on (let B = book before in B.called) t ≡ true) × (is_on (let B = book before in B.called) u ≡ false)
+use Rattle.arj_joint_law.specs.Lights.{LightsAreSplit}
+use Rattle.arj_joint_law.specs.Ordered.{IsCalledBefore, IsOrderedSo}
 
 -- a plan includes no store, and it changes nothing, or the other one changes something
 abbrev pub IncludesNone : Plan → Plan → Type 0
@@ -42,10 +38,11 @@ IncludersTakeTurns lines (d ∷ ds) = ((e : Done) → In e ds → IncludersAreCa
 
 -- ---- runs
 
--- The machine decided as `IsOrderedSo` has it, and so it is of each two of its decided tops.
+-- The machine decided as `IsOrderedSo` has it, and so it is of each two of its decided tops; and those that don't count changed nothing in their places.
 pub record TakesTurnsSo (hd : Header) (x : ℕ) (M : Seen) : Type 0 where
   pub ordered : IsOrderedSo hd x M
   pub includers : IncludersTakeTurns M.lines (let j = (let b = (let o = ordered in o.begun) in b.journalled) in let W = j.machine in let S = W.disk in S.tops)
+  pub lights : LightsAreSplit M.lines (let j = (let b = (let o = ordered in o.begun) in b.journalled) in let W = j.machine in W.disk)
 
 -- So it is in the run of every script, of each object of the header, with what is still taken of what coordinators have of naming's answers.
 abbrev pub RunsTakeTurns : Type 0

@@ -42,6 +42,7 @@ use Rattle.arj_serial_law.specs.Tied.{AreApart}
 use Rattle.arj_joint_law.specs.Based.{IsVotedOver}
 use Rattle.arj_joint_law.specs.BasedSteps.{AreBasedSo}
 use Rattle.arj_joint_law.specs.Includers.{IncludersTakeTurns}
+use Rattle.arj_joint_law.specs.Lights.{LightsAreSplit}
 use Rattle.arj_joint_law.specs.Loads.{AreLoadsLast}
 use Rattle.arj_joint_law.specs.Nodes.{NodesAreThere}
 use Rattle.arj_joint_law.specs.Ordered.{IsOrdered, IsOrderedSo}
@@ -140,12 +141,13 @@ abbrev pub AreBareSo : List Line → ℕ → State → Type 0
 AreBareSo lines x S = (u : Top) → Contains (tops lines) u → S.bare (uid_number (uid_of_id (acts lines) u.id)) ≡ true → Wrote lines x u → ⊥
 
 -- Both machines of the object at once: the disk machine, whose decisions are those of the journal in their order, also of those that only include
--- a store; and for all that may be fixed and agrees with what was begun the lock machine, to which the journal is tied, in which commits under
+-- a store, and of which those that don't count changed nothing in their places; and for all that may be fixed and agrees with what was begun the lock machine, to which the journal is tied, in which commits under
 -- way have the votes that came, by which decided tops had planned, and in which it is known over which states copies and votes lie. So
 -- decided tops wrote what their plans have, and those without a record nothing; and the copies of the object agree.
 pub record IsJoinedSo (hd : Header) (x : ℕ) (M : Seen) : Type 0 where
   pub ordered : IsOrderedSo hd x M
   pub includers : IncludersTakeTurns M.lines (let W = world_of ordered in W.disk.tops)
+  pub lights : LightsAreSplit M.lines (let W = world_of ordered in W.disk)
   pub begun : List Action
   pub alike : IsAlikeOf begun M
   pub seen : (f : Fixed) → AgreesAs (first_values hd) f x begun M.sent → (S : lock.State) × SeesLocks f x begun S M × AreTied f x M.lines S × AreVotedAt f x S M × ArePlannedSo f x S (world_of ordered) M × AreBasedSo f x S (world_of ordered) M

@@ -5,7 +5,7 @@ use Rattle.arj_protocol.specs.Words.{Line, Uid}
 use Rattle.arj_protocol.specs.Order.{uid_number}
 use Rattle.arj_disk_law.specs.State.{Done, Packed, State, entry_in}
 use Rattle.arj_disk_law.specs.Words.{In, has}
-use Rattle.arj_joint_law.specs.Includers.{IsCalledBefore}
+use Rattle.arj_joint_law.specs.Ordered.{IsCalledBefore}
 
 -- a decided top includes no store
 abbrev pub AddsNone : Done → Type 0

@@ -10,7 +10,7 @@ use Rattle.arj_protocol.specs.World.{Asked, format, run_all}
 use Rattle.arj_disk_law.specs.Effects.{World}
 use Rattle.arj_disk_law.specs.Names.{Office}
 use Rattle.arj_disk_law.specs.State.{Done, State, decided, target}
-use Rattle.arj_disk_law.specs.Words.{In}
+use Rattle.arj_disk_law.specs.Words.{In, has}
 use Rattle.arj_view_law.specs.Keeps.{Holds}
 use Rattle.arj_view_law.specs.Seen.{Seen}
 use Rattle.arj_binding_law.specs.Scripts.{most_events}
@@ -33,6 +33,10 @@ use Rattle.arj_joint_law.specs.Begun.{IsBegunSo}
 -- other hadn't.
 abbrev pub IsCalledFirst : List Line → Uid → Uid → Type 0
 IsCalledFirst lines t u = (before : List Line) × (behind : List Line) × (lines ≡ before ++ behind) × (is_on (let B = book before in B.called) t ≡ true) × (is_decided (book before) u ≡ false)
+
+-- The commit of the first action was called before that of the second one: at some place of the journal the one had been, and the other hadn't.
+abbrev pub IsCalledBefore : List Line → Uid → Uid → Type 0
+IsCalledBefore lines t u = (before : List Line) × (behind : List Line) × (lines ≡ before ++ behind) × (is_on (let B = book before in B.called) t ≡ true) × (is_on (let B = book before in B.called) u ≡ false)
 
 -- So it is of the tops with these numbers, of which the second may be idle by the journal, or no top.
 abbrev pub IsTurn : (List Line → Uid → Type 0) → List Line → ℕ → ℕ → Type 0
@@ -76,6 +80,14 @@ AreCountedOf lines x ds = (d : Done) (a : Act) → In d ds → Contains (acts li
 abbrev pub AreStill : List Done → Type 0
 AreStill ds = (d : Done) → In d ds → d.counts ≡ false → (s : ℕ) → d.got s ≡ false
 
+-- and was confirmed as one that changes nothing
+abbrev pub AreDim : State → Type 0
+AreDim S = (d : Done) → In d S.tops → d.counts ≡ false → S.light d.top ≡ true
+
+-- the stores that these actions among them include are, by the journal, those of their surviving includes
+abbrev pub AreIncludedOf : List Line → ℕ → List Done → Type 0
+AreIncludedOf lines x ds = (d : Done) (a : Act) → In d ds → Contains (acts lines) a → uid_number a.uid ≡ d.top → (s : ℕ) → has s (let p = d.plan in p.joins) ≡ is_among (joins_of lines a.id x) s
+
 -- an action of these, whose commit ended without a record, excluded no store by the journal, and none of its includes survives
 abbrev pub AreUntouched : List Line → ℕ → (ℕ → Bool) → Type 0
 AreUntouched lines x bare = (a : Act) → Contains (acts lines) a → bare (uid_number a.uid) ≡ true → (s : ℕ) → (is_among (leaves_of lines a.id x) s ≡ false) × (is_among (joins_of lines a.id x) s ≡ false)
@@ -98,7 +110,9 @@ pub record IsOrderedSo (hd : Header) (x : ℕ) (M : Seen) : Type 0 where
   pub roots : let j = (let b = begun in b.journalled) in let W = j.machine in let S = W.disk in AreRootedSo M.lines S.root S.tops
   pub joins : AreJoinedOf M.lines x (let j = (let b = begun in b.journalled) in let W = j.machine in let S = W.disk in S.tops)
   pub counted : AreCountedOf M.lines x (let j = (let b = begun in b.journalled) in let W = j.machine in let S = W.disk in S.tops)
+  pub included : AreIncludedOf M.lines x (let j = (let b = begun in b.journalled) in let W = j.machine in let S = W.disk in S.tops)
   pub still : AreStill (let j = (let b = begun in b.journalled) in let W = j.machine in let S = W.disk in S.tops)
+  pub dim : AreDim (let j = (let b = begun in b.journalled) in let W = j.machine in W.disk)
   pub untouched : AreUntouched M.lines x (let j = (let b = begun in b.journalled) in let W = j.machine in let S = W.disk in S.bare)
   pub spared : AreSpared M.lines x (let j = (let b = begun in b.journalled) in let W = j.machine in W.disk)
   pub know : IncludersKnow M.lines (let j = (let b = begun in b.journalled) in let W = j.machine in let S = W.disk in S.tops)
