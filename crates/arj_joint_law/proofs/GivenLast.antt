@@ -22,22 +22,26 @@ use Rattle.arj_joint_law.proofs.GivenValue.{first_is_last, newest_wrote}
 use Rattle.arj_joint_law.proofs.GivenWriters.{IsNewest, WroteNone, newest_of}
 
 pub last_there_is_last : LastThereIsLast
-last_there_is_last hd f x begun S M form line b st there read = record {
+last_there_is_last hd f x begun S M form line b st there = record {
   value = ⊎_elim
       (λ (none : WroteNone (let A = b.office in A.world.disk.first) (let A = b.office in A.world.disk.tops)). first_is_last hd f x begun S M b (state_code f.act f.code st) none (is_first none))
-      (λ (z : IsNewest M.lines (let A = b.office in A.world.disk.first) (let A = b.office in A.world.disk.tops)). newest_wrote hd f x begun S M b z st.writer (ap (λ (k : Packed). k.writer) (there.last_one ∙ z.last) ∙ its_writer z) st refl (there.last_one ∙ z.last) read)
+      (λ (z : IsNewest M.lines (let A = b.office in A.world.disk.first) (let A = b.office in A.world.disk.tops)). newest_wrote hd f x begun S M b z st.writer (ap (λ (k : Packed). k.writer) (there.last_one ∙ z.last) ∙ its_writer z) form line st kind refl (there.last_one ∙ z.last))
       (newest_of M.lines (let A = b.office in A.world.disk.first) (let A = b.office in A.world.disk.tops) b.turns);
   settled = (let l = there.loading in nobody_in_doubt hd f x begun S M b there.settled l.first l.there);
 }
   where
+    -- its class is the object's
+    kind : st.class ≡ class_of (first_values hd x)
+    kind =
+        let stored = (b.forms.0 there.store there.node there.there).0 in
+        let held = stored.store.held (object x) st there.held in
+        held.0.1 refl
+
     -- the first state
     is_first : WroteNone (let A = b.office in A.world.disk.first) (let A = b.office in A.world.disk.tops) → state_code f.act f.code st ≡ S.initial
     is_first none =
         let same : packed st ≡ packed (state_after x (first_values hd x) []) = there.last_one ∙ none.0 ∙ b.begins.state in
         let writer : st.writer ≡ nobody = number_tells st.writer nobody (ap (λ (k : Packed). k.writer) same) in
-        let stored = (b.forms.0 there.store there.node there.there).0 in
-        let held = stored.store.held (object x) st there.held in
-        let kind : st.class ≡ class_of (first_values hd x) = held.0.1 refl in
         (λ i. f.code (value_in (kind i) (ap (λ (k : Packed). k.content) same i)) (f.act (writer i)))
         ∙ ap (λ (v : Value). f.code v (f.act nobody)) (value_back (first_values hd x) (first_in_form hd x form line)) ∙ sym (let t = tied hd f x begun S M b in t.first)
 

@@ -1,22 +1,25 @@
 -- Where both machines of an object stand in one state: the last state of the disk machine is what the newest surviving write left, by the lock machine.
-use Rattle.std.proofs.Common.{◌≡◌, ◌≢◌, ◌<◌, ◌==◌, ℕ, List, true, Option, Some, None, is_some, refl, sym, ◌∙◌, ap, subst, ⊎_elim, arith, eqb-true}
+use Rattle.std.proofs.Common.{◌≡◌, ◌≢◌, ◌<◌, ◌==◌, ℕ, List, [], ◌∷◌, true, inl, inr, Option, Some, None, is_some, refl, sym, ◌∙◌, ap, subst, ⊎_elim, arith, eqb-true}
 use Rattle.std.proofs.lemmas.Bool.{and_parts}
-use Rattle.arj_class.specs.Table.{writes}
+use Rattle.arj_class.specs.Forms.{payload_of}
+use Rattle.arj_class.specs.Table.{class_of, writes}
+use Rattle.arj_class.specs.declared.value.Value.{Value}
+use Rattle.arj_journal.specs.ScriptForm.{HeaderInForm}
 use Rattle.arj_law.proofs.Last.{writes_conflict}
 use Rattle.arj_lock.proofs.Members as list
 use Rattle.arj_lock.proofs.Members.{in_from, in_to}
 use Rattle.arj_model.specs.Actions.{Act, acts}
 use Rattle.arj_model.specs.Calls as model
 use Rattle.arj_model.specs.Calls.{Top, committed_calls, tops}
-use Rattle.arj_model.specs.Last.{first_values}
+use Rattle.arj_model.specs.Last.{first_values, object_line}
 use Rattle.arj_model.specs.Serial.{top_place, writes_on}
 use Rattle.arj_protocol.proofs.Numbers.{number_tells}
+use Rattle.arj_protocol.proofs.Payloads.{value_back}
+use Rattle.arj_protocol.specs.Values.{value_in}
 use Rattle.arj_protocol.specs.Words.{Header, ObjectState, Uid}
 use Rattle.arj_protocol.specs.Order.{uid_number}
 use Rattle.arj_protocol.specs.Step.{Node}
-use Rattle.arj_part_law.specs.Actions.{Action, paths_of}
-use Rattle.arj_part_law.proofs.Begun.{begun_tree, path_found}
-use Rattle.arj_call_law.specs.Servers.{AreOneCall}
+use Rattle.arj_part_law.specs.Actions.{Action}
 use Rattle.arj_disk_law.specs.State as disk
 use Rattle.arj_disk_law.specs.State.{Done, Packed, decided_in, last}
 use Rattle.arj_disk_law.specs.Words as words
@@ -32,7 +35,7 @@ use Rattle.arj_line_law.proofs.Models.{act_there, its_acts, its_sound}
 use Rattle.arj_lock_law.specs.Actions as machine
 use Rattle.arj_lock_law.specs.Actions.{In, top}
 use Rattle.arj_lock_law.specs.State.{Alive, Call, State}
-use Rattle.arj_lock_law.specs.Steps.{IsLast, Survives}
+use Rattle.arj_lock_law.specs.Steps.{IsLast, Newest, Survives, newest, older}
 use Rattle.arj_lock_law.proofs.Ordered.{lives}
 use Rattle.arj_lock_law.proofs.Paths.{on_top, top_action, top_is}
 use Rattle.arj_lock_law.proofs.VoteRun.{votes_are_right}
@@ -40,21 +43,29 @@ use Rattle.arj_lock_view_law.specs.Acts.{AreOne}
 use Rattle.arj_lock_view_law.specs.Copies.{state_code}
 use Rattle.arj_lock_run_law.specs.Fixed.{Fixed}
 use Rattle.arj_serial_law.specs.Decided.{Wrote}
-use Rattle.arj_serial_law.specs.Seen.{RequestsAreOne}
 use Rattle.arj_serial_law.specs.Tied.{IsTied}
 use Rattle.arj_serial_law.proofs.Order.{IsShown, before_top, called_first, listed, off_one, place_of_top, same_number, shown, top_for, top_plain}
-use Rattle.arj_serial_law.proofs.Seeing.{locked_tied}
 use Rattle.arj_serial_law.proofs.Ties.{Tie, tie_of}
-use Rattle.arj_joint_law.specs.Given.{AreBeside, IsReadBack}
+use Rattle.arj_joint_law.specs.Given.{AreBeside}
 use Rattle.arj_joint_law.specs.Joined.{IsPlannedSo}
 use Rattle.arj_joint_law.specs.Ordered.{IsCalledFirst}
 use Rattle.arj_joint_law.proofs.Called.{writers_are_called_first, wrote_something}
+use Rattle.arj_joint_law.proofs.Fits.{said_fit}
+use Rattle.arj_joint_law.proofs.GivenFirst.{first_in_form}
+use Rattle.arj_joint_law.proofs.GivenForms.{IsLike, left_like}
 use Rattle.arj_joint_law.proofs.GivenMachine.{newest_is_last, none_last, theirs_survive}
-use Rattle.arj_joint_law.proofs.GivenTops.{committed_there, core, disk_of, holds, low, node_of, places, right, said_of, said_there, values, votes}
+use Rattle.arj_joint_law.proofs.GivenTops.{committed_there, core, disk_of, holds, low, node_of, places, right, said_of, said_there, tied, values, votes}
 use Rattle.arj_joint_law.proofs.GivenWriters.{IsNewest, WroteNone, decided_at}
 use Rattle.arj_joint_law.proofs.DecidedTops.{machine_decided}
 use Rattle.arj_joint_law.proofs.Surviving.{HasSaid, IsTopThere, has_said, top_there}
 use Rattle.arj_joint_law.proofs.Writing.{VotedIn, planned_voted}
+
+-- the newest call that counts left the value
+left_by : (first : ℕ) (Counts : machine.Act → Type 0) (v : ℕ) (cs : List Call) → Newest first Counts v cs → (c : Call) → In c cs → c.write ≡ true → Counts c.act → (d : Call) × In d cs × Counts d.act × (d.gives ≡ v)
+left_by first Counts v [] n c i write counts = absurd i
+left_by first Counts v (d ∷ cs) (newest _ w own gives) c i write counts = (d, inl refl, own, gives)
+left_by first Counts v (d ∷ cs) (older _ never n) c (inl same) write counts = absurd (never (subst (λ (y : Call). y.write ≡ true) same write) (subst (λ (y : Call). Counts y.act) same counts))
+left_by first Counts v (d ∷ cs) (older _ never n) c (inr j) write counts = let r = left_by first Counts v cs n c j write counts in (r.0, inr r.1, r.2, r.3)
 
 -- ---- two tops of the journal, of which one wrote behind the other's decision
 
@@ -62,28 +73,23 @@ module _ (hd : Header) (f : Fixed) (x : ℕ) (begun : List Action) (S : State) (
   abbrev D : disk.State
   D = disk_of hd f x begun S M b
 
-  requests : RequestsAreOne M
-  requests = record { one = one_call; numbered = λ q at h a is. (let k = b.whole in let w = k.works in let e = w.1 in e.requests q at h a is) }
-    where
-      one_call : AreOneCall M.sent
-      one_call =
-          let few = b.known.1.0 in
-          let r = few.1.1 in
-          let g = (let z = r.1 in z.begun) in
-          let a = r.2 ((paths_of r.0), begun_tree r.0 g, path_found r.0 g) in
-          a.one
-
-  told_apart : (T : State) × IsTied (first_values hd) M.lines x T
-  told_apart = let s = b.seen in locked_tied (first_values hd) x M begun (s.good, s.alike, s.written) (λ g agrees. let z = b.each g agrees in (z.0, z.1, z.2)) requests
-
-  abbrev T : State
-  T = told_apart.0
-
   its_right : AreRight new_book M.lines
   its_right = right hd f x begun S M b
 
-  tie : Tie (first_values hd) M.lines x T
-  tie = tie_of (first_values hd) M.lines x T told_apart.1
+  -- the journal is tied to the state
+  its_tied : IsTied (first_values hd) M.lines x S
+  its_tied = record {
+    act = f.act;
+    code = f.code;
+    apart = b.apart;
+    places = places hd f x begun S M b;
+    first = f.first;
+    run = (let s = b.seen in let l = s.sees in l.run);
+    tied = tied hd f x begun S M b;
+  }
+
+  tie : Tie (first_values hd) M.lines x S
+  tie = tie_of (first_values hd) M.lines x S its_tied
 
   apart_tops : AreApart (tops M.lines)
   apart_tops = let l = listed M.lines its_right in l.apart
@@ -96,17 +102,17 @@ module _ (hd : Header) (f : Fixed) (x : ℕ) (begun : List Action) (S : State) (
       let tv = top_for M.lines its_right v in_v kv dv in
       let cx : c.x ≡ x = eqb-true c.x x (and_parts (c.x == x) (writes c.op) cw).0 in
       let dx : d.x ≡ x = eqb-true d.x x (and_parts (d.x == x) (writes d.op) dw).0 in
-      let s : IsShown (first_values hd) M.lines its_right x T tie d = shown (first_values hd) M.lines its_right x T tie d j dx in
+      let s : IsShown (first_values hd) M.lines its_right x S tie d = shown (first_values hd) M.lines its_right x S tie d j dx in
       let wu : Wrote M.lines x tu.0 = (d, in_to d (committed_calls M.lines) j, dw, dt ∙ sym tu.2) in
       let wv : Wrote M.lines x tv.0 = (c, in_to c (committed_calls M.lines) i, cw, ct ∙ sym tv.2) in
-      let turn = writers_are_called_first (first_values hd) M.lines x T its_right told_apart.1 tu.0 tv.0 u v
+      let turn = writers_are_called_first (first_values hd) M.lines x S its_right its_tied tu.0 tv.0 u v
       (record { listed = in_to tu.0 (tops M.lines) tu.1; wrote = wu; there = in_to u (acts M.lines) in_u; number = sym tu.2 })
       (record { listed = in_to tv.0 (tops M.lines) tv.1; wrote = wv; there = in_to v (acts M.lines) in_v; number = sym tv.2 })
       (λ same. apart (sym tu.2 ∙ same ∙ tv.2)) first in
-      let behind = called_first (first_values hd) M.lines its_right x T tie c d i j cx dx less (off_one c.top d.top (λ e. apart (sym dt ∙ sym e ∙ ct))) (writes_conflict x c d cw dw) in
+      let behind = called_first (first_values hd) M.lines its_right x S tie c d i j cx dx less (off_one c.top d.top (λ e. apart (sym dt ∙ sym e ∙ ct))) (writes_conflict x c d cw dw) in
       let place_v : top_place (tops M.lines) c.top ≡ (let t = tv.0 in t.at) = ap (top_place (tops M.lines)) (ct ∙ sym tv.2) ∙ place_of_top (tops M.lines) tv.0 apart_tops tv.1 in
       let place_u : (let n = s.number in n.at) ≡ (let t = tu.0 in t.at) = sym (place_of_top (tops M.lines) s.number apart_tops s.listed_top) ∙ ap (top_place (tops M.lines)) (sym s.top_number ∙ dt ∙ sym tu.2) ∙ place_of_top (tops M.lines) tu.0 apart_tops tu.1 in
-      let ends = before_top (first_values hd) M.lines its_right x T tie d s in
+      let ends = before_top (first_values hd) M.lines its_right x S tie d s in
       omega (arith, turn, behind, place_v, place_u, ends)
 
   -- ---- surviving writes
@@ -228,11 +234,22 @@ module _ (hd : Header) (f : Fixed) (x : ℕ) (begun : List Action) (S : State) (
         same_act : (y k : Act) → list.In y (acts M.lines) → list.In k (acts M.lines) → y.uid ≡ k.uid → y ≡ k
         same_act y k in_y in_k same = one_act (acts M.lines) (let q = its_sound M.lines its_right in q.distinct) y k in_y in_k same
 
-    pub newest_wrote : (st : ObjectState) → st.writer ≡ u → packed st ≡ z.state → IsReadBack f S st → IsLast S (state_code f.act f.code st) S.calls
-    newest_wrote st writer same read =
-        let given : (let g = S.vote (f.act u) in g.value) ≡ f.code voted.0 (f.act u) = voted.2 ∙ ap (f.code voted.0) voted.10 in
+    -- what it gave is what the newest surviving call left, so it is in form
+    gave_like : HeaderInForm hd → is_some (object_line hd x) ≡ true → Newest S.initial (Survives S) (let g = S.vote (f.act u) in g.value) S.calls → IsLike (first_values hd x) voted.0
+    unfolding tie its_tied
+    gave_like form line last =
+        let survives : Survives S (let c = voted.5 in c.act) = theirs_survive (holds hd f x begun S M b) (values hd f x begun S M b) (low hd f x begun S M b) (f.act u) is three voted.5 voted.6 (voted.8, voted.9) in
+        let d = left_by S.initial (Survives S) (let g = S.vote (f.act u) in g.value) S.calls last voted.5 voted.6 voted.7 survives in
+        let k = left_like (first_values hd) M.lines x (said_fit x M.lines b.fit) (first_in_form hd x form line) its_right S tie d.0 d.1 d.2 in
+        subst (IsLike (first_values hd x)) (b.apart k.0 voted.0 (top (let c = d.0 in c.act)) voted.1 (sym k.2 ∙ d.3 ∙ voted.2)).0 k.1
+
+    pub newest_wrote : HeaderInForm hd → is_some (object_line hd x) ≡ true → (st : ObjectState) → st.class ≡ class_of (first_values hd x) → st.writer ≡ u → packed st ≡ z.state → IsLast S (state_code f.act f.code st) S.calls
+    newest_wrote form line st class writer same =
+        let given = newest_is_last (holds hd f x begun S M b) (values hd f x begun S M b) (low hd f x begun S M b) (f.act u) is three last_write (let g = S.vote (f.act u) in g.value)
+        ((votes_are_right (holds hd f x begun S M b) (votes hd f x begun S M b)).value (f.act u) voted.5 is (omega (arith, three)) (omega (arith, three)) voted.6 voted.7 voted.8 voted.9) voted.5 voted.6 voted.7 (voted.8, voted.9) in
+        let like = gave_like form line given in
+        let kind : st.class ≡ class_of voted.0 = class ∙ sym like.class in
+        let payload : st.payload ≡ payload_of voted.0 = ap (λ (k : Packed). k.content) same ∙ voted.3 in
         let value : state_code f.act f.code st ≡ (let g = S.vote (f.act u) in g.value) =
-        read voted.0 (ap (λ (w : Uid). (let g = S.vote (f.act w) in g.value)) writer ∙ given ∙ ap (λ (w : Uid). f.code voted.0 (f.act w)) (sym writer)) (ap (λ (k : Packed). k.content) same ∙ voted.3) ∙ ap (λ (w : Uid). f.code voted.0 (f.act w)) writer ∙ sym given in
-        subst (λ v. IsLast S v S.calls) (sym value)
-        (newest_is_last (holds hd f x begun S M b) (values hd f x begun S M b) (low hd f x begun S M b) (f.act u) is three last_write (let g = S.vote (f.act u) in g.value)
-        ((votes_are_right (holds hd f x begun S M b) (votes hd f x begun S M b)).value (f.act u) voted.5 is (omega (arith, three)) (omega (arith, three)) voted.6 voted.7 voted.8 voted.9) voted.5 voted.6 voted.7 (voted.8, voted.9))
+        (λ i. f.code (value_in (kind i) (payload i)) (f.act (writer i))) ∙ ap (λ (v : Value). f.code v (f.act u)) (value_back voted.0 like.form) ∙ ap (f.code voted.0) (sym voted.10) ∙ sym voted.2 in
+        subst (λ v. IsLast S v S.calls) (sym value) given

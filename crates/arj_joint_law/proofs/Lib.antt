@@ -99,5 +99,6 @@ pub mod GivenSettled
 pub mod GivenWriters
 pub mod GivenValue
 pub mod GivenFirst
+pub mod GivenForms
 pub mod GivenLast
 pub mod Fits

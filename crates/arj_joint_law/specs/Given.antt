@@ -1,8 +1,6 @@
 -- What a store gives to a call that waits for it, where both machines of the object stand in one run: by the disk machine it is the last state, and
 -- so it is the last committed one by the lock machine.
 use Rattle.std.specs.Prelude.{◌≡◌, ℕ, true, List, None, Some, is_some}
-use Rattle.arj_class.specs.Forms.{payload_of}
-use Rattle.arj_class.specs.declared.value.Value.{Value}
 use Rattle.arj_journal.specs.ScriptForm.{HeaderInForm}
 use Rattle.arj_model.specs.Last.{first_values, object_line}
 use Rattle.arj_protocol.specs.Words.{Asked, Header, ObjectState, object}
@@ -91,11 +89,7 @@ pub record IsLastThere (x : ℕ) (S : lock.State) (A : Office) (M : Seen) (st : 
   pub last_one : packed st ≡ last (let W = A.world in W.disk)
   pub settled : (z : ℕ) → (let W = A.world in let D = W.disk in D.conf z) ≡ true → undecided (let W = A.world in W.disk) z ≡ true → ⊥
 
--- The state is read as the value that its top's vote gave, where its payload is that value's: numbers have 64 bits.
-abbrev pub IsReadBack : Fixed → lock.State → ObjectState → Type 0
-IsReadBack f S st = (v : Value) → (let g = S.vote (f.act st.writer) in g.value) ≡ f.code v (f.act st.writer) → st.payload ≡ payload_of v → state_code f.act f.code st ≡ f.code v (f.act st.writer)
-
--- So a state of an object of the header that is read back is the last committed one by the lock machine, and nothing is in doubt.
+-- So a state of an object of the header is the last committed one by the lock machine, and nothing is in doubt.
 abbrev pub LastThereIsLast : Type 0
-LastThereIsLast = (hd : Header) (f : Fixed) (x : ℕ) (begun : List Action) (S : lock.State) (M : Seen) → HeaderInForm hd → is_some (object_line hd x) ≡ true → (b : AreBeside hd f x begun S M) (st : ObjectState) → IsLastThere x S (let k = b in k.office) M st → IsReadBack f S st
+LastThereIsLast = (hd : Header) (f : Fixed) (x : ℕ) (begun : List Action) (S : lock.State) (M : Seen) → HeaderInForm hd → is_some (object_line hd x) ≡ true → (b : AreBeside hd f x begun S M) (st : ObjectState) → IsLastThere x S (let k = b in k.office) M st
     → LoadsTheLast S (state_code f.act f.code st)
