@@ -54,14 +54,14 @@ none_sorted : (ns : List ℕ) → increasing ns ≡ [] → ns ≡ []
 none_sorted [] is = refl
 none_sorted (n ∷ ns) is = absurd (none_inserted n (increasing ns) is)
 
-none_there : (ns : List ℕ) → ((s : ℕ) → has s ns ≡ true → ⊥) → ns ≡ []
+pub none_there : (ns : List ℕ) → ((s : ℕ) → has s ns ≡ true → ⊥) → ns ≡ []
 none_there [] none = refl
 none_there (s ∷ ns) none = absurd (none s (ap (λ b. b || has s ns) (eq-eqb s s refl)))
 
 -- ---- decided tops
 
 module _ (values : Values) (lines : List Line) (x : ℕ) (S : State) (right : AreRight new_book lines) (t : IsTied values lines x S) where
-  its_at : (ds : List Done) (us : List Top) → AreDecisions values lines x ds us → (u : Top) → In u us → (d : Done) × disk.In d ds × IsDecision values lines x d u
+  pub its_at : (ds : List Done) (us : List Top) → AreDecisions values lines x ds us → (u : Top) → In u us → (d : Done) × disk.In d ds × IsDecision values lines x d u
   its_at [] [] are u k = absurd k
   its_at [] (w ∷ us) are u k = absurd are
   its_at (d ∷ ds) [] are u k = absurd k

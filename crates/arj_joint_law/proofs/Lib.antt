@@ -68,6 +68,7 @@ pub mod LightStep
 pub mod KnowStep
 pub mod KnowKeeps
 pub mod LightKeeps
+pub mod LightPlaces
 pub mod JoinOrder
 pub mod IdlePlaces
 pub mod BasedServers
