@@ -1,11 +1,11 @@
 -- Files are clean after each run, by both machines of each object, with what is named.
-use Rattle.std.proofs.Common.{Contains, ◌≡◌, ◌⊎◌, ◌<◌, ◌≤◌, ◌==◌, ◌&&◌, ◌||◌, ℕ, Bool, not, cond, false, eqb-true, eq-eqb, List, [], ◌∷◌, length, true, is_some, refl, subst, inl, inr, ⊎_elim, filter, ap, sym, ◌∙◌, Option, Some, None}
+use Rattle.std.proofs.Common.{Contains, ◌≡◌, ◌⊎◌, ◌<◌, ◌≤◌, ◌==◌, ◌&&◌, ◌||◌, ◌++◌, ℕ, Bool, not, cond, false, eqb-true, eq-eqb, List, [], ◌∷◌, length, true, is_some, refl, subst, inl, inr, ⊎_elim, filter, ap, sym, ◌∙◌, Option, Some, None}
 use Rattle.arj_journal.specs.ScriptForm.{HeaderInForm}
 use Rattle.arj_lock.proofs.Members.{In, in_find_none, in_from, in_to}
 use Rattle.arj_model.specs.Actions.{Act, acts}
 use Rattle.arj_model.specs.Calls.{Top, tops}
 use Rattle.arj_model.specs.Clean.{Clean, Disks}
-use Rattle.arj_model.specs.Last.{first_values, increasing, is_among, joins_of, leaves_of, object_line, serial_tops}
+use Rattle.arj_model.specs.Last.{first_values, increasing, is_among, joins_of, leaves_of, listed_from, object_line, serial_tops}
 use Rattle.arj_model.specs.Serial.{Values}
 use Rattle.arj_protocol.specs.Words.{Header, Line, ObjectLine}
 use Rattle.arj_protocol.specs.World.{Asked, World, format, journal, run_all}
@@ -16,7 +16,13 @@ use Rattle.arj_line_law.proofs.Runs.{lines_keep, run_written}
 use Rattle.arj_disk_law.specs.Order.{counts_of}
 use Rattle.arj_disk_law.specs.State.{Done, Packed, decided as decided_so, decided_in, target}
 use Rattle.arj_disk_law.specs.Words as disk
-use Rattle.arj_disk_law.proofs.History.{in_decided}
+use Rattle.arj_disk_law.specs.State as disk_machine
+use Rattle.arj_disk_law.specs.Core.{Core}
+use Rattle.arj_disk_law.proofs.Base.{bool_cases}
+use Rattle.arj_base.specs.Uid.{nobody}
+use Rattle.std.proofs.lemmas.Bool.{and_parts}
+use Rattle.arj_joint_law.proofs.LightPlaces.{unlisted_there}
+use Rattle.arj_joint_law.proofs.Listing.{in_among}
 use Rattle.arj_disk_law.proofs.Listing.{filter_none}
 use Rattle.arj_law.specs.Growth.{IdleInPlace, first_stores}
 use Rattle.arj_line_law.specs.Idle.{HasNothing}
@@ -38,17 +44,17 @@ use Rattle.arj_lock_whole_law.proofs.WholeRuns.{runs_call_objects, runs_include_
 use Rattle.arj_part_law.specs.Actions.{Action}
 use Rattle.arj_serial_law.proofs.Seeing.{locked_runs_are_serial, locked_tied}
 use Rattle.arj_serial_law.proofs.Cleaning.{is_clean}
-use Rattle.arj_serial_law.proofs.Including.{are_decided}
+use Rattle.arj_serial_law.proofs.Including.{are_decided, changers_turn}
 use Rattle.arj_serial_law.proofs.Shown.{files_clean}
 use Rattle.arj_serial_law.proofs.Ties.{Ties, ties_of}
-use Rattle.arj_joint_law.specs.Cleaned.{AreLockTied, AreNamed, DecideSo, LightAreIdle, RunsAreClean, WholeRunsAreClean, disk_of, is_one_of, number_of}
+use Rattle.arj_joint_law.specs.Cleaned.{AreLockTied, AreNamed, RunsAreClean, WholeRunsAreClean, disk_of, is_one_of, number_of}
 use Rattle.arj_joint_law.specs.Includers.{IncludersTakeTurns, JoinersAreNewestFirst, TakesTurnsSo}
 use Rattle.arj_joint_law.specs.Ordered.{AreSpared, AreTurnsOf, IsOrderedSo}
 use Rattle.arj_joint_law.specs.Shown.{FilesAre, IncludesAreThere}
 use Rattle.arj_joint_law.specs.Writers.{WritersAreNewestFirst}
 use Rattle.arj_joint_law.proofs.Called.{decided_writers_stand, decision_of, number_is, one_number, those_of, wrote_something}
 use Rattle.arj_joint_law.proofs.FormRuns.{runs_have_form}
-use Rattle.arj_joint_law.proofs.IdlePlaces.{added, all_idle, all_those, none_among}
+use Rattle.arj_joint_law.proofs.IdlePlaces.{added, all_idle, all_those, none_among, serial_there}
 use Rattle.arj_joint_law.specs.Joined.{AreBareSo, AreRestBeside, AreWritten, IsJoinedSo, JoinedRunsAreSerial}
 use Rattle.arj_joint_law.proofs.JoinedRuns.{runs_are_joined}
 use Rattle.arj_joint_law.proofs.JoinOrder.{decided_joiners_stand}
@@ -161,8 +167,7 @@ ordered_of hd es x h = record { sent = h.sent; stands = h.stands; holds = (let o
 
 -- in which they are named, and wrote what they gave
 abbrev pub Decides : (hd : Header) (es : List Asked) → Held hd es → Type 0
-Decides hd es held = (x : ℕ) (there : is_some (object_line hd x) ≡ true) → LightAreIdle hd (journal hd es) x (disk_of (let h = ordered_of hd es x (held x there) in h.holds)) × AreWritten (first_values hd) (journal hd es) x (let S = disk_of (let h = ordered_of hd es x (held x there) in h.holds) in S.tops)
-    × AreBareSo (journal hd es) x (disk_of (let h = ordered_of hd es x (held x there) in h.holds))
+Decides hd es held = (x : ℕ) (there : is_some (object_line hd x) ≡ true) → AreWritten (first_values hd) (journal hd es) x (let S = disk_of (let h = ordered_of hd es x (held x there) in h.holds) in S.tops) × AreBareSo (journal hd es) x (disk_of (let h = ordered_of hd es x (held x there) in h.holds))
 
 module _ (hd : Header) (es : List Asked) (form : HeaderInForm hd) (tied : AreLockTied hd (journal hd es)) (held : Held hd es) (decide : Decides hd es held) where
   abbrev w : World
@@ -178,11 +183,14 @@ module _ (hd : Header) (es : List Asked) (form : HeaderInForm hd) (tied : AreLoc
     abbrev h : OrderedOf hd es x
     h = ordered_of hd es x (held x there)
 
+    abbrev its_disk : disk_machine.State
+    its_disk = disk_of h.holds
+
     abbrev dones : List Done
     dones = (let S = disk_of h.holds in S.tops)
 
     written : AreWritten (first_values hd) (journal hd es) x dones
-    written = (decide x there).1
+    written = (decide x there).0
 
     turns : AreTurnsOf (journal hd es) dones
     turns = let o = h.holds in o.turns
@@ -280,7 +288,7 @@ module _ (hd : Header) (es : List Asked) (form : HeaderInForm hd) (tied : AreLoc
             let nothing = (let z = core.journal in z.plain e j is) in
             let none = subst (WroteSo (first_values hd) (journal hd es) x t) nothing (written e t j (in_to t (tops (journal hd es)) i) same) in
             absurd (never wrote.2 (none wrote.0 wrote.1 wrote.3))
-        by (inr (inr (inl bare))) = absurd (let d3 = decide x there in d3.2 t (in_to t (tops (journal hd es)) i) bare wrote)
+        by (inr (inr (inl bare))) = absurd (let d2 = decide x there in d2.1 t (in_to t (tops (journal hd es)) i) bare wrote)
         by (inr (inr (inr none))) = absurd (wrote_something (journal hd es) x t k.act k.number wrote none.0)
 
     -- one whose commit ended without a record touched nothing
@@ -306,26 +314,6 @@ module _ (hd : Header) (es : List Asked) (form : HeaderInForm hd) (tied : AreLoc
             sym (joins_so e t j (in_to t (tops (journal hd es)) i) same) ∙ filter_none e.got (let p = e.plan in p.joins) (λ s on. o.still e j is s)
         by (inr (inr (inl bare))) = empty (none_among (joins_of (journal hd es) (let a = k.act in a.id) x) (λ s. (spared_by t i bare s).1))
         by (inr (inr (inr none))) = empty (let z = none.0 in z.includes x)
-
-    -- and each of the others that isn't decided excludes none
-    spares : (t : Top) → In t (tops (journal hd es)) → is_one_of those t ≡ false → not (decided_so (disk_of h.holds) (number_of (journal hd es) t)) ≡ true → (s : ℕ) → is_among (leaves_of (journal hd es) t.id x) s ≡ false
-    spares t i off undone s = by (place t i)
-      where
-        k : IsTopOf (journal hd es) t
-        k = top_item (journal hd es) right t i
-
-        its : is_among (leaves_of (journal hd es) (let a = k.act in a.id) x) s ≡ false → is_among (leaves_of (journal hd es) t.id x) s ≡ false
-        its none = ap (λ n. is_among (leaves_of (journal hd es) n x) s) (sym k.number) ∙ none
-
-        by : In t those ⊎ ((e : Done) × disk.In e dones × (e.top ≡ number_of (journal hd es) t) × (e.counts ≡ false))
-            ⊎ ((let S = disk_of h.holds in S.bare (number_of (journal hd es) t)) ≡ true) ⊎ HasNoPart k.act → is_among (leaves_of (journal hd es) t.id x) s ≡ false
-        by (inl one) = absurd (never (is_there t those one) off)
-        by (inr (inl (e, j, same, is))) = absurd (never undone (ap not (ap (decided_in dones) (sym same) ∙ in_decided dones e j)))
-        by (inr (inr (inl bare))) = its (spared_by t i bare s).0
-        by (inr (inr (inr none))) = its (none.1 s)
-
-    idle : IdleInPlace (journal hd es) x (is_one_of those) (first_stores hd x) (serial_tops (journal hd es))
-    idle = all_idle (journal hd es) x (is_one_of those) (λ t. not (decided_so (disk_of h.holds) (number_of (journal hd es) t))) adds_none spares (first_stores hd x) ((decide x there).0 those named.1)
 
     all : (t : Top) → Contains (tops (journal hd es)) t → (is_one_of those t ≡ true) ⊎ Wrote (journal hd es) x t → Contains those t
     all t c (inl on) =
@@ -354,13 +342,65 @@ module _ (hd : Header) (es : List Asked) (form : HeaderInForm hd) (tied : AreLoc
         nothing None so = refl
         nothing (Some g) (c, last, writer, content) = absurd (none (c, last.there, last.write, last.whose))
 
+    called_so : AreNewestFirst those
+    called_so = newest_first (journal hd es) x those wrote_so (let t = tied.listed x there in decided_writers_stand (first_values hd) (journal hd es) x t.0 right t.1 dones those turns decisions (let o = h.holds in o.once)) (let t = tied.listed x there in decided_joiners_stand (first_values hd) (journal hd es) x t.0 right t.1 dones those includers decisions joined_one)
+
+    changed : (t : Top) → Contains those t → Wrote (journal hd es) x t ⊎ Joined (journal hd es) x t
+    changed t i = ⊎_elim (λ wrote. inl wrote) (λ none. inr (joined_one t i none)) (wrote_so t i)
+
+    -- each of the others excludes no store that is listed in its place
+    excludes : (before : List Top) (t : Top) (after : List Top) → serial_tops (journal hd es) ≡ before ++ (t ∷ after) → In t (tops (journal hd es)) → is_one_of those t ≡ false → (s : ℕ) → is_among (listed_from (journal hd es) x (first_stores hd x) (filter (is_one_of those) before)) s ≡ true → is_among (leaves_of (journal hd es) t.id x) s ≡ false
+    excludes before t after is i off s among = by (place t i)
+      where
+        k : IsTopOf (journal hd es) t
+        k = top_item (journal hd es) right t i
+
+        its : is_among (leaves_of (journal hd es) (let a = k.act in a.id) x) s ≡ false → is_among (leaves_of (journal hd es) t.id x) s ≡ false
+        its none = ap (λ n. is_among (leaves_of (journal hd es) n x) s) (sym k.number) ∙ none
+
+        -- a decided one, whose plan has the store
+        light : (e : Done) → disk.In e dones → e.top ≡ number_of (journal hd es) t → e.counts ≡ false → is_among (leaves_of (journal hd es) t.id x) s ≡ true → ⊥
+        light e j same is_light leaves = never among (unlisted_there (first_values hd) (journal hd es) right x z.0 z.1 (changers_turn (first_values hd) (journal hd es) right x z.0 z.1 ties) its_disk.first_entry (first_stores hd x) begins dones those decisions called_so changed (λ u c on. all u c (inl on)) t k i off (s, subst (λ n. Contains (joins_of (journal hd es) n x) s) k.number joins)
+            (let p = e.plan in p.joins) (let l = held x there in let g = l.holds in g.lights e k.act j is_light act_there number s has_it) before after is s has_it)
+          where
+            z : (T : State) × IsTied (first_values hd) (journal hd es) x T
+            z = tied.listed x there
+
+            number : uid_number (let a = k.act in a.uid) ≡ e.top
+            number = sym (same ∙ its_number t i)
+
+            act_there : Contains (acts (journal hd es)) k.act
+            act_there = in_to k.act (acts (journal hd es)) k.there
+
+            core : Core its_disk
+            core = let o = h.holds in let b = o.begun in let g = b.journalled in let v = g.sees.whole in v.core
+
+            has_it : disk.has s (let p = e.plan in p.joins) ≡ true
+            has_it = ap (λ (o : Option Packed). (is_some o && disk.has s (let p = e.plan in p.list)) || disk.has s (let p = e.plan in p.joins)) (sym (let g = core.journal in g.plain e j is_light)) ∙ (and_parts (target e.plan s) (not (e.got s)) ((let o = h.holds in o.leaves e k.act j act_there number s) ∙ ap (λ n. is_among (leaves_of (journal hd es) n x) s) k.number ∙ leaves)).0
+
+            joins : Contains (joins_of (journal hd es) (let a = k.act in a.id) x) s
+            joins = in_to s (joins_of (journal hd es) (let a = k.act in a.id) x) (in_among (joins_of (journal hd es) (let a = k.act in a.id) x) s (sym (let o = h.holds in o.included e k.act j act_there number s) ∙ has_it))
+
+            begins : its_disk.first_entry ≡ record { version = 0; writer = uid_number nobody; content = first_stores hd x }
+            begins = let o = h.holds in let b = o.begun in let g = b.begins in g.entry
+
+        by : In t those ⊎ ((e : Done) × disk.In e dones × (e.top ≡ number_of (journal hd es) t) × (e.counts ≡ false))
+            ⊎ ((let S = disk_of h.holds in S.bare (number_of (journal hd es) t)) ≡ true) ⊎ HasNoPart k.act → is_among (leaves_of (journal hd es) t.id x) s ≡ false
+        by (inl one) = absurd (never (is_there t those one) off)
+        by (inr (inl (e, j, same, is_light))) = ⊎_elim (λ leaves. absurd (light e j same is_light leaves)) (λ none. none) (bool_cases (is_among (leaves_of (journal hd es) t.id x) s))
+        by (inr (inr (inl bare))) = its (spared_by t i bare s).0
+        by (inr (inr (inr none))) = its (none.1 s)
+
+    idle : IdleInPlace (journal hd es) x (is_one_of those) (first_stores hd x) (serial_tops (journal hd es))
+    idle = all_idle (journal hd es) x (is_one_of those) (first_stores hd x) (serial_tops (journal hd es)) adds_none excludes (serial_there (journal hd es))
+
     changes : DecideChanges hd (journal hd es) x dones
     changes = record {
       those = those;
       each = decisions;
-      called = newest_first (journal hd es) x those wrote_so (let t = tied.listed x there in decided_writers_stand (first_values hd) (journal hd es) x t.0 right t.1 dones those turns decisions (let o = h.holds in o.once)) (let t = tied.listed x there in decided_joiners_stand (first_values hd) (journal hd es) x t.0 right t.1 dones those includers decisions joined_one);
+      called = called_so;
       counts = is_one_of those;
-      counted = λ t i. (is_there t those (in_from t those i), ⊎_elim (λ wrote. inl wrote) (λ none. inr (joined_one t i none)) (wrote_so t i));
+      counted = λ t i. (is_there t those (in_from t those i), changed t i);
       all = all;
       idle = idle;
     }
@@ -433,15 +473,15 @@ module _ (hd : Header) (es : List Asked) (joined : (x : ℕ) → is_some (object
 abbrev pub held_in : (hd : Header) (es : List Asked) → ((x : ℕ) → is_some (object_line hd x) ≡ true → Holds hd (IsJoinedSo hd x) (run_all es (format hd))) → Held hd es
 held_in hd es joined x there = let h = joined x there in record { sent = h.sent; stands = h.stands; holds = (let j = h.holds in record { ordered = j.ordered; includers = j.includers; lights = j.lights }) }
 
-pub decides_in : (hd : Header) (es : List Asked) (joined : (x : ℕ) → is_some (object_line hd x) ≡ true → Holds hd (IsJoinedSo hd x) (run_all es (format hd))) → ((x : ℕ) → is_some (object_line hd x) ≡ true → DecideSo hd x es) → Decides hd es (held_in hd es joined)
-decides_in hd es joined decide x there =
+pub decides_in : (hd : Header) (es : List Asked) (joined : (x : ℕ) → is_some (object_line hd x) ≡ true → Holds hd (IsJoinedSo hd x) (run_all es (format hd))) → Decides hd es (held_in hd es joined)
+decides_in hd es joined x there =
     let j = (let h = joined x there in h.holds) in
-    (decide x there (ordered_of hd es x (held_in hd es joined x there)), j.wrote, j.bare)
+    (j.wrote, j.bare)
 
 pub whole_runs_are_clean : WholeRunsAreClean
-whole_runs_are_clean hd es disks test form short rest decide files =
+whole_runs_are_clean hd es disks test form short rest files =
     let joined = joined_at hd es test form short rest in
-    are_clean hd es disks form (lock_tied hd es joined) (held_in hd es joined) (decides_in hd es joined decide) files
+    are_clean hd es disks form (lock_tied hd es joined) (held_in hd es joined) (decides_in hd es joined) files
 
 pub joined_runs_are_serial : JoinedRunsAreSerial
 joined_runs_are_serial hd es test form short rest = serial hd es (joined_at hd es test form short rest)

@@ -1,6 +1,5 @@
 -- A top that changes nothing finds, at its place in the serial order, none of the stores listed that it includes.
 use Rattle.std.proofs.Common.{Contains, ◌≡◌, ◌⊎◌, ◌<◌, ◌==◌, ◌||◌, ◌++◌, ◌∙◌, ℕ, Bool, true, false, cond, not, List, [], ◌∷◌, append-nil, filter, reverse, ap, arith, eq-eqb, eqb-true, inl, inr, refl, subst, sym, ⊎_elim}
-use Rattle.std.specs.List.{AllByRecursion}
 use Rattle.std.proofs.lemmas.List.{reverse-append}
 use Rattle.std.proofs.lemmas.List.Elements.{filter-append}
 use Rattle.arj_base.specs.Uid.{nobody}
@@ -8,19 +7,17 @@ use Rattle.arj_disk_law.specs.Order.{counts_of}
 use Rattle.arj_disk_law.specs.State.{Done, Packed, entry_in}
 use Rattle.arj_disk_law.specs.Words as disk
 use Rattle.arj_disk_law.specs.Words.{has}
-use Rattle.arj_disk_law.proofs.Base.{bool_cases, or_cases}
-use Rattle.arj_law.proofs.Common.{Pairwise}
+use Rattle.arj_disk_law.proofs.Base.{or_cases}
 use Rattle.arj_line_law.specs.Book.{new_book}
 use Rattle.arj_line_law.specs.Right.{AreRight}
-use Rattle.arj_line_law.proofs.Books.{never}
 use Rattle.arj_lock.proofs.Members.{In, in_filter, in_from, in_to}
 use Rattle.arj_lock_law.specs.State.{State}
 use Rattle.arj_model.specs.Calls.{Top, tops}
-use Rattle.arj_model.specs.Last.{increasing, is_among, joins_of, leaves_of, listed_after, listed_from, serial_tops}
+use Rattle.arj_model.specs.Last.{is_among, leaves_of, listed_after, listed_from, serial_tops}
 use Rattle.arj_model.specs.Serial.{Values}
 use Rattle.arj_protocol.specs.Order.{uid_number}
-use Rattle.arj_protocol.specs.Words.{Line, Uid}
-use Rattle.arj_serial_law.specs.Decided.{AreDecisions, AreNewestFirst, ChangersHaveTurns, IsDecision, IsInTurn, Joined, Wrote}
+use Rattle.arj_protocol.specs.Words.{Line}
+use Rattle.arj_serial_law.specs.Decided.{AreDecisions, AreNewestFirst, ChangersHaveTurns, IsDecision, Joined, Wrote}
 use Rattle.arj_serial_law.specs.Tied.{IsTied}
 use Rattle.arj_serial_law.proofs.Cleaning.{has_among}
 use Rattle.arj_serial_law.proofs.Entries.{by_decisions, entry_counted}

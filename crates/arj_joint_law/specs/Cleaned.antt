@@ -1,17 +1,15 @@
 -- Runs whose files are clean, by both machines of each object, with what these are still asked for.
-use Rattle.std.specs.Prelude.{⊤, ◌≡◌, ◌≤◌, ◌==◌, ◌||◌, ℕ, Bool, true, false, List, [], ◌∷◌, filter, not, is_some, length, Contains}
+use Rattle.std.specs.Prelude.{⊤, ◌≡◌, ◌≤◌, ◌==◌, ℕ, Bool, true, List, [], ◌∷◌, is_some, length, Contains}
 use Rattle.std.specs.List.{list_any}
 use Rattle.arj_journal.specs.ScriptForm.{HeaderInForm}
 use Rattle.arj_model.specs.Actions.{acts}
 use Rattle.arj_model.specs.Calls.{Top, tops}
 use Rattle.arj_model.specs.Clean.{Clean, Disks}
-use Rattle.arj_model.specs.Last.{first_values, is_among, leaves_of, listed_after, object_line, serial_tops, uid_of_id}
+use Rattle.arj_model.specs.Last.{first_values, object_line, uid_of_id}
 use Rattle.arj_protocol.specs.Order.{uid_number}
 use Rattle.arj_protocol.specs.Words.{Header, Line}
 use Rattle.arj_protocol.specs.World.{Asked, format, journal, run_all}
-use Rattle.arj_law.specs.Growth.{first_stores}
-use Rattle.arj_disk_law.specs.Order.{counts_of}
-use Rattle.arj_disk_law.specs.State.{Done, State, decided}
+use Rattle.arj_disk_law.specs.State.{Done, State}
 use Rattle.arj_view_law.specs.Keeps.{Holds}
 use Rattle.arj_view_law.specs.Seen.{Seen, see}
 use Rattle.arj_binding_law.specs.Scripts.{most_events}
@@ -42,27 +40,14 @@ AreNamed lines [] [] = ⊤
 AreNamed lines (d ∷ ds) (t ∷ ts) = IsNamed lines d t × AreNamed lines ds ts
 AreNamed lines ds ts = ⊥
 
--- a top that doesn't count excludes, at its place in the serial order, no store that is listed
-abbrev pub ExcludesNoListed : List Line → ℕ → (Top → Bool) → List ℕ → List Top → Type 0
-ExcludesNoListed lines x counts stores [] = ⊤
-ExcludesNoListed lines x counts stores (t ∷ ts) = (counts t ≡ false → (s : ℕ) → is_among stores s ≡ true → is_among (leaves_of lines t.id x) s ≡ false) × ExcludesNoListed lines x counts (listed_after lines x stores t) ts
-
--- Whoever the decided tops that count are in the journal, each other decided top excludes no store that is listed in its place: of what
--- `DecideChanges` of `arj_serial_law` has all else is given.
-abbrev pub LightAreIdle : Header → List Line → ℕ → State → Type 0
-LightAreIdle header lines x S = (those : List Top) → AreNamed lines (filter counts_of S.tops) those → ExcludesNoListed lines x (λ t. is_one_of those t || not (decided S (number_of lines t))) (first_stores header x) (serial_tops lines)
-
 -- the state of the disk machine
 abbrev pub disk_of : {hd : Header} {x : ℕ} {M : Seen} → IsOrderedSo hd x M → State
 disk_of o = (let b = o.begun in let j = b.journalled in let W = j.machine in W.disk)
 
--- so it is of each state in which the disk machine is seen after the run, with the journal's decisions in order
-abbrev pub DecideSo : Header → ℕ → List Asked → Type 0
-DecideSo hd x es = (h : Holds hd (IsOrderedSo hd x) (run_all es (format hd))) → LightAreIdle hd (journal hd es) x (disk_of h.holds)
-
--- and they wrote what they gave to the stores, and those without a record nothing
+-- In each state in which the disk machine is seen after the run, with the journal's decisions in order, decided tops wrote what they gave to the stores,
+-- and those without a record nothing.
 abbrev pub DecideWrittenSo : Header → ℕ → List Asked → Type 0
-DecideWrittenSo hd x es = (h : Holds hd (IsOrderedSo hd x) (run_all es (format hd))) → LightAreIdle hd (journal hd es) x (disk_of h.holds) × AreWritten (first_values hd) (journal hd es) x (let S = disk_of h.holds in S.tops) × AreBareSo (journal hd es) x (disk_of h.holds)
+DecideWrittenSo hd x es = (h : Holds hd (IsOrderedSo hd x) (run_all es (format hd))) → AreWritten (first_values hd) (journal hd es) x (let S = disk_of h.holds in S.tops) × AreBareSo (journal hd es) x (disk_of h.holds)
 
 -- The journal is tied to the lock machines: of objects of which a call was answered, and of those of the header.
 pub record AreLockTied (hd : Header) (lines : List Line) : Type 0 where
@@ -83,6 +68,5 @@ RunsAreClean = (hd : Header) (es : List Asked) (disks : Disks) (heard : ℕ → 
 abbrev pub WholeRunsAreClean : Type 0
 WholeRunsAreClean = (hd : Header) (es : List Asked) (disks : Disks) (test : ℕ → List Action → Seen → Bool) → HeaderInForm hd → length es ≤ most_events
     → AreRestBeside hd test
-    → ((x : ℕ) → is_some (object_line hd x) ≡ true → DecideSo hd x es)
     → FilesAre (see [] (run_all es (format hd))) disks
     → Clean hd (journal hd es) disks

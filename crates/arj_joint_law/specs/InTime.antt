@@ -9,7 +9,7 @@ use Rattle.arj_binding_law.specs.Scripts.{most_events}
 use Rattle.arj_disk_run_law.specs.Rest.{KeepsHeard}
 use Rattle.arj_joint_law.specs.Joined.{AreRestBeside}
 use Rattle.arj_part_law.specs.Actions.{Action}
-use Rattle.arj_joint_law.specs.Cleaned.{AreLockTied, DecideSo, DecideWrittenSo}
+use Rattle.arj_joint_law.specs.Cleaned.{AreLockTied, DecideWrittenSo}
 use Rattle.arj_joint_law.specs.Excluded.{AreExcludedInTime}
 
 -- After the run of each script stores are excluded in time, on what makes its files clean, where decided tops are so.
@@ -24,5 +24,4 @@ RunsExcludeInTime = (hd : Header) (es : List Asked) (heard : ℕ → Seen → Bo
 abbrev pub WholeRunsExcludeInTime : Type 0
 WholeRunsExcludeInTime = (hd : Header) (es : List Asked) (test : ℕ → List Action → Seen → Bool) → HeaderInForm hd → length es ≤ most_events
     → AreRestBeside hd test
-    → ((x : ℕ) → is_some (object_line hd x) ≡ true → DecideSo hd x es)
     → (let w = run_all es (format hd) in AreExcludedInTime hd w.event (see [] w))

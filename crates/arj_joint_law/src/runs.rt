@@ -27,7 +27,9 @@ pub fn runs_begin_as_the_header_says()
 /// stores included one; and its root is the one at the head of its path there. Of a committed top that it hasn't decided, and whose commit
 /// didn't end without a record, nothing survives, and it excluded no store. And of each two of them that count the one that was decided
 /// first had its commit called first too, where the later one includes a store, or changes the object and the earlier one didn't
-/// (`includers`): so long as a commit uses what naming has of the object, that has given no other the right to change it. And whoever wrote the
+/// (`includers`): so long as a commit uses what naming has of the object, that has given no other the right to change it. Of one that doesn't count and
+/// includes a store those that count and were decided before naming confirmed it had their commits called before, and left none of its stores listed;
+/// those that were decided behind had theirs called later, or include no store (`LightsAreSplit`). And whoever wrote the
 /// object before one that counts and only includes a store was said before that one's commit was called (`IncludersKnow`): what its commit loaded
 /// was known then by decisions that had been said, and is the last state as it is decided. It takes the same as `runs_begin_as_the_header_says`.
 /// It does nothing when it runs.
@@ -38,13 +40,12 @@ pub fn decisions_come_behind_calls()
 {}
 
 /// After the run of each script whose header is in form, of at most 1,000,000 events, files that are those of its nodes' pairs are clean:
-/// with what the disk machine's half takes alone, where the journal is tied to the lock machines, or with what the lock half takes (`whole`),
-/// which ties the journal and takes nothing of the disk half; and where a decided top that doesn't count for the object excludes no store
-/// that is listed in its place (`LightAreIdle`), and decided tops wrote what they gave to the stores, and those without a record nothing,
-/// which is given with both halves (`runs_have_both_machines`). That decided tops are the journal's, that machines began as the header says,
-/// that all states are of their class,
-/// that decided writers stand as their commits were called, that decided tops take those stores out of the list that their commits excluded and
-/// add those that they included, and that each include names a node of the header, is given here. It does nothing when it runs.
+/// with what the disk machine's half takes alone, where the journal is tied to the lock machines, and decided tops wrote what they gave to the
+/// stores, and those without a record nothing; or with what the lock half takes alone (`whole`), which ties the journal and takes nothing of
+/// the disk half, and where that is given (`runs_have_both_machines`). That decided tops are the journal's, that machines began as the header
+/// says, that all states are of their class, that decided writers stand as their commits were called, that decided tops take those stores out
+/// of the list that their commits excluded and add those that they included, that who counts for nothing excludes no store that is listed in its
+/// place, and that each include names a node of the header, is given here. It does nothing when it runs.
 pub fn runs_are_clean()
     ensures clean { RunsAreClean }
     ensures whole { WholeRunsAreClean }
