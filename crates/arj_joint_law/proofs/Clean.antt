@@ -423,7 +423,7 @@ module _ (hd : Header) (es : List Asked) (form : HeaderInForm hd) (tied : AreLoc
 
 -- ---- includes
 
-object_some : (hd : Header) (x : ℕ) → HasObject hd x → is_some (object_line hd x) ≡ true
+pub object_some : (hd : Header) (x : ℕ) → HasObject hd x → is_some (object_line hd x) ≡ true
 object_some hd x (o, there, same) = by (object_line hd x) refl
   where
     by : (q : Option ObjectLine) → object_line hd x ≡ q → is_some q ≡ true

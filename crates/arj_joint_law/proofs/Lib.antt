@@ -42,6 +42,9 @@ pub mod Knowing
 pub mod Counting
 pub mod JoinedParts
 pub mod JoinedRuns
+pub mod GivenOn
+pub mod HeldRuns
+pub mod Holding
 pub mod Writing
 pub mod Written
 pub mod Ending

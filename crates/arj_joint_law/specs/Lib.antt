@@ -24,3 +24,4 @@ pub mod BasedSteps
 pub mod Given
 pub mod Nodes
 pub mod Fit
+pub mod Held

@@ -27,4 +27,5 @@ pub mod VotedRuns
 pub mod OnSteps
 pub mod Fronts
 pub mod RowsSeen
+pub mod HeldBy
 pub mod Holding

@@ -1,0 +1,219 @@
+-- Both machines beside each other after each event of a run: the lock machine has gone on from each state in which the object was seen before.
+use Rattle.std.proofs.Common.{◌≡◌, ◌⊎◌, ◌∙◌, ◌++◌, ◌+◌, ℕ, List, [], ◌∷◌, true, refl, sym, ap, subst, inl, inr, ⊎_elim, arith, length, length-append, is_some}
+use Rattle.std.specs.Prelude.{⊤, ◌≤◌}
+use Rattle.std.specs.List.{AllByRecursion}
+use Rattle.arj_journal.specs.ScriptForm.{HeaderInForm}
+use Rattle.arj_lock.proofs.Members.{In}
+use Rattle.arj_model.specs.Last.{first_values, object_line}
+use Rattle.arj_protocol.specs.Words.{Header, Line}
+use Rattle.arj_protocol.specs.World.{Asked, World, format, most_labels, run_all, run_event}
+use Rattle.arj_part_law.specs.Actions.{Action}
+use Rattle.arj_run_law.specs.Worlds.{IsGood}
+use Rattle.arj_run_law.proofs.AllRuns.{all_keep as parts_good}
+use Rattle.arj_view_law.specs.Keeps.{Holds, Keeps, KeepsOn}
+use Rattle.arj_view_law.specs.Seen.{Seen, see}
+use Rattle.arj_view_law.proofs.Happens.{all_to, event_asked}
+use Rattle.arj_call_law.specs.Bindings.{AreSaid, HasFewBindings}
+use Rattle.arj_call_law.specs.Runs.{KnowsFew}
+use Rattle.arj_call_law.proofs.Given.{KeepsGiven, given_more, keeps_given, kept_both}
+use Rattle.arj_call_law.proofs.WholeRuns.{WhileFew, few_before, few_go}
+use Rattle.arj_binding_law.specs.Scripts.{most_events}
+use Rattle.arj_binding_law.proofs.Events.{few_labels}
+use Rattle.arj_line_law.specs.Knows.{IsKept}
+use Rattle.arj_line_law.proofs.Runs.{lines_keep}
+use Rattle.arj_disk_law.specs.Names.{Office}
+use Rattle.arj_disk_view_law.specs.Sees.{Kinds}
+use Rattle.arj_names_view_law.specs.Both.{SeesBoth}
+use Rattle.arj_disk_run_law.specs.Bindings.{KnowsScript}
+use Rattle.arj_disk_run_law.specs.Entries.{HaveEntries}
+use Rattle.arj_disk_run_law.specs.Part.{KeepsPart}
+use Rattle.arj_disk_run_law.proofs.BothEach.{with_entries}
+use Rattle.arj_disk_run_law.proofs.Given.{gives_votes}
+use Rattle.arj_disk_run_law.proofs.Kept.{IsKeptInRun, all_keep}
+use Rattle.arj_disk_run_law.proofs.Scripts.{part_more, script_holds}
+use Rattle.arj_disk_line_law.specs.Said.{AreNotLate, WithTie}
+use Rattle.arj_disk_line_law.proofs.IdleKnown.{knows_idle}
+use Rattle.arj_disk_line_law.proofs.Tying.{tied_part}
+use Rattle.arj_disk_line_law.proofs.Unlate.{unlate_each}
+use Rattle.arj_lock_law.specs.Machine.{Run, stay}
+use Rattle.arj_lock_law.specs.State.{State}
+use Rattle.arj_lock_law.proofs.Order.{go_on}
+use Rattle.arj_lock_run_law.specs.Fixed.{Fixed}
+use Rattle.arj_lock_whole_law.specs.Held.{AfterEach}
+use Rattle.arj_lock_whole_law.specs.Runs.{IsRestBeside}
+use Rattle.arj_lock_whole_law.proofs.Fronts.{lines_grow}
+use Rattle.arj_lock_whole_law.proofs.HeldBy.{HasBegun, WasSeen}
+use Rattle.arj_joint_law.specs.Joined.{IsBeside, IsCountedJoined, IsKnownJoined, SeesInOrder}
+use Rattle.arj_joint_law.proofs.GivenOn.{GoesOn, HasLines, keeps_on}
+use Rattle.arj_joint_law.proofs.JoinedParts.{Knows, counted_kept, locked}
+use Rattle.arj_joint_law.proofs.Joining.{WithLocks}
+use Rattle.arj_joint_law.proofs.LastWriters.{Idle}
+
+-- ---- what is carried
+
+-- with what is kept everywhere
+abbrev pub IsKnownThere : ℕ → (Seen → Type 0) → Seen → Type 0
+IsKnownThere x R M = (R M × IsKept M) × HaveEntries x M
+
+-- the state of the disk machine that is carried through a run, tied to the journal, in which nobody is late
+abbrev pub IsCarriedThere : ℕ → (Kinds → Office → Seen → Type 0) → Kinds → Seen → Type 0
+IsCarriedThere x P tops M = (A : Office) × SeesBoth x tops A M × WithTie P Idle tops A M × AreNotLate A.world M
+
+-- so it is in each world of a run
+abbrev pub IsThere : ℕ → (Seen → Type 0) → (Kinds → Office → Seen → Type 0) → Seen → Type 0
+IsThere x R P M = IsKeptInRun (IsKnownThere x R) (IsCarriedThere x P) M
+
+-- what each handler keeps beside so much more is carried
+module _ (hd : Header) (x : ℕ) (R L : Seen → Type 0) (kept : Keeps hd R) (P : Kinds → Office → Seen → Type 0) (parts : KeepsPart hd x (λ W M. R M × ((KnowsScript M × L M) × AreNotLate W M)) P) where
+  abbrev Told : Seen → Type 0
+  Told M = R M × IsKept M
+
+  tied : KeepsPart hd x (λ W M. Told M × ((KnowsScript M × L M) × AreNotLate W M)) (WithTie P Idle)
+  tied = tied_part hd x R (λ W M. (KnowsScript M × L M) × AreNotLate W M) P Idle kept parts (knows_idle R)
+
+  known : Keeps hd (IsKnownThere x R)
+  known = with_entries hd x Told (λ W M. Told M × ((KnowsScript M × L M) × AreNotLate W M)) (WithTie P Idle) tied (kept_both hd R IsKept kept (keeps_given hd R IsKept (lines_keep hd)))
+
+  pub there_given : KeepsGiven hd (λ M. KnowsScript M × L M) (IsThere x R P)
+  there_given = all_keep hd x (IsKnownThere x R) (λ M. KnowsScript M × L M) (IsCarriedThere x P) known (λ acts k d t M h. gives_votes (IsKnownThere x R) acts k d t M (h.0, h.1.0)) (unlate_each hd x Told (λ M. KnowsScript M × L M) P Idle tied)
+
+-- ---- both machines
+
+-- a script with one event more
+one_behind : (es : List Asked) (e : Asked) (w : World) → run_all (es ++ e ∷ []) w ≡ run_event e (run_all es w)
+one_behind [] e w = refl
+one_behind (f ∷ es) e w = one_behind es e (run_event f w)
+
+module _ (hd : Header) (x : ℕ) (E : List Action → Seen → Type 0) (form : HeaderInForm hd) (there : is_some (object_line hd x) ≡ true) (rest : IsRestBeside hd (first_values hd) x E (IsBeside x)) where
+  abbrev pub Known : List Action → Seen → Type 0
+  Known = Knows hd x E form there rest
+
+  counted : Keeps hd IsCountedJoined
+  counted = counted_kept hd x E form there rest
+
+  -- the object was seen in each of these worlds, in a state from which the machine goes on to this one
+  abbrev pub Past : List World → Fixed → State → Seen → Type 0
+  Past ws f S M = HasLines M → AllByRecursion (WasSeen (first_values hd) x f S) ws
+
+  stays : (ws : List World) (M N : Seen) → HasLines M → (f : Fixed) (S T : State) → Run S T → Past ws f S M → Past ws f T N
+  stays ws M N has f S T run past later = all_to (WasSeen (first_values hd) x f S) (WasSeen (first_values hd) x f T) ws
+      (λ w z. record { sent = z.sent; begun = z.begun; alike = z.alike; names = z.names; agrees = z.agrees; state = z.state; sees = z.sees; tied = z.tied; goes = go_on z.goes run }) (past has)
+
+  abbrev pub Pairs : List World → Kinds → Office → Seen → Type 0
+  Pairs ws = WithLocks (first_values hd) x Known (Past ws) (SeesInOrder x)
+
+  pairs_given : (ws : List World) → KeepsGiven hd (λ M. KnowsScript M × HasLines M) (IsThere x IsCountedJoined (Pairs ws))
+  pairs_given ws = there_given hd x IsCountedJoined HasLines counted (Pairs ws)
+      (part_more hd x (λ W M. IsKnownJoined M × HasLines M) (λ W M. IsCountedJoined M × ((KnowsScript M × HasLines M) × AreNotLate W M)) (Pairs ws) (λ W M q. let r = q.1 in ((q.0, r.0.0), r.0.1)) (locked hd x E form there rest HasLines (Past ws) (stays ws) (λ f S later. absurd (later refl))))
+
+  -- what is known as long as few bindings were made
+  abbrev pub Calm : Seen → Type 0
+  Calm M = WhileFew IsGood M
+
+  calm : Keeps hd Calm
+  calm = few_go hd IsGood (keeps_given hd KnowsFew IsGood (parts_good hd))
+
+  pub know : (M : Seen) → Calm M → HasFewBindings M.lines → KnowsFew M
+  know M c few = (few, (c.1 few).0)
+
+  abbrev pub Going : List World → Seen → Type 0
+  Going ws M = GoesOn Calm (IsThere x IsCountedJoined (Pairs ws)) M
+
+  going_kept : (ws : List World) → KeepsOn hd (Going ws)
+  going_kept ws = keeps_on hd Calm (IsThere x IsCountedJoined (Pairs ws)) calm know (pairs_given ws)
+
+  -- ---- a world more
+
+  with_here : (ws : List World) (w : World) → Holds hd (Going ws) w → HasFewBindings w.lines → length w.labels ≤ most_labels → Holds hd (Going (w ∷ ws)) w
+  with_here ws w h bindings labels = record { sent = h.sent; stands = h.stands; holds = (h.holds.0, (λ few. let k = h.holds.1 (bindings, labels) in (k.0, (k.1.0, k.1.1, k.1.2, k.1.3, k.1.4, (λ tops agree. on tops (k.1.5 tops agree)))))) }
+    where
+      on : (tops : Kinds) → IsCarriedThere x (Pairs ws) tops (see h.sent w) → IsCarriedThere x (Pairs (w ∷ ws)) tops (see h.sent w)
+      on tops (A, both, ((p, j), tie), early) = (
+        A,
+        both,
+        (
+          (
+            p,
+            (
+              j.0,
+              j.1,
+              j.2,
+              (λ f a.
+                  let g = j.3 f a in
+                  (g.0, g.1, g.2, g.3, g.4, g.5, g.6, (λ later. (record { sent = h.sent; begun = j.0; alike = j.1; names = (let k = j.2.0 in k.names); agrees = a; state = g.0; sees = g.1; tied = g.2; goes = stay }, g.7 later)))),
+              j.4,
+            ),
+          ),
+          tie,
+        ),
+        early,
+      )
+
+  labels_here : (w : World) (before : List Asked) → w ≡ run_all before (format hd) → length w.labels ≤ most_labels
+  labels_here w before is = subst (λ (v : World). length v.labels ≤ most_labels) (sym is) (few_labels hd before)
+
+  -- all worlds from here on
+  along : (es : List Asked) (w : World) (before : List Asked) → w ≡ run_all before (format hd) → (ws : List World) → Holds hd (Going ws) w → HasFewBindings (let v = run_all es w in v.lines)
+      → (all : List World) × Holds hd (Going all) (run_all es w) × AfterEach (λ v. In v all) w es × ((v : World) → In v ws → In v all)
+  along [] w before is ws h few = (w ∷ ws, with_here ws w h few (labels_here w before is), inl refl, (λ v i. inr i))
+  along (e ∷ es) w before is ws h few =
+      let g = lines_grow (e ∷ es) w in
+      let now = with_here ws w h (few_before w.lines g.0 (subst HasFewBindings g.1 few)) (labels_here w before is) in
+      let r = along es (run_event e w) (before ++ e ∷ []) (ap (run_event e) is ∙ sym (one_behind before e (format hd))) (w ∷ ws) (event_asked hd (Going (w ∷ ws)) (going_kept (w ∷ ws)) e w now) few in
+      (r.0, r.1, (r.3 w (inl refl), r.2), (λ v i. r.3 v (inr i)))
+
+  -- ---- as something is said first
+
+  abbrev Plain : Kinds → Office → Seen → Type 0
+  Plain = WithLocks (first_values hd) x Known (λ f S M. ⊤) (SeesInOrder x)
+
+  plain_given : KeepsGiven hd (λ M. KnowsScript M × ⊤) (IsThere x IsCountedJoined Plain)
+  plain_given = there_given hd x IsCountedJoined (λ M. ⊤) counted Plain
+      (part_more hd x (λ W M. IsKnownJoined M × ⊤) (λ W M. IsCountedJoined M × ((KnowsScript M × ⊤) × AreNotLate W M)) Plain (λ W M q. let r = q.1 in ((q.0, r.0.0), tt)) (locked hd x E form there rest (λ M. ⊤) (λ f S M. ⊤) (λ M N l f S T run past. tt) (λ f S. tt)))
+
+  -- after a script behind which something was said
+  started : (es : List Asked) → length es ≤ most_events → HasBegun (run_all es (format hd)) → Holds hd (Going []) (run_all es (format hd))
+  started es short begun =
+      let r = script_holds hd (IsThere x IsCountedJoined Plain) (given_more hd (λ M. KnowsScript M × ⊤) KnowsScript (IsThere x IsCountedJoined Plain) (λ M k. (k, tt)) plain_given) es short in
+      record { sent = r.sent; stands = r.stands; holds = going (see r.sent (run_all es (format hd))) begun r.holds.0 r.holds.1 }
+    where
+      on : (M : Seen) (tops : Kinds) → IsCarriedThere x Plain tops M → IsCarriedThere x (Pairs []) tops M
+      on M tops (A, both, ((p, j), tie), early) = (A, both, ((p, (j.0, j.1, j.2, (λ f a. let g = j.3 f a in (g.0, g.1, g.2, g.3, g.4, g.5, g.6, (λ later. tt))), j.4)), tie), early)
+
+      going : (M : Seen) → HasLines M → KnowsFew M → IsThere x IsCountedJoined Plain M → Going [] M
+      going M has few k =
+          let good : IsGood M × AreSaid M = (let c = k.1.4.0.0.0.0 in (c.0.0.0, c.1.1)) in
+          (((good, (λ f. (few.1, good.0))), has), (λ f. (k.0, (k.1.0, k.1.1, k.1.2, k.1.3, k.1.4, (λ tops agree. on M tops (k.1.5 tops agree))))))
+
+  -- ---- the whole run
+
+  -- nothing was said, or both machines are seen at the end as they went on from each world in which something was said
+  abbrev pub Ends : List Asked → World → Type 0
+  Ends es w = ((let v = run_all es w in v.lines) ≡ []) ⊎ ((all : List World) × Holds hd (Going all) (run_all es w) × AfterEach (λ v. HasBegun v → In v all) w es)
+
+  later : (P : World → Type 0) (es : List Asked) (w : World) → AfterEach P w es → AfterEach (λ v. HasBegun v → P v) w es
+  later P [] w p = λ b. p
+  later P (e ∷ es) w p = ((λ b. p.0), later P es (run_event e w) p.1)
+
+  -- where something was said
+  from_here : (es : List Asked) (w : World) (before : List Asked) → w ≡ run_all before (format hd) → length before ≤ most_events → HasFewBindings (let v = run_all es w in v.lines) → HasBegun w → Ends es w
+  from_here es w before is short few begun =
+      let g : Holds hd (Going []) w = subst (Holds hd (Going [])) (sym is) (started before short (subst HasBegun is begun)) in
+      let r = along es w before is [] g few in
+      inr (r.0, r.1, later (λ v. In v r.0) es w r.2)
+
+  either : (es : List Asked) (w : World) → ((let v = w in v.lines) ≡ [] → Ends es w) → (HasBegun w → Ends es w) → Ends es w
+  either es w none some = by w.lines refl
+    where
+      by : (ls : List Line) → w.lines ≡ ls → Ends es w
+      by [] is = none is
+      by (l ∷ ls) is = some (λ empty. cc (sym is ∙ empty))
+
+  pub ends : (es : List Asked) (w : World) (before : List Asked) → w ≡ run_all before (format hd) → length before + length es ≤ most_events → HasFewBindings (let v = run_all es w in v.lines) → Ends es w
+  ends [] w before is short few = either [] w (λ none. inl none) (from_here [] w before is (omega (arith, short)) few)
+  ends (e ∷ es) w before is short few =
+      let next = ends es (run_event e w) (before ++ e ∷ []) (ap (run_event e) is ∙ sym (one_behind before e (format hd))) (longer before e es short) few in
+      either (e ∷ es) w (λ none. ⊎_elim (λ empty. inl empty) (λ q. inr (q.0, q.1, ((λ b. absurd (b none)), q.2))) next) (from_here (e ∷ es) w before is (omega (arith, short)) few)
+    where
+      longer : (before : List Asked) (e : Asked) (fs : List Asked) → length before + length (e ∷ fs) ≤ most_events → length (before ++ e ∷ []) + length fs ≤ most_events
+      longer before e fs less = omega (arith, less, length-append before (e ∷ []))

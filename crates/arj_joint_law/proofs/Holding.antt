@@ -1,0 +1,79 @@
+-- Calls and entries are locked for after each event, where both machines stand in one run.
+use Rattle.std.proofs.Common.{◌≡◌, ℕ, List, [], true, refl, subst, ⊎_elim, arith, length, is_some}
+use Rattle.std.specs.Prelude.{◌≤◌}
+use Rattle.std.specs.List.{AllByRecursion}
+use Rattle.arj_journal.specs.ScriptForm.{HeaderInForm}
+use Rattle.arj_lock.proofs.Members.{In}
+use Rattle.arj_model.specs.Calls.{committed_calls, tops}
+use Rattle.arj_model.specs.Last.{first_values, object_line}
+use Rattle.arj_protocol.specs.Words.{Header, Line}
+use Rattle.arj_protocol.specs.World.{Asked, World, format, journal, run_all}
+use Rattle.arj_part_law.specs.Actions.{Action}
+use Rattle.arj_view_law.specs.Keeps.{Holds}
+use Rattle.arj_view_law.specs.Seen.{Seen, see}
+use Rattle.arj_binding_law.specs.Scripts.{most_events}
+use Rattle.arj_binding_law.proofs.Events.{few_labels, scripts_few}
+use Rattle.arj_disk_run_law.specs.Kinds.{kinds_of}
+use Rattle.arj_disk_run_law.proofs.Begun.{kinds_agree}
+use Rattle.arj_lock_law.specs.State.{State}
+use Rattle.arj_lock_run_law.specs.Fixed.{AgreesAs, Fixed}
+use Rattle.arj_lock_run_law.specs.Sees.{SeesLocks}
+use Rattle.arj_lock_run_law.specs.Tied.{AreTied}
+use Rattle.arj_lock_whole_law.specs.Held.{AfterEach}
+use Rattle.arj_lock_whole_law.specs.Runs.{IsRestBeside}
+use Rattle.arj_lock_whole_law.proofs.Fronts.{each_to}
+use Rattle.arj_lock_whole_law.proofs.AckWalks.{all_at}
+use Rattle.arj_lock_whole_law.proofs.HeldBy.{HasBegun, OfObject, WasSeen, agreed, fixed, holds, last, of_object}
+use Rattle.arj_serial_law.specs.Seen.{RequestsAreOne}
+use Rattle.arj_joint_law.specs.Held.{JointRunsHoldLocks}
+use Rattle.arj_joint_law.specs.Joined.{IsBeside, IsCountedJoined}
+use Rattle.arj_joint_law.proofs.Clean.{object_some}
+use Rattle.arj_joint_law.proofs.HeldRuns.{Going, IsThere, Known, Pairs, Past, ends, know}
+use Rattle.arj_joint_law.proofs.Joining.{HasLocks}
+use Rattle.arj_joint_law.proofs.NextGiven.{one_requests}
+
+module _ (hd : Header) (x : ℕ) (E : List Action → Seen → Type 0) (form : HeaderInForm hd) (there : is_some (object_line hd x) ≡ true) (rest : IsRestBeside hd (first_values hd) x E (IsBeside x)) (es : List Asked) (short : length es ≤ most_events) where
+  -- in a journal without a line nothing is held
+  of_none : (journal hd es) ≡ [] → OfObject hd es x
+  of_none empty = record {
+    node = λ c. 0;
+    held = λ c i same. absurd (subst (λ (ls : List Line). In c (committed_calls ls)) empty i);
+    written = λ u listed i j same. absurd (subst (λ (ls : List Line). In u (tops ls)) empty listed);
+    one = λ c d i j a b. absurd (subst (λ (ls : List Line). In c (committed_calls ls)) empty i);
+  }
+
+  module _ (all : List World) (h : Holds hd (Going hd x E form there rest all) (run_all es (format hd))) where
+    abbrev M : Seen
+    M = see h.sent (run_all es (format hd))
+
+    abbrev k : IsThere x IsCountedJoined (Pairs hd x E form there rest all) M
+    k = h.holds.1 (scripts_few hd es short, few_labels hd es)
+
+    abbrev j : HasLocks (first_values hd) x (Known hd x E form there rest) (Past hd x E form there rest all) (let c = k.1.5 (kinds_of k.0) (kinds_agree k.0 (let g = k.1.0 in g.begun) k.1.1) in c.0.world) M
+    j = let c = k.1.5 (kinds_of k.0) (kinds_agree k.0 (let g = k.1.0 in g.begun) k.1.1) in c.2.0.1
+
+    abbrev seen : (f : Fixed) → AgreesAs (first_values hd) f x j.0 M.sent → (S : State) × SeesLocks f x j.0 S M × AreTied f x M.lines S
+    seen f a = let g = j.3 f a in (g.0, g.1, g.2)
+
+    knows : RequestsAreOne M
+    knows = one_requests x j.0 M (know hd x E form there rest M h.holds.0.0 (scripts_few hd es short)) j.2.0
+
+    abbrev f : Fixed
+    f = fixed hd (first_values hd) x es h.sent j.0 j.1 seen knows
+
+    abbrev T : State
+    T = last hd (first_values hd) x es h.sent j.0 j.1 seen knows
+
+    was : AllByRecursion (WasSeen (first_values hd) x f T) all
+    was = let g = j.3 f (agreed hd (first_values hd) x es h.sent j.0 j.1 seen knows) in g.7 h.holds.0.1
+
+    its : AfterEach (λ v. HasBegun v → In v all) (format hd) es → OfObject hd es x
+    its each = of_object hd (first_values hd) x es h.sent j.0 j.1 seen knows
+        (each_to (λ v. HasBegun v → In v all) (λ v. HasBegun v → WasSeen (first_values hd) x f T v) (λ v i begun. all_at (WasSeen (first_values hd) x f T) all v was (i begun)) es (format hd) each)
+
+  pub its_object : OfObject hd es x
+  its_object = ⊎_elim of_none (λ q. its q.0 q.1 q.2) (ends hd x E form there rest es (format hd) [] refl (omega (arith, short)) (scripts_few hd es short))
+
+pub joint_runs_hold_locks : JointRunsHoldLocks
+joint_runs_hold_locks hd es test form short rest =
+    holds hd es (λ x has. let there = object_some hd x has in its_object hd x (λ begun M. test x begun M ≡ true) form there (rest x there) es short)
