@@ -106,3 +106,6 @@ pub mod GivenFirst
 pub mod GivenForms
 pub mod GivenLast
 pub mod Fits
+pub mod FitCoords
+pub mod FitSteps
+pub mod FitRuns

@@ -25,3 +25,4 @@ pub mod Given
 pub mod Nodes
 pub mod Fit
 pub mod Held
+pub mod FitRuns
