@@ -26,7 +26,7 @@ use Rattle.arj_lock_view_law.specs.Telling.{Family}
 use Rattle.arj_lock_view_law.proofs.FamilySteps.{families_are_trees}
 use Rattle.arj_lock_whole_law.specs.Called.{SayOf}
 use Rattle.arj_lock_whole_law.proofs.CalledSays.{acts_fine, commit_fine, message_fine, restart_fine, tick_fine}
-use Rattle.arj_model.specs.Actions.{Act, acts as acts_of_lines, is_serial, path, uids}
+use Rattle.arj_model.specs.Actions.{Act, acts as acts_of_lines, path, uids}
 use Rattle.arj_part_law.specs.Actions.{Action, act_of, action_of, paths_of}
 use Rattle.arj_part_law.specs.Coords.{IsGoodCoord}
 use Rattle.arj_part_law.proofs.CoordInputs.{named_found}
@@ -57,6 +57,7 @@ use Rattle.arj_view_law.specs.Walks.{Up, Walks}
 use Rattle.arj_view_law.proofs.Happens.{runs_hold}
 use Rattle.arj_joint_law.specs.Alone.{AreCalledAlone, IsCalledAlone, RunsCallAlone}
 use Rattle.arj_joint_law.proofs.CommitCalls.{NoCall, end_quiet, marks_quiet, no_call}
+use Rattle.arj_serial_law.proofs.Order.{top_plain}
 
 never : {P : Type 0} {b : Bool} → b ≡ true → b ≡ false → P
 never {P} {b} holds fails = let no_way : true ≡ false = sym holds ∙ fails in absurd (cc no_way)
@@ -115,17 +116,10 @@ first_on : (xs : List Act) (x : Act) → In x xs → is_on (uids xs) (first_uid 
 first_on [] x i = absurd i
 first_on (y ∷ ys) x i = ap (λ b. b || is_on (uids ys) y.uid) (uid_same y.uid)
 
-plain_top : (k : Kind) → is_top k ≡ true → is_serial k ≡ false
-plain_top kind.Nested e = absurd (cc e)
-plain_top kind.Serial e = absurd (cc e)
-plain_top kind.Top e = refl
-plain_top kind.Constituent e = refl
-plain_top kind.Independent e = refl
-
 -- the end of a top in the book
 top_end : (B : Book) (u : Uid) (k : Kind) (e : End) → is_top k ≡ true → IsEnd B u k (Some e) → (is_on B.committed u ≡ true) ⊎ (is_on B.aborted u ≡ true)
 top_end B u k ending.Abort top is = inr is
-top_end B u k ending.Commit top is = inl (ap (λ s. cond s (is_on B.ended u) (is_on B.committed u)) (sym (plain_top k top)) ∙ is)
+top_end B u k ending.Commit top is = inl (ap (λ s. cond s (is_on B.ended u) (is_on B.committed u)) (sym (top_plain k top)) ∙ is)
 
 module _ (k : ℕ) (d : Disk) (t : Parts) (M : Seen) (kept : IsKept (up k d t M)) where
   abbrev c : Coord

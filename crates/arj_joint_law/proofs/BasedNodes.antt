@@ -18,7 +18,7 @@ use Rattle.arj_protocol.specs.Effect.{Already, Disk, Do, Effect, InDoubt, Old, P
 use Rattle.arj_protocol.specs.Ending.{acked, answer_query}
 use Rattle.arj_protocol.specs.Naming as naming
 use Rattle.arj_protocol.specs.Naming.{Naming}
-use Rattle.arj_protocol.specs.Node.{Handled, Parts, Took, Void, ack_told, answer_is_meant, ask_is_meant, asked_is_meant, by_reply, coord_heard, end_states, handle, handle_answer, handle_ask, handle_ends, handle_other, holders, if_naming, is_earlier, is_meant, load_by, load_held, naming_told, prepare_by, query_about, sends_answer, serve, served, store_told, with_coord, with_naming, with_server}
+use Rattle.arj_protocol.specs.Node.{Handled, Parts, Took, Void, ack_told, answer_is_meant, ask_is_meant, asked_is_meant, coord_heard, end_states, handle, handle_answer, handle_ask, handle_ends, handle_other, holders, if_naming, is_earlier, is_meant, load_by, load_held, naming_told, prepare_by, query_about, sends_answer, serve, served, store_told, with_naming, with_server}
 use Rattle.arj_protocol.specs.Says.{AreAll, is_names_work, is_naming_effect}
 use Rattle.arj_protocol.specs.Server as server
 use Rattle.arj_protocol.specs.Server.{Server}
@@ -35,6 +35,7 @@ use Rattle.arj_disk_run_law.proofs.StateCoords.{hears_so}
 use Rattle.arj_disk_run_law.proofs.StateEnds.{acks_so, query_so}
 use Rattle.arj_disk_run_law.proofs.StateTicks.{queries, server_lines}
 use Rattle.arj_joint_law.proofs.BasedServers as servers
+use Rattle.arj_joint_law.proofs.ByMessage.{by_coord}
 
 module _ (x : ℕ) (L Q : ObjectState → Type 0) (B : Binding → Base → Type 0) where
   -- of messages nothing is known of votes
@@ -159,11 +160,7 @@ module _ (x : ℕ) (L Q : ObjectState → Type 0) (B : Binding → Base → Type
         (λ m. let r = confirm h.path grants excluded included d.names m in answered h (with_naming t r.part) r.outs (option_map Reply.Confirmed r.reply) (named_so r.part) (names_so r.outs (confirm_own h.path grants excluded included d.names m)) (plain Reply.Confirmed (λ r. tt) r.reply))
 
     coord_left : (r : Served Coord (Unit {0})) → CoordIsSo F r.part × AllSay F r.outs → By (coord_heard t r)
-    coord_left r so = by r.reply
-      where
-        by : (o : Option (Unit {0})) → By (by_reply (with_coord t r.part) r.outs o)
-        by None = tt
-        by (Some u) = ((its.0, so.0), sends_so r.outs so.1)
+    coord_left r so = by_coord node d t from By tt r ((its.0, so.0), sends_so r.outs so.1)
 
     ends_left : (ack : Bool) (ends : List (Uid × End)) (o : Option (Uid × End)) → AreRaised x B node ends t.server → By (handle_ends node d t from ack ends o)
     ends_left ack ends None raised = (its, tt)
@@ -192,22 +189,7 @@ module _ (x : ℕ) (L Q : ObjectState → Type 0) (B : Binding → Base → Type
     other (message.Acked m) raised = coord_left (acked from m.act d.intents t.coord) (acks_so F keep from m.act d.intents t.coord its.1)
     other (message.Query m) raised = (its, sends_so (answer_query from m.act d.intents t.coord) (query_so F keep from m.act d.intents t.coord))
     other (message.Hello m) raised = (its, sends_so (map query_about (filter (is_earlier m.node m.inc) (holders d t))) (queries F keep (filter (is_earlier m.node m.inc) (holders d t))))
-    other (message.Bind m) raised = tt
-    other (message.Bound m) raised = tt
-    other (message.Load m) raised = tt
-    other (message.Loaded m) raised = tt
-    other (message.Activate m) raised = tt
-    other (message.Activated m) raised = tt
-    other (message.RecordMsg m) raised = tt
-    other (message.Recorded m) raised = tt
-    other (message.Invoke m) raised = tt
-    other (message.Invoked m) raised = tt
-    other (message.Vote m) raised = tt
-    other (message.Voted m) raised = tt
-    other (message.Prepare m) raised = tt
-    other (message.Prepared m) raised = tt
-    other (message.Confirm m) raised = tt
-    other (message.Confirmed m) raised = tt
+    other m raised = tt
 
     handled : (m : Message) → ((a : Asked) (r : Reply) → answers m ≡ Some (a, r) → ReplyIsSo F r) → ((h : Head) (b : Binding) (st : ObjectState) → asks m ≡ Some (h, ask.Activate b st) → st.uid ≡ object x → L st → B b (let c = taken_copy b st in c.base)) → is_meant t m ≡ true → MessageIsSo P m → EndsRaise node t.server m → By (handle node d t from m)
     handled m hears act meant so raised = by (asks m) refl (and_parts (asked_is_meant t.server (asks m)) (answer_is_meant t.coord (answers m)) meant).0 so.0 raised.0

@@ -19,7 +19,7 @@ use Rattle.arj_protocol.specs.Effect.{Already, Disk, Do, Effect, InDoubt, Old, P
 use Rattle.arj_protocol.specs.Ending.{acked, answer_query}
 use Rattle.arj_protocol.specs.Naming as naming
 use Rattle.arj_protocol.specs.Naming.{Naming}
-use Rattle.arj_protocol.specs.Node.{Handled, Parts, Took, Void, ack_told, by_reply, coord_heard, end_states, handle, handle_answer, handle_ask, handle_ends, handle_other, holders, if_naming, is_earlier, load_by, load_held, naming_told, prepare_by, query_about, sends_answer, serve, served, store_told, with_coord, with_naming, with_server}
+use Rattle.arj_protocol.specs.Node.{Handled, Parts, Took, Void, ack_told, end_states, handle, handle_ask, handle_ends, handle_other, holders, if_naming, is_earlier, load_by, load_held, naming_told, prepare_by, query_about, sends_answer, serve, served, store_told, with_naming, with_server}
 use Rattle.arj_protocol.specs.Says.{AreAll, is_naming_effect, is_server_effect}
 use Rattle.arj_protocol.specs.Server as server
 use Rattle.arj_part_law.specs.Claims.{AreTrue}
@@ -27,6 +27,7 @@ use Rattle.arj_call_law.proofs.WorldSteps.{no_answer, reads_back}
 use Rattle.arj_disk_law.proofs.Base.{never, some_is}
 use Rattle.arj_disk_run_law.proofs.HeardPosts.{all_join}
 use Rattle.arj_view_law.specs.Seen.{Post}
+use Rattle.arj_joint_law.proofs.ByMessage.{by_coord, by_message}
 
 module _ (node : ℕ) (IsNew : Post → Asked → List ObjectState → Type 0) where
   abbrev pub NoneIsNew : Type 0
@@ -117,13 +118,6 @@ module _ (node : ℕ) (IsNew : Post → Asked → List ObjectState → Type 0) w
       served_by h (ask.Confirm grants excluded included) other = with_it (λ o. served from h (with_naming t) Reply.Confirmed (confirm h.path grants excluded included d.names o)) t.naming
           (λ m. let r = confirm h.path grants excluded included d.names m in answered h (with_naming t r.part) r.outs (option_map Reply.Confirmed r.reply) (names_so none r.outs (confirm_own h.path grants excluded included d.names m)) (plain Reply.Confirmed h (λ q w e. cc e) r.reply))
 
-      coord_left : (r : Served Coord (Unit {0})) → All r.outs → By (coord_heard t r)
-      coord_left r so = by r.reply
-        where
-          by : (o : Option (Unit {0})) → By (by_reply (with_coord t r.part) r.outs o)
-          by None = tt
-          by (Some u) = so
-
       silent : (m : Message) (to : ℕ) → answers m ≡ None → YesIsSo (Send to m)
       silent m to quiet a states is = absurd (let e = sym quiet ∙ is in cc e)
 
@@ -154,36 +148,14 @@ module _ (node : ℕ) (IsNew : Post → Asked → List ObjectState → Type 0) w
       module _ (heard_true : (a : Asked) (r : Reply) → let q = heard from a r d.intents t.coord in AreTrue q.part q.outs) (acked_true : (u : Uid) → let q = acked from u d.intents t.coord in AreTrue q.part q.outs) (query_true : (u : Uid) → AreTrue t.coord (answer_query from u d.intents t.coord)) where
         other_so : (m : Message) → By (handle_other node d t from m)
         other_so (message.Told m) = ends_left m.ack m.ends (last_end m.ends)
-        other_so (message.Acked m) = let q = acked from m.act d.intents t.coord in coord_left q (coord_so none q.part q.outs (acked_true m.act))
+        other_so (message.Acked m) = let q = acked from m.act d.intents t.coord in by_coord node d t from By tt q (coord_so none q.part q.outs (acked_true m.act))
         other_so (message.Query m) = coord_so none t.coord (answer_query from m.act d.intents t.coord) (query_true m.act)
         other_so (message.Hello m) = asks_about (filter (is_earlier m.node m.inc) (holders d t))
-        other_so (message.Bind m) = tt
-        other_so (message.Bound m) = tt
-        other_so (message.Load m) = tt
-        other_so (message.Loaded m) = tt
-        other_so (message.Activate m) = tt
-        other_so (message.Activated m) = tt
-        other_so (message.RecordMsg m) = tt
-        other_so (message.Recorded m) = tt
-        other_so (message.Invoke m) = tt
-        other_so (message.Invoked m) = tt
-        other_so (message.Vote m) = tt
-        other_so (message.Voted m) = tt
-        other_so (message.Prepare m) = tt
-        other_so (message.Prepared m) = tt
-        other_so (message.Confirm m) = tt
-        other_so (message.Confirmed m) = tt
+        other_so m = tt
 
         pub message_so : (m : Message) (v : Parts) (outs : List Effect) → ((h : Head) (i : ℕ) (ties : _) (ends : _) → asks m ≡ Some (h, ask.Vote i ties ends) → ⊥) → handle node d t from m ≡ Took v outs → All outs
-        message_so m v outs other is = subst By is (by (asks m) refl)
-          where
-            answer : (o : Option (Asked × Reply)) → answers m ≡ o → By (handle_answer node d t from m o)
-            answer None at = other_so m
-            answer (Some a) at = let q = heard from a.0 a.1 d.intents t.coord in coord_left q (coord_so none q.part q.outs (heard_true a.0 a.1))
-
-            by : (o : Option (Head × Ask)) → asks m ≡ o → By (handle_ask node d t from m o)
-            by None at = answer (answers m) refl
-            by (Some a) at = served_by a.0 a.1 (λ i ties ends same. other a.0 i ties ends (at ∙ ap (λ (z : Ask). Some (a.0, z)) same))
+        message_so m v outs other is = subst By is (by_message node d t from By tt m (λ h a at. served_by h a (λ i ties ends same. other h i ties ends (at ∙ ap (λ (z : Ask). Some (h, z)) same)))
+            (λ a r at. let q = heard from a r d.intents t.coord in by_coord node d t from By tt q (coord_so none q.part q.outs (heard_true a r))) (other_so m))
 
     -- where it is asked to vote
     pub vote_so : (m : Message) (v : Parts) (outs : List Effect) (h : Head) (i : ℕ) (ties : _) (ends : _) → asks m ≡ Some (h, ask.Vote i ties ends)

@@ -18,10 +18,10 @@ use Rattle.arj_line_law.proofs.Runs.{run_written}
 use Rattle.arj_protocol.specs.World.{journal}
 use Rattle.arj_joint_law.specs.Outcome.{CommitsAreBehind, commits_are_behind, each_behind, is_behind_decision, is_said}
 
-both : (a b : Bool) → a ≡ true → b ≡ true → (a && b) ≡ true
+pub both : (a b : Bool) → a ≡ true → b ≡ true → (a && b) ≡ true
 both a b e f = λ i. e i && f i
 
-any_in : (p : Act → Bool) (xs : List Act) (x : Act) → In x xs → p x ≡ true → list_any p xs ≡ true
+pub any_in : (p : Act → Bool) (xs : List Act) (x : Act) → In x xs → p x ≡ true → list_any p xs ≡ true
 any_in p [] x i e = absurd i
 any_in p (y ∷ ys) x (inl is) e = ap (λ b. b || list_any p ys) (ap p is ∙ e)
 any_in p (y ∷ ys) x (inr i) e = by (p y) (any_in p ys x i e)

@@ -26,7 +26,7 @@ use Rattle.arj_protocol.specs.Follow.{tick_outs}
 use Rattle.arj_protocol.specs.Named.{Named, lock_lines}
 use Rattle.arj_protocol.specs.Naming as naming
 use Rattle.arj_protocol.specs.Naming.{Naming, end_entries, end_lines, end_orphans, is_over, orphans, own_entries, taken_end, told_new}
-use Rattle.arj_protocol.specs.Node.{Handled, Parts, Took, Void, ack_told, by_reply, coord_heard, end_states, handle, handle_answer, handle_ask, handle_ends, handle_other, holders, if_naming, answer_is_meant, ask_is_meant, asked_is_meant, is_earlier, is_meant, load_by, load_held, naming_told, prepare_by, query_about, sends_answer, serve, served, store_told, with_coord, with_naming, with_server}
+use Rattle.arj_protocol.specs.Node.{Handled, Parts, Took, Void, ack_told, coord_heard, end_states, handle, handle_answer, handle_ask, handle_ends, handle_other, holders, if_naming, answer_is_meant, ask_is_meant, asked_is_meant, is_earlier, is_meant, load_by, load_held, naming_told, prepare_by, query_about, sends_answer, serve, served, store_told, with_coord, with_naming, with_server}
 use Rattle.arj_protocol.specs.Order.{at_number, at_uid, put_uid}
 use Rattle.arj_protocol.specs.Says.{AreAll, is_server_effect}
 use Rattle.arj_protocol.specs.Server as server
@@ -43,6 +43,7 @@ use Rattle.arj_disk_run_law.proofs.StateEnds.{acks_so, new_so, query_so}
 use Rattle.arj_disk_run_law.proofs.StateTicks as ticks
 use Rattle.arj_joint_law.specs.Forms.{AllAreSo, CopyIsSo, DiskIsSo, EffectIsSo, Kind, PairIsSo, PartsAreSo, WorkIsSo, listed, so_of, stored}
 use Rattle.arj_joint_law.proofs.FormServers as servers
+use Rattle.arj_joint_law.proofs.ByMessage.{by_coord}
 
 -- ---- pairs
 
@@ -301,11 +302,7 @@ module _ (k : Kind) where
         (λ m. let r = confirm h.path grants excluded included d.names m in answered h (with_naming t r.part) r.outs (option_map Reply.Confirmed r.reply) (named_so r.part) (confirm_so h.path grants excluded included d.names m disk.names) (plain Reply.Confirmed (λ r. tt) r.reply))
 
     coord_left : (r : Served Coord (Unit {0})) → CoordIsSo (so_of k) r.part × AllSay (so_of k) r.outs → By (coord_heard t r)
-    coord_left r so = by r.reply
-      where
-        by : (o : Option (Unit {0})) → By (by_reply (with_coord t r.part) r.outs o)
-        by None = tt
-        by (Some u) = (record { server = its.server; coord = so.0 }, says_so r.outs so.1)
+    coord_left r so = by_coord node d t from By tt r (record { server = its.server; coord = so.0 }, says_so r.outs so.1)
 
     ends_left : (ack : Bool) (ends : List (Uid × End)) (o : Option (Uid × End)) → By (handle_ends node d t from ack ends o)
     ends_left ack ends None = (its, tt)
@@ -334,22 +331,7 @@ module _ (k : Kind) where
     other (message.Acked m) = coord_left (acked from m.act d.intents t.coord) (acks_so (so_of k) keep from m.act d.intents t.coord its.coord)
     other (message.Query m) = (its, says_so (answer_query from m.act d.intents t.coord) (query_so (so_of k) keep from m.act d.intents t.coord))
     other (message.Hello m) = (record { server = its.server; coord = its.coord }, says_so (map query_about (filter (is_earlier m.node m.inc) (holders d t))) (ticks.queries (so_of k) keep (filter (is_earlier m.node m.inc) (holders d t))))
-    other (message.Bind m) = tt
-    other (message.Bound m) = tt
-    other (message.Load m) = tt
-    other (message.Loaded m) = tt
-    other (message.Activate m) = tt
-    other (message.Activated m) = tt
-    other (message.RecordMsg m) = tt
-    other (message.Recorded m) = tt
-    other (message.Invoke m) = tt
-    other (message.Invoked m) = tt
-    other (message.Vote m) = tt
-    other (message.Voted m) = tt
-    other (message.Prepare m) = tt
-    other (message.Prepared m) = tt
-    other (message.Confirm m) = tt
-    other (message.Confirmed m) = tt
+    other m = tt
 
     handled : (m : Message) → is_meant t m ≡ true → MessageIsSo (so_of k) m → By (handle node d t from m)
     handled m meant so = by (asks m) (and_parts (asked_is_meant t.server (asks m)) (answer_is_meant t.coord (answers m)) meant).0 so.0

@@ -42,9 +42,7 @@ use Rattle.arj_joint_law.proofs.Called.{right_behind}
 use Rattle.arj_joint_law.proofs.JoinHeard.{apart_none, NoAccess, none_after}
 use Rattle.arj_joint_law.proofs.JoinLines.{fits_turn}
 use Rattle.arj_joint_law.proofs.JoinMoves.{Own, act_own, message_own, tick_own}
-
-some_is : {A : Type 0} {a b : A} → Some a ≡ Some b → a ≡ b
-some_is {A} {a} {b} is = let k : ◌≡◌ {A = Option A} (Some a) (Some b) = is in cc k
+use Rattle.arj_address_law.proofs.Lists.{some_is}
 
 none_at : {A P : Type 0} {o : Option A} {x : A} → o ≡ None → o ≡ Some x → P
 none_at {A} {P} {o} {x} none is = let no_way : ◌≡◌ {A = Option A} None (Some x) = sym none ∙ is in absurd (cc no_way)

@@ -23,6 +23,8 @@ pub mod Sparing
 pub mod MarkTies
 pub mod Leaving
 pub mod RunsInTime
+pub mod ByMessage
+pub mod Restarting
 pub mod Mute
 pub mod LoadGuards
 pub mod LoadAnswers

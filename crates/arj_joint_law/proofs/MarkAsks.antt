@@ -32,8 +32,9 @@ use Rattle.arj_view_law.specs.Seen.{AreQuiet, Post, Seen, given, posted, said as
 use Rattle.arj_view_law.specs.Walks.{Up, Walks, halted}
 use Rattle.arj_view_law.proofs.Happens.{runs_hold}
 use Rattle.arj_joint_law.specs.Marked.{MarksAreAsked, MarksAreSaid, RunsAskMarks, WasAsked, excludes, was_marked}
-use Rattle.arj_joint_law.proofs.MarkMoves.{Confirms, IsMarking, NoMark, apart_none, said_in, unmarked_said}
-use Rattle.arj_joint_law.proofs.MarkRuns.{IsNamed, act_moved, marked_more, marks_given, message_moved, named_at, or_false, or_more, same_marked}
+use Rattle.arj_joint_law.proofs.MarkMoves.{Confirms, IsMarking, NoMark, apart_none, said_in, unmarked_said, or_more}
+use Rattle.arj_joint_law.proofs.MarkRuns.{IsNamed, act_moved, marked_more, marks_given, message_moved, named_at, same_marked}
+use Rattle.arj_joint_law.proofs.MarkStates.{or_false}
 
 -- ---- it stays so
 

@@ -38,7 +38,7 @@ use Rattle.arj_protocol.specs.Words.kind
 use Rattle.arj_protocol.specs.Words.prepared
 use Rattle.arj_protocol.specs.Words.voted
 use Rattle.arj_joint_law.specs.Marked.{ConfirmsFor, FitsMarks, excludes, was_marked}
-use Rattle.arj_joint_law.proofs.MarkStates.{All, AllBut, FitsMoved, FitsStep, GoesOn, aborted_all, acked_same, all_same, among, answered_fits, begin_fits, but, call_all, ended_all, fits_same, goes_all, lost_fits, moved_all, own_all, plus}
+use Rattle.arj_joint_law.proofs.MarkStates.{All, AllBut, FitsMoved, FitsStep, GoesOn, aborted_all, acked_same, all_same, among, answered_fits, begin_fits, but, call_all, ended_all, fits_same, goes_all, lost_fits, moved_all, or_false, own_all, plus}
 
 -- ---- what effects say
 
@@ -67,11 +67,7 @@ end_none x g (calls.Conflict h m n) l k y s = refl
 end_none x g (calls.Changed n w) l k y s = refl
 end_none x g (calls.Lost n b) l k y s = refl
 
-or_false : (b : Bool) → (b || false) ≡ b
-or_false true = refl
-or_false false = refl
-
-or_more : (a b c : Bool) → (a || (b || c)) ≡ ((a || b) || c)
+pub or_more : (a b c : Bool) → (a || (b || c)) ≡ ((a || b) || c)
 or_more true b c = refl
 or_more false b c = refl
 

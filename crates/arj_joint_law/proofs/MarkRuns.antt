@@ -35,23 +35,16 @@ use Rattle.arj_view_law.specs.Seen.{AreQuiet, Seen, at, given, is_quiet_line, po
 use Rattle.arj_view_law.specs.Walks.{Up, Walks, halted}
 use Rattle.arj_view_law.proofs.Happens.{runs_hold}
 use Rattle.arj_joint_law.specs.Marked.{MarksAreSaid, RunsSayMarks, SaysMarks, excludes, was_marked}
-use Rattle.arj_joint_law.proofs.MarkStates.{All, again_same, begins_all, fits_same, new_all}
-use Rattle.arj_joint_law.proofs.MarkMoves.{Distinct, IsMarking, Moves, NoMark, acts_move, after, apart_none, message_moves, plain_moves, said_in, unmarked, unmarked_said}
+use Rattle.arj_joint_law.proofs.MarkStates.{All, again_same, begins_all, fits_same, new_all, or_false}
+use Rattle.arj_joint_law.proofs.MarkMoves.{Distinct, IsMarking, Moves, NoMark, acts_move, after, apart_none, message_moves, plain_moves, said_in, unmarked, unmarked_said, or_more}
 use Rattle.arj_protocol.specs.Ask.{actor}
+use Rattle.arj_address_law.proofs.Lists.{some_is}
 
 -- ---- lines
 
 pub quiet_none : (b : Body) → is_quiet_line b ≡ true → NoMark b
 quiet_none (body.Excluded m y n) is l x s = absurd (cc is)
 quiet_none b is l x s = refl
-
-pub or_more : (a b c : Bool) → (a || (b || c)) ≡ ((a || b) || c)
-or_more true b c = refl
-or_more false b c = refl
-
-pub or_false : (b : Bool) → (b || false) ≡ b
-or_false true = refl
-or_false false = refl
 
 pub no_left : (a b : Bool) → (a || b) ≡ false → a ≡ false
 no_left true b is = absurd (cc is)
@@ -76,9 +69,6 @@ says_on : (ls ks : List Line) (d : Doing) → ((m : Machine) → d.now ≡ Commi
 says_on ls ks d same its m now = fits_same (was_marked ls (name d.label)) (was_marked ks (name d.label)) (same m now) m (its m now)
 
 -- ---- names
-
-some_is : {A : Type 0} {a b : A} → Some a ≡ Some b → a ≡ b
-some_is {A} {a} {b} is = let k : ◌≡◌ {A = Option A} (Some a) (Some b) = is in cc
 
 none_at : {A P : Type 0} {o : Option A} {x : A} → o ≡ None → o ≡ Some x → P
 none_at {A} {P} {o} {x} none is = let no_way : ◌≡◌ {A = Option A} None (Some x) = sym none ∙ is in absurd (cc no_way)

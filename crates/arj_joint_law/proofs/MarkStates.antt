@@ -48,7 +48,7 @@ FitsMoved f m = FitsStep f m.marks m.step
 or_none : (a b : Bool) → a ≡ false → b ≡ false → (a || b) ≡ false
 or_none a b one two = (λ i. one i || two i)
 
-or_false : (b : Bool) → (b || false) ≡ b
+pub or_false : (b : Bool) → (b || false) ≡ b
 or_false true = refl
 or_false false = refl
 

@@ -63,7 +63,8 @@ use Rattle.arj_joint_law.proofs.Ending.{ends_of, message_ends, record_of}
 use Rattle.arj_joint_law.proofs.JoinCounts.{GoesOn, goes_on_along, goes_on_by}
 use Rattle.arj_joint_law.proofs.JoinLines.{included_from}
 use Rattle.arj_joint_law.proofs.MarkMoves.{IsMarking, NoMark, acts_stay, apart_none, said_in, unmarked_said}
-use Rattle.arj_joint_law.proofs.MarkRuns.{IsNamed, act_moved, marked_more, message_moved, named_at, no_left, no_right, or_false, same_marked}
+use Rattle.arj_joint_law.proofs.MarkRuns.{IsNamed, act_moved, marked_more, message_moved, named_at, no_left, no_right, same_marked}
+use Rattle.arj_joint_law.proofs.MarkStates.{or_false}
 use Rattle.arj_joint_law.proofs.Recording.{AreRecordedBy, IsConfirming, acts_put, anyone, are_theirs, here_then, message_puts, others_then, plainly, recorded_at, records_walk, tick_puts}
 
 -- ---- lines

@@ -1,27 +1,23 @@
 -- What answers nobody: what a node sends as it starts, and what it sends again.
-use Rattle.std.proofs.Common.{◌≡◌, ℕ, List, [], ◌∷◌, ◌++◌, true, map, Option, Some, None, refl, subst, inl, inr}
+use Rattle.std.proofs.Common.{◌≡◌, ℕ, List, [], ◌∷◌, ◌++◌, true, map, None, refl, subst, inl, inr}
 use Rattle.std.specs.Prelude.{⊤}
 use Rattle.std.specs.List.{AllByRecursion}
 use Rattle.arj_address_law.proofs.Lists.{all_append}
 use Rattle.arj_lock.proofs.Members as list
 use Rattle.arj_protocol.specs.Words.{Header, Message, Uid, asks}
-use Rattle.arj_protocol.specs.Words.body
 use Rattle.arj_protocol.specs.Words.ending
 use Rattle.arj_protocol.specs.Ask.{answers}
 use Rattle.arj_protocol.specs.Asking.{again_all}
-use Rattle.arj_protocol.specs.Confirm.{back_lines}
 use Rattle.arj_protocol.specs.Coord.{Coord}
-use Rattle.arj_protocol.specs.Effect.{Disk, Do, Effect, Intent, Look, PutInc, Say, Send}
+use Rattle.arj_protocol.specs.Effect.{Disk, Do, Effect, Intent, Say, Send}
 use Rattle.arj_protocol.specs.Ending.{tell, tell_all}
 use Rattle.arj_protocol.specs.Follow.{tick_outs}
-use Rattle.arj_protocol.specs.Named.{Named}
-use Rattle.arj_protocol.specs.Naming.{Naming}
-use Rattle.arj_protocol.specs.Node.{Parts, holders, prepared_actions, query_about}
-use Rattle.arj_protocol.specs.Order.{uid_set, without_number}
-use Rattle.arj_protocol.specs.Step.{Node, hello_to, naming_at, naming_back, numbers_to, recovered_records, restart_outs, tolds_again}
+use Rattle.arj_protocol.specs.Node.{Parts, holders, query_about}
+use Rattle.arj_protocol.specs.Step.{Node, restart_outs, tolds_again}
 use Rattle.arj_part_law.specs.Claims.{AreTrue}
 use Rattle.arj_part_law.proofs.SaidIncs.{all_flat, all_map}
 use Rattle.arj_call_law.proofs.WorldSteps.{no_answer}
+use Rattle.arj_joint_law.proofs.Restarting.{restart_said}
 
 -- ---- without answers
 
@@ -46,42 +42,15 @@ AllMute outs = AllByRecursion IsMute outs
 pub mute_both : (es fs : List Effect) → AllMute es → AllMute fs → AllMute (es ++ fs)
 mute_both es fs a b = all_append IsMute es fs a b
 
--- a restart neither answers nor asks
-pub restart_mute : (hd : Header) (k inc : ℕ) (d : Disk) → AllMute (restart_outs hd k inc d)
-restart_mute hd k inc d = mute_both four hellos (mute_both three asking (mute_both two (tolds_again d.intents) (mute_both one records (tt, (tt, (tt, (tt, back_so (naming_at k inc d.names))))) (tt, all_map IsMute (λ (e : Uid × Intent). Say (body.Recovered k e.0)) d.intents (λ e. tt)))
-    (all_flat IsMute (λ (e : Uid × Intent). tell_all e.1.root true ((e.0, ending.Commit) ∷ []) e.1.nodes) d.intents (λ e. all_map IsMute (tell e.1.root true ((e.0, ending.Commit) ∷ [])) e.1.nodes (λ n. (refl, refl)))))
-    (all_map IsMute query_about (uid_set (prepared_actions d.store ++ prepared_actions d.names)) (λ u. (refl, refl)))) (all_map IsMute (hello_to k inc) (without_number k (numbers_to hd.nodes)) (λ w. (refl, refl)))
-  where
-    back_so : (o : Option Naming) → AllMute (naming_back o)
-    back_so None = tt
-    back_so (Some o) = all_flat IsMute (λ (e : ℕ × Named). back_lines e.1) o.objects (λ e. all_map IsMute _ e.1.rows (λ r. tt))
-
-    one : List Effect
-    one = Do Look ∷ Do (PutInc inc) ∷ Say (body.Up k inc) ∷ Do Look ∷ naming_back (naming_at k inc d.names)
-
-    records : List Effect
-    records = Do Look ∷ recovered_records k d.intents
-
-    two : List Effect
-    two = one ++ records
-
-    three : List Effect
-    three = two ++ tolds_again d.intents
-
-    asking : List Effect
-    asking = map query_about (uid_set (prepared_actions d.store ++ prepared_actions d.names))
-
-    four : List Effect
-    four = three ++ asking
-
-    hellos : List Effect
-    hellos = map (hello_to k inc) (without_number k (numbers_to hd.nodes))
-
 -- ---- what is sent again
 
 -- ends that are told again, and queries
 again_mute : (telling : List (Uid × Intent)) → AllMute (tolds_again telling)
 again_mute telling = all_flat IsMute (λ (e : Uid × Intent). tell_all e.1.root true ((e.0, ending.Commit) ∷ []) e.1.nodes) telling (λ e. all_map IsMute (tell e.1.root true ((e.0, ending.Commit) ∷ [])) e.1.nodes (λ n. (refl, refl)))
+
+-- a restart neither answers nor asks
+pub restart_mute : (hd : Header) (k inc : ℕ) (d : Disk) → AllMute (restart_outs hd k inc d)
+restart_mute hd k inc d = restart_said IsMute (λ b. tt) hd k inc d tt tt (again_mute d.intents) (λ u. (refl, refl)) (λ w. (refl, refl))
 
 silent_of : (es : List Effect) → AllMute es → AllSilent es
 silent_of [] m = tt

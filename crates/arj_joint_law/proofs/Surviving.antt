@@ -8,8 +8,7 @@ use Rattle.arj_lock.proofs.Members.{In, in_to}
 use Rattle.arj_model.specs.Actions.{Act, Placed, acts, chain_in, committed, has_end, is_committed, is_serial, recovered, top_in, uids}
 use Rattle.arj_model.specs.Calls.{Call, Said, call_of, committed_calls, kept, kept_in, said}
 use Rattle.arj_model.specs.Serial.{Values, writes_on}
-use Rattle.arj_protocol.specs.Words.{Kind, Line, Uid}
-use Rattle.arj_protocol.specs.Words.kind
+use Rattle.arj_protocol.specs.Words.{Line, Uid}
 use Rattle.arj_part_law.specs.Actions.{Action}
 use Rattle.arj_view_law.specs.Seen.{Seen}
 use Rattle.arj_line_law.specs.Book.{is_top, new_book}
@@ -40,6 +39,7 @@ use Rattle.arj_serial_law.proofs.Paths.{chain_on, own_last, own_top, top_on}
 use Rattle.arj_serial_law.proofs.Tying.{all_in, chain_nested, nested_end, shape_of}
 use Rattle.arj_serial_law.proofs.Values.{on_object}
 use Rattle.arj_joint_law.proofs.Called.{mapped}
+use Rattle.arj_serial_law.proofs.Order.{top_plain}
 
 -- the journal's call of one of the machine
 pub call_found : (act : Acts) (code : Codes) (ss : List (Placed Said)) (cs : List state.Call) → AreCallsOf act code ss cs → (c : state.Call) → machine.In c cs → (s : Placed Said) × In s ss × IsCallOf act code s c
@@ -57,13 +57,6 @@ uid_on (y ∷ ys) x (inr i) = by (uid_eq y.uid x.uid) (uid_on ys x i)
     by : (b : Bool) → is_on (uids ys) x.uid ≡ true → (b || is_on (uids ys) x.uid) ≡ true
     by true r = refl
     by false r = r
-
-plain_top : (k : Kind) → is_top k ≡ true → is_serial k ≡ false
-plain_top kind.Nested e = absurd (cc e)
-plain_top kind.Serial e = absurd (cc e)
-plain_top kind.Top e = refl
-plain_top kind.Constituent e = refl
-plain_top kind.Independent e = refl
 
 off : (b : Bool) → not b ≡ true → b ≡ false
 off true e = absurd (cc e)
@@ -172,7 +165,7 @@ module _ (f : Fixed) (x : ℕ) (begun : List Action) (S : State) (M : Seen) (see
           (e.only (survives (f.act b.uid) above (places.actions b i ∙ ap not is))).0
 
       top_done : IsDone M.lines t
-      top_done = done t top_path (plain_top t.kind top_kind)
+      top_done = done t top_path (top_plain t.kind top_kind)
 
       kept_is : kept (committed M.lines) (recovered M.lines) s ≡ Some (call_of s t)
       kept_is =

@@ -38,9 +38,7 @@ use Rattle.arj_settle_law.proofs.Steps.{Either, step_halt, step_walk}
 use Rattle.arj_settle_law.proofs.Stills.{IsNoAnswer, IsRight}
 use Rattle.arj_settle_law.proofs.Trails.{FitsSo, Went}
 use Rattle.arj_settle_law.proofs.Yeses.{AskedFrom, SaidYes}
-
-some_is : {A : Type 0} {a b : A} → Some a ≡ Some b → a ≡ b
-some_is {A} {a} {b} is = let k : ◌≡◌ {A = Option A} (Some a) (Some b) = is in cc k
+use Rattle.arj_address_law.proofs.Lists.{some_is}
 
 module _ (k : ℕ) (d : Disk) (t : Parts) (M : Seen) (right : IsRight (up k d t M)) (e : ℕ) (from : ℕ) (u : Uid) (acks : IsAcked M.sent from u) where
   abbrev Start : Seen

@@ -15,22 +15,20 @@ use Rattle.arj_protocol.specs.Words.message
 use Rattle.arj_protocol.specs.Words.part
 use Rattle.arj_protocol.specs.Words.prepared
 use Rattle.arj_protocol.specs.Words.role
-use Rattle.arj_protocol.specs.Ask.{Reply, actor, answers, asked_by, last_end, response, top_of, top_path}
+use Rattle.arj_protocol.specs.Ask.{Reply, actor, asked_by, last_end, response, top_of, top_path}
 use Rattle.arj_protocol.specs.Asking.{heard}
 use Rattle.arj_protocol.specs.Call.{At, AtActivate, AtBind, AtInvoke, AtLoad, AtNote, Goal, ask_at, Steps}
 use Rattle.arj_protocol.specs.Commit.{Machine, plan_of}
-use Rattle.arj_protocol.specs.Confirm.{Grants, Marks, back_lines, checked, confirm, confirm_entries, confirm_new, confirms, entries_after, has_all, lock_all, prepared_by, wanted}
+use Rattle.arj_protocol.specs.Confirm.{Grants, Marks, checked, confirm, confirm_entries, confirm_new, confirms, entries_after, has_all, lock_all, prepared_by, wanted}
 use Rattle.arj_protocol.specs.Coord.{Calling, Committing, Coord, Idle, Now}
-use Rattle.arj_protocol.specs.Effect.{Abort, Already, Commit, Disk, Do, Effect, InDoubt, Intent, Look, Old, Pair, Prep, Prepare, PutInc, PutIntent, Ready, RemoveIntent, Say, Send, Served, did_nothing, held_at, holder_of, is_prepared, prepare_answer, reply, void}
+use Rattle.arj_protocol.specs.Effect.{Abort, Already, Commit, Disk, Do, Effect, InDoubt, Intent, Look, Old, Pair, Prep, Prepare, PutInc, PutIntent, Ready, RemoveIntent, Say, Send, did_nothing, held_at, holder_of, is_prepared, prepare_answer, reply, void}
 use Rattle.arj_protocol.specs.Ending.{acked, answer_query, tell_all}
-use Rattle.arj_protocol.specs.Named.{Named}
 use Rattle.arj_protocol.specs.Naming as naming
 use Rattle.arj_protocol.specs.Naming.{Naming, end_entries, end_lines, end_orphans, has_locks, is_over, orphans, own_entries, taken_end, told_new}
-use Rattle.arj_protocol.specs.Node.{Handled, Parts, Took, Void, ack_told, by_reply, coord_heard, end_states, handle, handle_answer, handle_ask, handle_ends, handle_other, holders, if_naming, is_earlier, load_by, load_held, naming_hello, naming_told, prepare_by, prepared_actions, query_about, sends_answer, serve, store_told, with_coord, with_naming, with_server}
-use Rattle.arj_protocol.specs.Order.{uid_set, without_number}
+use Rattle.arj_protocol.specs.Node.{Handled, Parts, Took, Void, ack_told, end_states, handle, handle_ends, handle_other, holders, if_naming, is_earlier, load_by, load_held, naming_hello, naming_told, prepare_by, query_about, sends_answer, serve, store_told, with_naming, with_server}
 use Rattle.arj_protocol.specs.Says.{AreAll, is_coord_effect, is_server_effect}
 use Rattle.arj_protocol.specs.Server as server
-use Rattle.arj_protocol.specs.Step.{hello_to, naming_at, naming_back, numbers_to, recovered_records, restart_outs, tolds_again}
+use Rattle.arj_protocol.specs.Step.{restart_outs, tolds_again}
 use Rattle.arj_protocol.specs.Tree.{is_own}
 use Rattle.arj_protocol.proofs.PartSays.{activate_own, ends_own, invoke_own, vote_own}
 use Rattle.arj_part_law.specs.Actions.{Action, AreBegun, Stands, act_of, action_of}
@@ -48,9 +46,9 @@ use Rattle.arj_disk_view_law.proofs.ConfirmWalks.{locks_say}
 use Rattle.arj_disk_view_law.proofs.ServedWalks.{bind_says, note_says}
 use Rattle.arj_disk_run_law.specs.Places.{HasNaming}
 use Rattle.arj_settle_law.specs.Prepared.{AsksForItself, IsForItself, MeansAsked, WasAsked, preparer, preparer_in}
-
-some_is : {A : Type 0} {a b : A} → Some a ≡ Some b → a ≡ b
-some_is {A} {a} {b} is = let k : ◌≡◌ {A = Option A} (Some a) (Some b) = is in cc
+use Rattle.arj_joint_law.proofs.ByMessage.{by_coord, by_message}
+use Rattle.arj_joint_law.proofs.Restarting.{restart_said}
+use Rattle.arj_address_law.proofs.Lists.{some_is}
 
 none_at : {A P : Type 0} {o : Option A} {x : A} → o ≡ None → o ≡ Some x → P
 none_at {A} {P} {o} {x} none is = let no_way : ◌≡◌ {A = Option A} None (Some x) = sym none ∙ is in absurd (cc no_way)
@@ -274,13 +272,6 @@ module _ (acts : List Action) (begun : AreBegun acts) where
           each false = new (prepare_answer (actor h.path) states d.store)
       asked h (ask.Confirm grants excluded included) was = with_it _ t.naming refl (λ n one. let r = confirm h.path grants excluded included d.names n in answered h (with_naming t r.part) r.outs (option_map Reply.Confirmed r.reply) (confirm_fine h.path grants excluded included d.names n (was (top_of h.path) refl, one)) (there_it r.part one))
 
-      coord_left : (r : Served Coord (Unit {0})) → Fine r.outs → By (coord_heard t r)
-      coord_left r fine = by r.reply
-        where
-          by : (o : Option (Unit {0})) → By (by_reply (with_coord t r.part) r.outs o)
-          by None = tt
-          by (Some u) = (fine, has)
-
       ends_left : (ack : Bool) (ends : List (Uid × End)) (o : Option (Uid × End)) → By (handle_ends k d t from ack ends o)
       ends_left ack ends None = (tt, has)
       ends_left ack ends (Some e) =
@@ -310,73 +301,23 @@ module _ (acts : List Action) (begun : AreBegun acts) where
       module _ (hears : (a : Asked) (r : Reply) → Fine (let q = heard from a r d.intents t.coord in q.outs)) (acks : (u : Uid) → Fine (let q = acked from u d.intents t.coord in q.outs)) (answers_it : (u : Uid) → Fine (answer_query from u d.intents t.coord)) where
         other : (m : Message) → By (handle_other k d t from m)
         other (message.Told m) = ends_left m.ack m.ends (last_end m.ends)
-        other (message.Acked m) = coord_left (acked from m.act d.intents t.coord) (acks m.act)
+        other (message.Acked m) = by_coord k d t from By tt (acked from m.act d.intents t.coord) (acks m.act, has)
         other (message.Query m) = (answers_it m.act, has)
         other (message.Hello m) = (queries (filter (is_earlier m.node m.inc) (holders d t)), stays t.naming ∙ has)
           where
             stays : (o : Option Naming) → is_some (naming_hello m.node m.inc o) ≡ is_some o
             stays None = refl
             stays (Some n) = refl
-        other (message.Bind m) = tt
-        other (message.Bound m) = tt
-        other (message.Load m) = tt
-        other (message.Loaded m) = tt
-        other (message.Activate m) = tt
-        other (message.Activated m) = tt
-        other (message.RecordMsg m) = tt
-        other (message.Recorded m) = tt
-        other (message.Invoke m) = tt
-        other (message.Invoked m) = tt
-        other (message.Vote m) = tt
-        other (message.Voted m) = tt
-        other (message.Prepare m) = tt
-        other (message.Prepared m) = tt
-        other (message.Confirm m) = tt
-        other (message.Confirmed m) = tt
+        other m = tt
 
         pub handled : (v : Parts) (outs : List Effect) → handle k d t from m ≡ Took v outs → Fine outs × HasNaming k v
-        handled v outs is = subst By is (by (asks m) refl)
-          where
-            answer : (o : Option (Asked × Reply)) → By (handle_answer k d t from m o)
-            answer None = other m
-            answer (Some a) = coord_left (heard from a.0 a.1 d.intents t.coord) (hears a.0 a.1)
-
-            by : (o : Option (Head × Ask)) → asks m ≡ o → By (handle_ask k d t from m o)
-            by None is = answer (answers m)
-            by (Some a) is = asked a.0 a.1 (λ u its. (record { from = from; to = k; message = m }, there, ap (preparer_in) is ∙ its))
+        handled v outs is = subst By is (by_message k d t from By tt m (λ h a of. asked h a (λ u its. (record { from = from; to = k; message = m }, there, ap (preparer_in) of ∙ its))) (λ a r of. by_coord k d t from By tt (heard from a r d.intents t.coord) (hears a r, has)) (other m))
 
     -- ---- a restart
 
     pub restart_fine : (hd : Header) (inc : ℕ) (d : Disk) → Fine (restart_outs hd k inc d)
-    restart_fine hd inc d = both four hellos (both three asking (both two (tolds_again d.intents) (both one records (tt, (tt, (tt, (tt, back_so (naming_at k inc d.names))))) (tt, all_map Means (λ (e : Uid × Intent). Say (body.Recovered k e.0)) d.intents (λ e. tt))) (tolds_fine d.intents))
-        (queries (uid_set (prepared_actions d.store ++ prepared_actions d.names))))
-        (all_map Means (hello_to k inc) (without_number k (numbers_to hd.nodes)) (λ w. tt))
+    restart_fine hd inc d = restart_said Means (λ b. tt) hd k inc d tt tt (tolds_fine d.intents) (λ u. tt) (λ n. tt)
       where
         tolds_fine : (telling : List (Uid × Intent)) → Fine (tolds_again telling)
         tolds_fine [] = tt
         tolds_fine (e ∷ es) = let i = e.1 in both (tell_all i.root true ((e.0, ending.Commit) ∷ []) i.nodes) (tolds_again es) (all_map Means _ i.nodes (λ w. tt)) (tolds_fine es)
-
-        back_so : (o : Option Naming) → Fine (naming_back o)
-        back_so None = tt
-        back_so (Some o) = all_flat Means (λ (e : ℕ × Named). back_lines e.1) o.objects (λ e. all_map Means _ e.1.rows (λ r. tt))
-
-        one : List Effect
-        one = Do Look ∷ Do (PutInc inc) ∷ Say (body.Up k inc) ∷ Do Look ∷ naming_back (naming_at k inc d.names)
-
-        records : List Effect
-        records = Do Look ∷ recovered_records k d.intents
-
-        two : List Effect
-        two = one ++ records
-
-        three : List Effect
-        three = two ++ tolds_again d.intents
-
-        asking : List Effect
-        asking = map query_about (uid_set (prepared_actions d.store ++ prepared_actions d.names))
-
-        four : List Effect
-        four = three ++ asking
-
-        hellos : List Effect
-        hellos = map (hello_to k inc) (without_number k (numbers_to hd.nodes))

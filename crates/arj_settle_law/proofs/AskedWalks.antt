@@ -41,9 +41,7 @@ use Rattle.arj_lock_fact_law.specs.Acts.{KeepsOf, begins_in}
 use Rattle.arj_lock_fact_law.proofs.UpperWalks.{top_more}
 use Rattle.arj_settle_law.specs.Prepared.{AsksForItself, HasPrepared, IsAskedNode, MeansAsked, PreparedWereAsked, WasAsked}
 use Rattle.arj_settle_law.proofs.Asked.{coord_asks, handled, queries, restart_fine}
-
-some_is : {A : Type 0} {a b : A} → Some a ≡ Some b → a ≡ b
-some_is {A} {a} {b} is = let k : ◌≡◌ {A = Option A} (Some a) (Some b) = is in cc
+use Rattle.arj_address_law.proofs.Lists.{some_is}
 
 -- ---- more that was sent
 

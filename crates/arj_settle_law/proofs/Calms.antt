@@ -43,9 +43,7 @@ use Rattle.arj_call_law.proofs.CoordKnown.{doing_here}
 use Rattle.arj_call_law.proofs.CoordOuts.{again_work}
 use Rattle.arj_call_law.proofs.CoordSends.{asks_work}
 use Rattle.arj_lock_fact_law.proofs.PartSteps.{has_in}
-
-some_is : {A : Type 0} {a b : A} → Some a ≡ Some b → a ≡ b
-some_is {A} {a} {b} is = let k : ◌≡◌ {A = Option A} (Some a) (Some b) = is in cc
+use Rattle.arj_address_law.proofs.Lists.{some_is}
 
 -- ---- effects
 

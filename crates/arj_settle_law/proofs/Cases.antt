@@ -15,12 +15,11 @@ use Rattle.arj_protocol.specs.Words.role
 use Rattle.arj_protocol.specs.Ask.{Reply, actor, answers, asked_by, last_end, response}
 use Rattle.arj_protocol.specs.Asking.{heard}
 use Rattle.arj_protocol.specs.Confirm.{confirm}
-use Rattle.arj_protocol.specs.Coord.{Coord}
-use Rattle.arj_protocol.specs.Effect.{Abort, Already, Commit, Disk, Do, Effect, InDoubt, Look, Old, Prep, Prepare, PutInc, PutIntent, Ready, RemoveIntent, Say, Send, Served, held_at, holder_of, is_prepared, prepare_answer}
+use Rattle.arj_protocol.specs.Effect.{Abort, Already, Commit, Disk, Do, Effect, InDoubt, Look, Old, Prep, Prepare, PutInc, PutIntent, Ready, RemoveIntent, Say, Send, held_at, holder_of, is_prepared, prepare_answer}
 use Rattle.arj_protocol.specs.Ending.{acked, answer_query}
 use Rattle.arj_protocol.specs.Naming as naming
 use Rattle.arj_protocol.specs.Naming.{Naming}
-use Rattle.arj_protocol.specs.Node.{Handled, Parts, Took, Void, ack_told, by_reply, coord_heard, handle, handle_answer, handle_ask, handle_ends, handle_other, holders, if_naming, is_earlier, load_by, load_held, naming_told, prepare_by, query_about, sends_answer, serve, store_told, with_coord, with_naming, with_server}
+use Rattle.arj_protocol.specs.Node.{Handled, Parts, Took, Void, ack_told, handle, handle_ends, handle_other, holders, if_naming, is_earlier, load_by, load_held, naming_told, prepare_by, query_about, sends_answer, serve, store_told, with_coord, with_naming, with_server}
 use Rattle.arj_protocol.specs.Says.{AreAll, is_naming_effect, is_server_effect}
 use Rattle.arj_protocol.specs.Server as server
 use Rattle.arj_protocol.proofs.Messages.{response_reads_back}
@@ -29,9 +28,8 @@ use Rattle.arj_call_law.proofs.WorldSteps.{no_request}
 use Rattle.arj_part_law.proofs.SaidIncs.{all_both, all_map}
 use Rattle.arj_part_law.specs.Ends.{told_by}
 use Rattle.arj_settle_law.proofs.Lights.{IsBeside, IsIdleSend}
-
-some_is : {A : Type 0} {a b : A} → Some a ≡ Some b → a ≡ b
-some_is {A} {a} {b} is = let k : ◌≡◌ {A = Option A} (Some a) (Some b) = is in cc k
+use Rattle.arj_joint_law.proofs.ByMessage.{by_coord, by_message}
+use Rattle.arj_address_law.proofs.Lists.{some_is}
 
 abbrev pub AllBeside : List Effect → Type 0
 AllBeside outs = AllByRecursion IsBeside outs
@@ -172,43 +170,12 @@ module _ (k : ℕ) (d : Disk) (t : Parts) (from : ℕ) (m : Message) where
       named None = tt
       named (Some n) = let r = naming.told e.0 e.1 d.names n in naming_beside r.outs (told_own e.0 e.1 d.names n)
 
-  -- the coordinator takes it
-  heard_case : (r : Served Coord (Unit {0})) → ((v : Parts) (outs : List Effect) → v ≡ with_coord t r.part → outs ≡ r.outs → HandleCase k d t from m v outs) → Case (coord_heard t r)
-  heard_case r each = by r.reply
-    where
-      by : (o : Option (Unit {0})) → Case (by_reply (with_coord t r.part) r.outs o)
-      by None = tt
-      by (Some u) = each (with_coord t r.part) r.outs refl refl
-
   other : (z : Message) → m ≡ z → Case (handle_other k d t from z)
   other (message.Told z) is = ends_case z.ack z.ends (last_end z.ends) (ap (λ w. last_end (told_by w)) is)
-  other (message.Acked z) is = heard_case (acked from z.act d.intents t.coord) (λ v outs c o. Acks z.act is (ap (λ (x : Parts). x.coord) c) o)
+  other (message.Acked z) is = by_coord k d t from Case tt (acked from z.act d.intents t.coord) (Acks z.act is refl refl)
   other (message.Query z) is = Asks z.act refl is refl
   other (message.Hello z) is = Beside refl (queries_beside (filter (is_earlier z.node z.inc) (holders d t)))
-  other (message.Bind z) is = tt
-  other (message.Bound z) is = tt
-  other (message.Load z) is = tt
-  other (message.Loaded z) is = tt
-  other (message.Activate z) is = tt
-  other (message.Activated z) is = tt
-  other (message.RecordMsg z) is = tt
-  other (message.Recorded z) is = tt
-  other (message.Invoke z) is = tt
-  other (message.Invoked z) is = tt
-  other (message.Vote z) is = tt
-  other (message.Voted z) is = tt
-  other (message.Prepare z) is = tt
-  other (message.Prepared z) is = tt
-  other (message.Confirm z) is = tt
-  other (message.Confirmed z) is = tt
+  other z is = tt
 
   pub handle_case : (v : Parts) (outs : List Effect) → handle k d t from m ≡ Took v outs → HandleCase k d t from m v outs
-  handle_case v outs is = subst Case is (by (asks m) refl)
-    where
-      answer : (o : Option (Asked × Reply)) → answers m ≡ o → Case (handle_answer k d t from m o)
-      answer None none = other m refl
-      answer (Some a) of = heard_case (heard from a.0 a.1 d.intents t.coord) (λ w es c o. Hears a.0 a.1 of c o)
-
-      by : (o : Option (Head × Ask)) → asks m ≡ o → Case (handle_ask k d t from m o)
-      by None none = answer (answers m) refl
-      by (Some a) of = asked a.0 a.1 of
+  handle_case v outs is = subst Case is (by_message k d t from Case tt m asked (λ a r of. by_coord k d t from Case tt (heard from a r d.intents t.coord) (Hears a r of refl refl)) (other m refl))

@@ -31,6 +31,7 @@ use Rattle.arj_line_law.proofs.Tops.{is_sound}
 use Rattle.arj_serial_law.proofs.Order.{own}
 use Rattle.arj_joint_law.proofs.Called.{right_front}
 use Rattle.arj_joint_law.specs.Outcome.{has_halted_since, has_uid, is_commit_by, is_top_of, may_abort, was_committed_at, was_excluded}
+use Rattle.arj_joint_law.proofs.Behind.{any_in, both as and_both}
 
 -- ---- tests of lists
 
@@ -58,9 +59,6 @@ any_to p q (x ∷ xs) each is = by (p x) (q x) (each x) is (any_to p q xs each)
     by a true on e ih = refl
     by true false on e ih = absurd (let no_way : false ≡ true = on refl in cc no_way)
     by false false on e ih = ih e
-
-and_both : (a b : Bool) → a ≡ true → b ≡ true → (a && b) ≡ true
-and_both a b e f = λ i. e i && f i
 
 -- what is read of the first lines
 any_read : {A : Type 0} (p : Placed A → Bool) (f : List Act → Body → Option A) (us : List Act) (n : ℕ) (xs ys : List Line) → list_any p (read f us n xs) ≡ true → list_any p (read f us n (xs ++ ys)) ≡ true
@@ -135,15 +133,6 @@ eq_itself n = grind arith
 
 pub cause_committed : (lines : List Line) (e n : ℕ) (u : Uid) → HasCause (lines ++ record { event = e; body = body.Done n u role.Store ending.Commit } ∷ []) n u
 cause_committed lines e n u = inl (any_last (λ (line : Line). is_commit_by role.Store n u line.body) lines (record { event = e; body = body.Done n u role.Store ending.Commit }) (and_both (n == n) (uid_eq u u) (eq_itself n) (uid_same u)))
-
-any_in : (p : Act → Bool) (xs : List Act) (x : Act) → In x xs → p x ≡ true → list_any p xs ≡ true
-any_in p [] x i e = absurd i
-any_in p (y ∷ ys) x (inl is) e = ap (λ b. b || list_any p ys) (ap p is ∙ e)
-any_in p (y ∷ ys) x (inr i) e = by (p y) (any_in p ys x i e)
-  where
-    by : (b : Bool) → list_any p ys ≡ true → (b || list_any p ys) ≡ true
-    by true f = refl
-    by false f = f
 
 -- an exclusion by the top
 module _ (lines : List Line) (right : AreRight new_book lines) (l : Label) (a : Act) (named : act_in (acts lines) (name l) ≡ Some a) (top : is_top a.kind ≡ true) (e x n : ℕ) where

@@ -25,18 +25,13 @@ use Rattle.arj_lock_whole_law.specs.Acks.{acked_in}
 use Rattle.arj_settle_law.proofs.Calms.{AllCalm, SaysNow}
 use Rattle.arj_settle_law.proofs.ConfirmKnown.{AllKnown, IsNaming, its_inc}
 use Rattle.arj_settle_law.proofs.ConfirmSteps.{IsSound, node_still, records_stay, step_confirms}
-use Rattle.arj_settle_law.proofs.Confirms.{AsksMarked, IsConfirming, Remembers, same_memory}
+use Rattle.arj_settle_law.proofs.Confirms.{AsksMarked, IsConfirming, Remembers, none_not, same_memory}
 use Rattle.arj_settle_law.proofs.Cores.{IsDone, Recorded}
 use Rattle.arj_settle_law.proofs.Knowns.{committing, open_undone}
 use Rattle.arj_settle_law.proofs.Milds.{here_is, recorded_back, the_node}
 use Rattle.arj_settle_law.proofs.Stills.{line_fits, no_stops, no_work}
 use Rattle.arj_settle_law.proofs.Trails.{Down, FitsSo, LineMild, UpBy, Went, mild_decides, quiet_mild, went}
-
-some_is : {A : Type 0} {a b : A} → Some a ≡ Some b → a ≡ b
-some_is {A} {a} {b} is = let k : ◌≡◌ {A = Option A} (Some a) (Some b) = is in cc k
-
-none_not : {A P : Type 0} {x : A} → None ≡ Some x → P
-none_not {A} {P} {x} is = let no_way : ◌≡◌ {A = Option A} None (Some x) = is in absurd (cc no_way)
+use Rattle.arj_address_law.proofs.Lists.{some_is}
 
 -- ---- lines and messages
 

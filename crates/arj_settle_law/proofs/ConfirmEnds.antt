@@ -1,5 +1,5 @@
 -- Naming at node 1 is told an end: the entries that it aborts, the action's own and those of constituents, are of no decided top.
-use Rattle.std.proofs.Common.{◌≡◌, ◌⊎◌, ◌∙◌, ◌++◌, ◌&&◌, ℕ, Bool, true, false, cond, not, List, [], ◌∷◌, map, Option, Some, refl, sym, ap, subst, inl, inr, ⊎_elim, Contains}
+use Rattle.std.proofs.Common.{◌≡◌, ◌⊎◌, ◌∙◌, ◌++◌, ◌&&◌, ℕ, Bool, true, false, cond, not, List, [], ◌∷◌, map, Some, refl, sym, ap, subst, inl, inr, ⊎_elim, Contains}
 use Rattle.std.specs.List.{AllByRecursion, flat_map, list_any}
 use Rattle.std.proofs.lemmas.Bool.{and_parts, or_cases}
 use Rattle.arj_base.proofs.Uids.{uid_is, uid_same}
@@ -44,17 +44,11 @@ use Rattle.arj_settle_law.proofs.Parts.{last_in}
 use Rattle.arj_settle_law.proofs.Steps.{Either, down_either, up_either}
 use Rattle.arj_settle_law.proofs.Trails.{Down, UpBy, Went, went}
 use Rattle.arj_settle_law.proofs.Unserial.{serial_undecided}
-
-some_is : {A : Type 0} {a b : A} → Some a ≡ Some b → a ≡ b
-some_is {A} {a} {b} is = let k : ◌≡◌ {A = Option A} (Some a) (Some b) = is in cc k
+use Rattle.arj_address_law.proofs.Lists.{some_is}
+use Rattle.arj_lock_whole_law.proofs.AckWalks.{all_at}
 
 never : {P : Type 0} {b : Bool} → b ≡ true → b ≡ false → P
 never {P} {b} holds fails = let no_way : true ≡ false = sym holds ∙ fails in absurd (cc no_way)
-
-all_at : {A : Type 0} (P : A → Type 0) (xs : List A) (x : A) → AllByRecursion P xs → list.In x xs → P x
-all_at P [] x all none = absurd none
-all_at P (y ∷ ys) x all (inl same) = subst P same all.0
-all_at P (y ∷ ys) x all (inr i) = all_at P ys x all.1 i
 
 on_one : (w u : Uid) → is_on (w ∷ []) u ≡ true → w ≡ u
 on_one w u on = ⊎_elim (λ same. uid_is w u same) (λ none. absurd (cc none)) (or_cases (uid_eq w u) false on)

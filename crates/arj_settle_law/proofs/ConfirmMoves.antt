@@ -36,9 +36,7 @@ use Rattle.arj_settle_law.proofs.Milds.{here_is, the_node}
 use Rattle.arj_settle_law.proofs.Moves as moves
 use Rattle.arj_settle_law.proofs.Moves.{queries_calm, tolds_calm}
 use Rattle.arj_protocol.specs.Words.ask
-
-some_is : {A : Type 0} {a b : A} → Some a ≡ Some b → a ≡ b
-some_is {A} {a} {b} is = let k : ◌≡◌ {A = Option A} (Some a) (Some b) = is in cc k
+use Rattle.arj_address_law.proofs.Lists.{some_is}
 
 -- ---- what asks for nothing
 

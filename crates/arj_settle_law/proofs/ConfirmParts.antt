@@ -28,9 +28,7 @@ use Rattle.arj_settle_law.proofs.Lights.{AllUndeciding, IsUndeciding, undecided}
 use Rattle.arj_settle_law.proofs.Milds.{here_is, now_cases, the_node, was_cases}
 use Rattle.arj_settle_law.proofs.Steps.{Either, step_walk}
 use Rattle.arj_settle_law.proofs.Trails.{Down, FitsSo, Went, halt_went}
-
-some_is : {A : Type 0} {a b : A} → Some a ≡ Some b → a ≡ b
-some_is {A} {a} {b} is = let k : ◌≡◌ {A = Option A} (Some a) (Some b) = is in cc k
+use Rattle.arj_address_law.proofs.Lists.{some_is}
 
 -- ---- lines
 

@@ -52,9 +52,7 @@ use Rattle.arj_settle_law.proofs.Milds.{here_is, the_node}
 use Rattle.arj_settle_law.proofs.Rights.{right_keep}
 use Rattle.arj_settle_law.proofs.Stills.{IsRight}
 use Rattle.arj_settle_law.proofs.Trails.{Went}
-
-some_is : {A : Type 0} {a b : A} → Some a ≡ Some b → a ≡ b
-some_is {A} {a} {b} is = let k : ◌≡◌ {A = Option A} (Some a) (Some b) = is in cc k
+use Rattle.arj_address_law.proofs.Lists.{some_is}
 
 nothing_more : {A : Type 0} (xs : List A) → xs ++ [] ≡ xs
 nothing_more [] = refl

@@ -1,20 +1,19 @@
 -- A node restarts: what holds of naming's confirmations goes on.
-use Rattle.std.proofs.Common.{◌≡◌, ◌≤◌, ◌⊎◌, ◌∙◌, ◌++◌, ◌+◌, ◌==◌, ℕ, Bool, true, false, cond, List, [], ◌∷◌, map, Option, Some, None, refl, sym, ap, subst, inl, inr, ⊎_elim, Contains, arith}
+use Rattle.std.proofs.Common.{◌≡◌, ◌≤◌, ◌⊎◌, ◌∙◌, ◌+◌, ◌==◌, ℕ, Bool, true, false, cond, List, [], ◌∷◌, map, Option, Some, None, refl, sym, ap, subst, inl, inr, ⊎_elim, Contains, arith}
 use Rattle.std.specs.List.{AllByRecursion}
 use Rattle.std.proofs.lemmas.Bool.{or_cases}
 use Rattle.arj_base.proofs.Uids.{uid_is}
 use Rattle.arj_lock.proofs.Members.{in_from, in_to}
 use Rattle.arj_protocol.specs.Words.{Body, Header, ObjectState, Uid, is_on, uid_eq}
-use Rattle.arj_protocol.specs.Words.body
 use Rattle.arj_protocol.specs.Words.ending
 use Rattle.arj_protocol.specs.Confirm.{back_lines, recovered_naming}
-use Rattle.arj_protocol.specs.Effect.{After, Before, Disk, Do, Effect, InPart, Intent, Look, PutInc, Say, is_prepared}
+use Rattle.arj_protocol.specs.Effect.{After, Before, Disk, Do, Effect, InPart, Intent, Look, PutInc, is_prepared}
 use Rattle.arj_protocol.specs.Ending.{tell_all}
 use Rattle.arj_protocol.specs.Named.{Named}
 use Rattle.arj_protocol.specs.Naming.{Naming}
-use Rattle.arj_protocol.specs.Node.{Parts, prepared_actions, query_about}
-use Rattle.arj_protocol.specs.Order.{at_uid, uid_set, without_number}
-use Rattle.arj_protocol.specs.Step.{hello_to, naming_at, naming_back, numbers_to, parts_in, recovered_records, restart_outs, tolds_again}
+use Rattle.arj_protocol.specs.Node.{Parts}
+use Rattle.arj_protocol.specs.Order.{at_uid}
+use Rattle.arj_protocol.specs.Step.{naming_at, naming_back, parts_in, recovered_records, restart_outs, tolds_again}
 use Rattle.arj_part_law.specs.Objects.{AreSorted}
 use Rattle.arj_part_law.proofs.Keys.{in_at}
 use Rattle.arj_part_law.proofs.SaidIncs.{all_both, all_flat, all_map}
@@ -27,19 +26,15 @@ use Rattle.arj_settle_law.proofs.ConfirmCases.{IsMute}
 use Rattle.arj_settle_law.proofs.ConfirmCoords.{SaysSo, milds, none_done, quiet_so}
 use Rattle.arj_settle_law.proofs.ConfirmKnown.{AllKnown, IsNaming, prepared_itself, sorted_names}
 use Rattle.arj_settle_law.proofs.ConfirmSteps.{IsSound, back_all, records_stay, step_confirms}
-use Rattle.arj_settle_law.proofs.Confirms.{AsksMarked, IsConfirming, IsNamer, IsNamesNode, fixed_late, fixed_on, late_on, with_memory}
+use Rattle.arj_settle_law.proofs.Confirms.{AsksMarked, IsConfirming, IsNamer, IsNamesNode, fixed_late, fixed_on, late_on, none_not, with_memory}
 use Rattle.arj_settle_law.proofs.Cores.{IsDone, Recorded}
 use Rattle.arj_settle_law.proofs.Milds.{here_is, recorded_back, the_node}
 use Rattle.arj_settle_law.proofs.Rights.{its_home}
 use Rattle.arj_settle_law.proofs.Settled.{sorted_as}
 use Rattle.arj_settle_law.proofs.Steps.{Either, step_walk}
 use Rattle.arj_settle_law.proofs.Trails.{FitsSo, Went, mild_decides}
-
-some_is : {A : Type 0} {a b : A} → Some a ≡ Some b → a ≡ b
-some_is {A} {a} {b} is = let k : ◌≡◌ {A = Option A} (Some a) (Some b) = is in cc k
-
-none_not : {A P : Type 0} {x : A} → None ≡ Some x → P
-none_not {A} {P} {x} is = let no_way : ◌≡◌ {A = Option A} None (Some x) = is in absurd (cc no_way)
+use Rattle.arj_joint_law.proofs.Restarting.{restart_each}
+use Rattle.arj_address_law.proofs.Lists.{some_is}
 
 -- ---- a restart
 
@@ -97,14 +92,6 @@ module _ (hd : Header) (k : ℕ) (d : Disk) (M : Seen) (right : IsNaming (down k
   records_fit [] each = tt
   records_fit (x ∷ is) each = ((each x.0 x.1 (in_to x (x ∷ is) (inl refl)), tt), records_fit is (λ y i there. each y i (in_to (y, i) (x ∷ is) (inr (in_from (y, i) is there)))))
 
-  queries_fit : (us : List Uid) → AllByRecursion Fits (map query_about us)
-  queries_fit [] = tt
-  queries_fit (u ∷ us) = (((λ h a z part. cc z), ((λ a z. cc z), refl)), queries_fit us)
-
-  hellos_fit : (ns : List ℕ) → AllByRecursion Fits (map (hello_to k (d.inc + 1)) ns)
-  hellos_fit [] = tt
-  hellos_fit (n ∷ ns) = (((λ h a z part. cc z), ((λ a z. cc z), refl)), hellos_fit ns)
-
   back_fit : (o : Option Naming) → AllByRecursion Fits (naming_back o)
   back_fit None = tt
   back_fit (Some o) = all_flat Fits (λ (x : ℕ × Named). back_lines x.1) o.objects (λ x. all_map Fits _ x.1.rows (λ r. (tt, tt)))
@@ -113,31 +100,9 @@ module _ (hd : Header) (k : ℕ) (d : Disk) (M : Seen) (right : IsNaming (down k
   sorted = let z = right.0.1.2.0.0.1 in let r : IsRecorded right.0.1.0 (the_node k d None) = z k (the_node k d None) here in let c = r.disk in sorted_as d.intents c.sorted
 
   restart_fits : AllByRecursion Fits (restart_outs hd k (d.inc + 1) d)
-  restart_fits = all_both Fits four hellos (all_both Fits three asking (all_both Fits two (tolds_again d.intents) (all_both Fits one records (looks, (puts, ((tt, tt), (looks, back_fit (naming_at k (d.inc + 1) d.names)))))
-      (looks, records_fit d.intents (λ x i there. (i, in_at (x, i) d.intents sorted (in_from (x, i) d.intents there))))) (tolds_fit d.intents))
-      (queries_fit (uid_set (prepared_actions d.store ++ prepared_actions d.names))))
-      (hellos_fit (without_number k (numbers_to hd.nodes)))
-    where
-      one : List Effect
-      one = Do Look ∷ Do (PutInc (d.inc + 1)) ∷ Say (body.Up k (d.inc + 1)) ∷ Do Look ∷ naming_back (naming_at k (d.inc + 1) d.names)
-
-      records : List Effect
-      records = Do Look ∷ recovered_records k d.intents
-
-      two : List Effect
-      two = one ++ records
-
-      three : List Effect
-      three = two ++ tolds_again d.intents
-
-      asking : List Effect
-      asking = map query_about (uid_set (prepared_actions d.store ++ prepared_actions d.names))
-
-      four : List Effect
-      four = three ++ asking
-
-      hellos : List Effect
-      hellos = map (hello_to k (d.inc + 1)) (without_number k (numbers_to hd.nodes))
+  restart_fits = restart_each Fits hd k (d.inc + 1) d looks puts (tt, tt) (back_fit (naming_at k (d.inc + 1) d.names)) (records_fit d.intents (λ x i there. (i, in_at (x, i) d.intents sorted (in_from (x, i) d.intents there)))) (tolds_fit d.intents)
+      (λ u. ((λ h a z part. cc z), ((λ a z. cc z), refl)))
+      (λ n. ((λ h a z part. cc z), ((λ a z. cc z), refl)))
 
   -- ---- what holds then
 

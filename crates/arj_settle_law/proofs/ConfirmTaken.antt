@@ -1,5 +1,5 @@
 -- Naming is asked to confirm: what it prepares is of a top that isn't over and asks by marks, with grants of this incarnation, and it says Yes only so.
-use Rattle.std.proofs.Common.{◌≡◌, ◌⊎◌, ◌≤◌, ◌<◌, ◌∙◌, ◌++◌, ◌||◌, ℕ, Bool, true, false, length, List, [], ◌∷◌, Option, Some, None, refl, sym, ap, subst, inl, inr, ⊎_elim, arith}
+use Rattle.std.proofs.Common.{◌≡◌, ◌⊎◌, ◌≤◌, ◌<◌, ◌∙◌, ◌++◌, ◌||◌, ℕ, Bool, true, false, length, List, [], ◌∷◌, Some, None, refl, sym, ap, subst, inl, inr, ⊎_elim, arith}
 use Rattle.std.specs.Prelude.{⊤}
 use Rattle.std.specs.List.{AllByRecursion, list_any}
 use Rattle.std.proofs.lemmas.Bool.{or_cases}
@@ -31,17 +31,12 @@ use Rattle.arj_settle_law.proofs.AskedWalks.{drop_prepared, put_prepared, same_p
 use Rattle.arj_settle_law.proofs.ConfirmCases.{AllGranted, ConfirmCase, IsAside, IsCalmBut, IsMute, IsNew, IsTaken, IsTaking, NamingStays, Refuses, Takes, confirm_case, reply_mute}
 use Rattle.arj_settle_law.proofs.ConfirmKnown.{AllKnown, IsNaming, its_inc, its_top, naming_here, one_confirm, prepared_itself, prepared_so, sorted_names}
 use Rattle.arj_settle_law.proofs.ConfirmParts.{aside_walk, calm_back, calm_confirms, part_memory, quiet_calm}
-use Rattle.arj_settle_law.proofs.Confirms.{AsksConfirm, AsksMarked, IsConfirming, IsFixed, IsLate, IsNamer, IsNamesNode, IsSameMemory, SaidConfirmed, fixed_on, late_on, marked_on}
+use Rattle.arj_settle_law.proofs.Confirms.{AsksConfirm, AsksMarked, IsConfirming, IsFixed, IsLate, IsNamer, IsNamesNode, IsSameMemory, SaidConfirmed, fixed_on, late_on, marked_on, none_not}
 use Rattle.arj_settle_law.proofs.Cores.{IsDone}
 use Rattle.arj_settle_law.proofs.Milds.{here_is, the_node}
 use Rattle.arj_settle_law.proofs.Steps.{Either, step_walk}
 use Rattle.arj_settle_law.proofs.Trails.{FitsSo, Went}
-
-some_is : {A : Type 0} {a b : A} → Some a ≡ Some b → a ≡ b
-some_is {A} {a} {b} is = let k : ◌≡◌ {A = Option A} (Some a) (Some b) = is in cc k
-
-none_not : {A P : Type 0} {x : A} → None ≡ Some x → P
-none_not {A} {P} {x} is = let no_way : ◌≡◌ {A = Option A} None (Some x) = is in absurd (cc no_way)
+use Rattle.arj_address_law.proofs.Lists.{some_is}
 
 -- ---- disks
 

@@ -32,17 +32,12 @@ use Rattle.arj_settle_law.proofs.ConfirmCases.{AllAside, IsCalmBut, IsMute, serv
 use Rattle.arj_settle_law.proofs.ConfirmKnown.{AllKnown, IsNaming, no_naming, prepared_itself, prepared_so, sorted_names}
 use Rattle.arj_settle_law.proofs.ConfirmParts.{calm_asked, calm_confirms, calm_done, quiet_calm}
 use Rattle.arj_settle_law.proofs.ConfirmTaken.{HasEntriesOf, WorksFor, entries_stop}
-use Rattle.arj_settle_law.proofs.Confirms.{AsksMarked, IsConfirming, IsFixed, IsLate, IsNamer, IsNamesNode, SaidConfirmed, fixed_on, late_on, marked_on}
+use Rattle.arj_settle_law.proofs.Confirms.{AsksMarked, IsConfirming, IsFixed, IsLate, IsNamer, IsNamesNode, SaidConfirmed, fixed_on, late_on, marked_on, none_not}
 use Rattle.arj_settle_law.proofs.Cores.{IsDone}
 use Rattle.arj_settle_law.proofs.Milds.{here_is, the_node}
 use Rattle.arj_settle_law.proofs.Steps.{Either, step_walk}
 use Rattle.arj_settle_law.proofs.Trails.{FitsSo, Went}
-
-some_is : {A : Type 0} {a b : A} → Some a ≡ Some b → a ≡ b
-some_is {A} {a} {b} is = let k : ◌≡◌ {A = Option A} (Some a) (Some b) = is in cc k
-
-none_not : {A P : Type 0} {x : A} → None ≡ Some x → P
-none_not {A} {P} {x} is = let no_way : ◌≡◌ {A = Option A} None (Some x) = is in absurd (cc no_way)
+use Rattle.arj_address_law.proofs.Lists.{some_is}
 
 never : {P : Type 0} {b : Bool} → b ≡ true → b ≡ false → P
 never {P} {b} holds fails = let no_way : true ≡ false = sym holds ∙ fails in absurd (cc no_way)

@@ -21,6 +21,9 @@ use Rattle.arj_lock_whole_law.specs.Aborts.{IsPartAsked}
 use Rattle.arj_lock_whole_law.specs.Acks.{HasAcked, IsDemanded, WasRecorded, record_in, records_in}
 use Rattle.arj_settle_law.proofs.Cores.{IsDone, Recorded, split}
 
+pub none_not : {A P : Type 0} {x : A} → None ≡ Some x → P
+none_not {A} {P} {x} is = let no_way : ◌≡◌ {A = Option A} None (Some x) = is in absurd (cc no_way)
+
 -- ---- what stands of a top at naming
 
 -- its coordinator asked naming to confirm

@@ -1,5 +1,5 @@
 -- Of each store that a Confirm includes the coordinator had its Yes, and it was asked to prepare a state of the object: in every run.
-use Rattle.std.proofs.Common.{◌≡◌, ◌⊎◌, ◌∙◌, ◌++◌, ◌||◌, ℕ, zero, suc, List, [], ◌∷◌, Bool, true, false, cond, filter, flat_map, not, Option, Some, None, refl, sym, ap, subst, inl, inr, ⊎_elim}
+use Rattle.std.proofs.Common.{◌≡◌, ◌⊎◌, ◌∙◌, ◌++◌, ◌||◌, ℕ, zero, suc, List, [], ◌∷◌, Bool, true, false, cond, filter, flat_map, not, Some, None, refl, sym, ap, subst, inl, inr, ⊎_elim}
 use Rattle.std.specs.Prelude.{⊤, is_some}
 use Rattle.std.specs.List.{AllByRecursion}
 use Rattle.arj_lock.proofs.Members.{In as Among, in_filter, in_map}
@@ -40,9 +40,7 @@ use Rattle.arj_joint_law.proofs.Comes.{came_acts, waits_not}
 use Rattle.arj_settle_law.proofs.Joins.{AreOwn, IncludedFrom, Joins, PreparedFrom, WasJoined, answer_joins, giveup_joins, names_number, owns_of, plan_own, sent_names, start_joins}
 use Rattle.arj_settle_law.proofs.Knowns.{never}
 use Rattle.arj_settle_law.proofs.Yeses.{SaidYes}
-
-some_is : {A : Type 0} {a b : A} → Some a ≡ Some b → a ≡ b
-some_is {A} {a} {b} is = let k : ◌≡◌ {A = Option A} (Some a) (Some b) = is in cc k
+use Rattle.arj_address_law.proofs.Lists.{some_is}
 
 -- ---- which requests are these
 

@@ -38,13 +38,11 @@ use Rattle.arj_settle_law.specs.Prepared.{AsksForItself, IsForItself}
 use Rattle.arj_settle_law.specs.Settled.{AskersSettle, DisksAreKnown}
 use Rattle.arj_settle_law.proofs.Cores.{IsDone, WasTold}
 use Rattle.arj_settle_law.proofs.Yeses.{AskedFrom}
+use Rattle.arj_address_law.proofs.Lists.{some_is}
 
 -- the journal, who was told of ends, what is prepared, and who asked for it
 abbrev pub Known : Seen → Type 0
 Known M = ((IsKept M × EndsArePast M) × DisksAreKnown M) × ((IsGood M × BindsAreKnown M) × AskersSettle M)
-
-some_is : {A : Type 0} {a b : A} → Some a ≡ Some b → a ≡ b
-some_is {A} {a} {b} is = let k : ◌≡◌ {A = Option A} (Some a) (Some b) = is in cc
 
 pub never : {A : Type 0} {b : Bool} → b ≡ true → b ≡ false → A
 never holds fails = let no_way : true ≡ false = sym holds ∙ fails in absurd (cc no_way)

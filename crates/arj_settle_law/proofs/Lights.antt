@@ -26,9 +26,6 @@ use Rattle.arj_settle_law.proofs.Stills.{IsNoAnswer}
 use Rattle.arj_settle_law.proofs.Trails.{Down, IsNoDrop, Went, halt_went}
 use Rattle.arj_settle_law.proofs.Yeses.{AskedFrom, SaidYes}
 
-some_is : {A : Type 0} {a b : A} → Some a ≡ Some b → a ≡ b
-some_is {A} {a} {b} is = let k : ◌≡◌ {A = Option A} (Some a) (Some b) = is in cc k
-
 -- ---- lines
 
 -- it decides nobody

@@ -19,24 +19,25 @@ use Rattle.arj_protocol.specs.Words.prepared
 use Rattle.arj_protocol.specs.Words.role
 use Rattle.arj_protocol.specs.Ask.{Reply, actor, answers, asked_by, last_end, response, top_of}
 use Rattle.arj_protocol.specs.Asking.{heard}
-use Rattle.arj_protocol.specs.Confirm.{Grants, Marks, back_lines, checked, confirm, confirm_entries, confirm_new, confirms, entries_after, entry_after, entry_state, has_all, lock_all, lock_in, marked, prepared_by, same_nodes, stores_after, wanted, with_stores, without_stores}
-use Rattle.arj_protocol.specs.Coord.{Coord}
+use Rattle.arj_protocol.specs.Confirm.{Grants, Marks, checked, confirm, confirm_entries, confirm_new, confirms, entries_after, entry_after, entry_state, has_all, lock_all, lock_in, marked, prepared_by, same_nodes, stores_after, wanted, with_stores, without_stores}
 use Rattle.arj_protocol.specs.Effect.{Abort, After, Already, Before, Commit, Did, Disk, Do, Effect, InDoubt, InPart, Intent, Look, Old, Pair, Prep, Prepare, PutInc, PutIntent, Ready, RemoveIntent, Say, Send, Served, Stop, Work, did_nothing, held_at, holder_of, is_prepared, moved, moved_some, new_states, prepare_answer, reply, stopped, void, worked}
 use Rattle.arj_protocol.specs.Ending.{acked, answer_query, tell_all}
 use Rattle.arj_protocol.specs.Named.{Counted, Live, Made, Named, bind_call, bind_made, bind_named, conflict_on, include_asked, live_above, live_asked, lock_lines, made_above, make_asked, next_server}
 use Rattle.arj_protocol.specs.Naming as naming
 use Rattle.arj_protocol.specs.Naming.{Naming, end_entries, end_lines, end_orphans, is_over, orphans, own_entries, taken_end, told_new}
-use Rattle.arj_protocol.specs.Node.{Handled, Parts, Took, Void, ack_told, by_reply, coord_heard, end_states, handle, handle_answer, handle_ask, handle_ends, handle_other, holders, if_naming, is_earlier, load_by, load_held, naming_told, prepare_by, prepared_actions, query_about, sends_answer, serve, served, store_told, with_coord, with_naming, with_server}
-use Rattle.arj_protocol.specs.Order.{at_number, at_uid, put_uid, uid_set, without_number}
+use Rattle.arj_protocol.specs.Node.{Handled, Parts, Took, Void, ack_told, end_states, handle, handle_ends, handle_other, holders, if_naming, is_earlier, load_by, load_held, naming_told, prepare_by, query_about, sends_answer, serve, served, store_told, with_naming, with_server}
+use Rattle.arj_protocol.specs.Order.{at_number, at_uid, put_uid}
 use Rattle.arj_protocol.specs.Says.{AreAll, is_coord_effect, is_server_effect}
 use Rattle.arj_protocol.specs.Server as server
-use Rattle.arj_protocol.specs.Step.{hello_to, naming_at, naming_back, numbers_to, recovered_records, restart_outs, tolds_again}
+use Rattle.arj_protocol.specs.Step.{restart_outs, tolds_again}
 use Rattle.arj_protocol.specs.Values.{state_entry}
-use Rattle.arj_part_law.proofs.SaidIncs.{all_both, all_flat, all_map}
+use Rattle.arj_part_law.proofs.SaidIncs.{all_both, all_map}
 use Rattle.arj_part_law.specs.Ends.{told_by}
 use Rattle.arj_disk_view_law.proofs.HeardWalks.{is_say}
 use Rattle.arj_disk_view_law.proofs.ServedWalks.{bind_says, lock_says, note_says}
 use Rattle.arj_address_law.proofs.Lists.{all_append, all_filter, all_without, some_is}
+use Rattle.arj_joint_law.proofs.ByMessage.{by_coord, by_message}
+use Rattle.arj_joint_law.proofs.Restarting.{restart_said}
 use Rattle.arj_wait_law.proofs.Known.{keyed_at}
 use Rattle.arj_wait_law.proofs.WriterNodes.{put_at}
 use Rattle.arj_settle_law.proofs.Listings.{BoundHas, EntryHas, NamesHave, Of, OrBy}
@@ -162,34 +163,7 @@ module _ (P : Of) (I : Uid → ℕ → ℕ → Type 0) where
   tells_fine (e ∷ es) = let i = e.1 in fine_both (tell_all i.root true ((e.0, ending.Commit) ∷ []) i.nodes) (tolds_again es) (all_map IsFine _ i.nodes (λ w. tt)) (tells_fine es)
 
   pub restart_fine : (hd : Header) (k inc : ℕ) (d : Disk) → Fine (restart_outs hd k inc d)
-  restart_fine hd k inc d = fine_both four hellos (fine_both three asking (fine_both two (tolds_again d.intents) (fine_both one records (tt, (tt, (tt, (tt, back_so (naming_at k inc d.names))))) (tt, all_map IsFine (λ (e : Uid × Intent). Say (body.Recovered k e.0)) d.intents (λ e. tt))) (tells_fine d.intents))
-      (queries (uid_set (prepared_actions d.store ++ prepared_actions d.names))))
-      (all_map IsFine (hello_to k inc) (without_number k (numbers_to hd.nodes)) (λ w. tt))
-    where
-      back_so : (o : Option Naming) → Fine (naming_back o)
-      back_so None = tt
-      back_so (Some o) = all_flat IsFine (λ (e : ℕ × Named). back_lines e.1) o.objects (λ e. all_map IsFine _ e.1.rows (λ r. tt))
-
-      one : List Effect
-      one = Do Look ∷ Do (PutInc inc) ∷ Say (body.Up k inc) ∷ Do Look ∷ naming_back (naming_at k inc d.names)
-
-      records : List Effect
-      records = Do Look ∷ recovered_records k d.intents
-
-      two : List Effect
-      two = one ++ records
-
-      three : List Effect
-      three = two ++ tolds_again d.intents
-
-      asking : List Effect
-      asking = map query_about (uid_set (prepared_actions d.store ++ prepared_actions d.names))
-
-      four : List Effect
-      four = three ++ asking
-
-      hellos : List Effect
-      hellos = map (hello_to k inc) (without_number k (numbers_to hd.nodes))
+  restart_fine hd k inc d = restart_said IsFine (λ b. tt) hd k inc d tt tt (tells_fine d.intents) (λ u. tt) (λ n. tt)
 
   -- ---- a Confirm
 
@@ -349,13 +323,6 @@ module _ (P : Of) (I : Uid → ℕ → ℕ → Type 0) where
     asked h (ask.Confirm grants excluded included) is = with_it (λ o. served from h (with_naming t) Reply.Confirmed (confirm h.path grants excluded included d.names o)) t.naming
         (λ n. let r = confirm h.path grants excluded included d.names n in answered h (with_naming t r.part) r.outs (option_map Reply.Confirmed r.reply) (confirm_so h.path grants excluded included d.names n (includes h grants excluded included is) names))
 
-    coord_left : (r : Served Coord (Unit {0})) → Fine r.outs → By (coord_heard t r)
-    coord_left r so = by r.reply
-      where
-        by : (o : Option (Unit {0})) → By (by_reply (with_coord t r.part) r.outs o)
-        by None = tt
-        by (Some u) = so
-
     ends_left : (ack : Bool) (ends : List (Uid × End)) (o : Option (Uid × End)) → ((u : Uid) → o ≡ Some (u, ending.Commit) → (x n : ℕ) → I u x n → P x n) → By (handle_ends k d t from ack ends o)
     ends_left ack ends None sure = tt
     ends_left ack ends (Some e) sure =
@@ -378,36 +345,13 @@ module _ (P : Of) (I : Uid → ℕ → ℕ → Type 0) where
 
     other : (p : Message) → m ≡ p → By (handle_other k d t from p)
     other (message.Told p) is = ends_left p.ack p.ends (last_end p.ends) (λ u last. decided u (ap (λ (z : Message). last_end (told_by z)) is ∙ last))
-    other (message.Acked p) is = coord_left (acked from p.act d.intents t.coord) (acks p.act)
+    other (message.Acked p) is = by_coord k d t from By tt (acked from p.act d.intents t.coord) (acks p.act)
     other (message.Query p) is = tells p.act
     other (message.Hello p) is = queries (filter (is_earlier p.node p.inc) (holders d t))
-    other (message.Bind p) is = tt
-    other (message.Bound p) is = tt
-    other (message.Load p) is = tt
-    other (message.Loaded p) is = tt
-    other (message.Activate p) is = tt
-    other (message.Activated p) is = tt
-    other (message.RecordMsg p) is = tt
-    other (message.Recorded p) is = tt
-    other (message.Invoke p) is = tt
-    other (message.Invoked p) is = tt
-    other (message.Vote p) is = tt
-    other (message.Voted p) is = tt
-    other (message.Prepare p) is = tt
-    other (message.Prepared p) is = tt
-    other (message.Confirm p) is = tt
-    other (message.Confirmed p) is = tt
+    other p is = tt
 
     handled : By (handle k d t from m)
-    handled = by (asks m) refl
-      where
-        answer : (o : Option (Asked × Reply)) → answers m ≡ o → By (handle_answer k d t from m o)
-        answer None is = other m refl
-        answer (Some a) is = coord_left (heard from a.0 a.1 d.intents t.coord) (hears a.0 a.1 is)
-
-        by : (o : Option (Head × Ask)) → asks m ≡ o → By (handle_ask k d t from m o)
-        by None is = answer (answers m) refl
-        by (Some a) is = asked a.0 a.1 is
+    handled = by_message k d t from By tt m asked (λ a r is. by_coord k d t from By tt (heard from a r d.intents t.coord) (hears a r is)) (other m refl)
 
     pub handled_fine : (v : Parts) (outs : List Effect) → handle k d t from m ≡ Took v outs → Fine outs
     handled_fine v outs is = subst By is handled

@@ -25,9 +25,7 @@ use Rattle.arj_settle_law.proofs.Causes.{HasCause, cause_more}
 use Rattle.arj_settle_law.proofs.Cores.{AreCaused, HasMarks, IsAcked, IsAsked, IsCore, IsDone, IsHeld, IsSafe, IsWatched, Lists, Onward, Recorded, TellsAbort, WasTold, core_on, marks_on}
 use Rattle.arj_settle_law.proofs.Trails.{Went}
 use Rattle.arj_settle_law.proofs.Yeses.{AskedFrom, SaidYes, Votes, WasHeard}
-
-some_is : {A : Type 0} {a b : A} → Some a ≡ Some b → a ≡ b
-some_is {A} {a} {b} is = let k : ◌≡◌ {A = Option A} (Some a) (Some b) = is in cc
+use Rattle.arj_address_law.proofs.Lists.{some_is}
 
 -- ---- more that was sent
 

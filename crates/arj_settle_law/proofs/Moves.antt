@@ -49,9 +49,7 @@ use Rattle.arj_settle_law.proofs.Milds.{here_is, the_node}
 use Rattle.arj_settle_law.proofs.Stills.{IsPlainSend, IsRight, Unasked, coord_plain, still_walk}
 use Rattle.arj_settle_law.proofs.Trails.{HasLine, SaysIn, says_left, says_right}
 use Rattle.arj_settle_law.proofs.Yeses.{AskedFrom, Votes, answer_votes, giveup_votes, start_votes}
-
-some_is : {A : Type 0} {a b : A} → Some a ≡ Some b → a ≡ b
-some_is {A} {a} {b} is = let k : ◌≡◌ {A = Option A} (Some a) (Some b) = is in cc k
+use Rattle.arj_address_law.proofs.Lists.{some_is}
 
 pub plain_sends : (c : Coord) (outs : List Effect) → AreTrue c outs → AllByRecursion IsPlainSend outs
 plain_sends c [] all = tt

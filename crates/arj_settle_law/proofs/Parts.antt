@@ -38,9 +38,7 @@ use Rattle.arj_settle_law.proofs.Milds.{IsGone, here_is, recorded_back, the_node
 use Rattle.arj_settle_law.proofs.Steps.{Either, step_halt, step_walk}
 use Rattle.arj_settle_law.proofs.Stills.{IsRight}
 use Rattle.arj_settle_law.proofs.Trails.{FitsSo, Went, halt_went}
-
-some_is : {A : Type 0} {a b : A} → Some a ≡ Some b → a ≡ b
-some_is {A} {a} {b} is = let k : ◌≡◌ {A = Option A} (Some a) (Some b) = is in cc k
+use Rattle.arj_address_law.proofs.Lists.{some_is}
 
 last_among : (es : List (Uid × End)) (x : Uid × End) → last_end es ≡ Some x → Among x es
 last_among [] x is = absurd (cc is)

@@ -1,5 +1,5 @@
 -- What holds of outcomes is kept by each handler, and so in every run.
-use Rattle.std.proofs.Common.{◌≡◌, ◌∙◌, ◌++◌, ◌+◌, ℕ, zero, suc, Bool, true, false, cond, List, [], ◌∷◌, map, Option, Some, None, refl, sym, ap, subst, inl, inr, ⊎_elim, Contains}
+use Rattle.std.proofs.Common.{◌≡◌, ◌∙◌, ◌++◌, ◌+◌, ℕ, zero, suc, Bool, true, false, cond, List, [], ◌∷◌, Option, Some, None, refl, sym, ap, subst, inl, inr, ⊎_elim, Contains}
 use Rattle.std.specs.List.{AllByRecursion, list_all}
 use Rattle.std.proofs.lemmas.Bool.{and_parts}
 use Rattle.arj_lock.proofs.Members.{in_from, in_to}
@@ -11,13 +11,13 @@ use Rattle.arj_protocol.specs.Asking.{begin_action, heard}
 use Rattle.arj_protocol.specs.Commit.{Machine}
 use Rattle.arj_protocol.specs.Confirm.{back_lines}
 use Rattle.arj_protocol.specs.Coord.{Committing, Coord, Doing, doing_of}
-use Rattle.arj_protocol.specs.Effect.{Disk, Do, Effect, Intent, Look, PutInc, Say, Served, is_prepared}
+use Rattle.arj_protocol.specs.Effect.{Disk, Do, Effect, Intent, Look, PutInc, Served, is_prepared}
 use Rattle.arj_protocol.specs.Ending.{tell_all}
 use Rattle.arj_protocol.specs.Named.{Named}
 use Rattle.arj_protocol.specs.Naming.{Naming}
-use Rattle.arj_protocol.specs.Node.{Parts, prepared_actions, query_about, with_coord}
-use Rattle.arj_protocol.specs.Order.{at_uid, uid_set, without_number}
-use Rattle.arj_protocol.specs.Step.{Node, first_disk, hello_to, naming_at, naming_back, numbers_to, parent_of, parts_in, recovered_records, restart_outs, tolds_again}
+use Rattle.arj_protocol.specs.Node.{Parts, with_coord}
+use Rattle.arj_protocol.specs.Order.{at_uid}
+use Rattle.arj_protocol.specs.Step.{Node, first_disk, naming_at, naming_back, parent_of, parts_in, recovered_records, restart_outs, tolds_again}
 use Rattle.arj_protocol.specs.Tree.{at_place, is_own, next_uid}
 use Rattle.arj_protocol.specs.World as world
 use Rattle.arj_protocol.specs.World.{format, is_serial_kind, numbered, run_all}
@@ -61,9 +61,8 @@ use Rattle.arj_settle_law.proofs.Settled.{disks_keep, sorted_as}
 use Rattle.arj_settle_law.proofs.Steps.{Either, step_walk}
 use Rattle.arj_settle_law.proofs.Stills.{IsRight}
 use Rattle.arj_settle_law.proofs.Trails.{FitsSo, LineMild, Went, mild_clean, mild_decides, quiet_mild}
-
-some_is : {A : Type 0} {a b : A} → Some a ≡ Some b → a ≡ b
-some_is {A} {a} {b} is = let k : ◌≡◌ {A = Option A} (Some a) (Some b) = is in cc k
+use Rattle.arj_joint_law.proofs.Restarting.{restart_each}
+use Rattle.arj_address_law.proofs.Lists.{some_is}
 
 -- ---- what is known
 
@@ -210,14 +209,6 @@ module _ (hd : Header) (k : ℕ) (d : Disk) (M : Seen) (right : IsRight (down k 
   records_fit [] each = tt
   records_fit (x ∷ is) each = (each x.0 x.1 (in_to x (x ∷ is) (inl refl)), records_fit is (λ y i there. each y i (in_to (y, i) (x ∷ is) (inr (in_from (y, i) is there)))))
 
-  queries_fit : (us : List Uid) → AllByRecursion Fits (map query_about us)
-  queries_fit [] = tt
-  queries_fit (u ∷ us) = ((((λ h states q. absurd (cc q)), (λ w q. absurd (cc q))), ((λ a q. cc q), (λ w q. cc q))), queries_fit us)
-
-  hellos_fit : (ns : List ℕ) → AllByRecursion Fits (map (hello_to k (d.inc + 1)) ns)
-  hellos_fit [] = tt
-  hellos_fit (n ∷ ns) = ((((λ h states q. absurd (cc q)), (λ w q. absurd (cc q))), ((λ a q. cc q), (λ w q. cc q))), hellos_fit ns)
-
   back_fit : (o : Option Naming) → AllByRecursion Fits (naming_back o)
   back_fit None = tt
   back_fit (Some o) = all_flat Fits (λ (x : ℕ × Named). back_lines x.1) o.objects (λ x. all_map Fits _ x.1.rows (λ r. tt))
@@ -229,34 +220,12 @@ module _ (hd : Header) (k : ℕ) (d : Disk) (M : Seen) (right : IsRight (down k 
   puts c these how = aside_these how (PutInc (d.inc + 1)) d c tt these
 
   pub restart_fits : AllByRecursion Fits (restart_outs hd k (d.inc + 1) d)
-  restart_fits = all_both Fits four hellos (all_both Fits three asking (all_both Fits two (tolds_again d.intents) (all_both Fits one records (looks, (puts, (tt, (looks, back_fit (naming_at k (d.inc + 1) d.names)))))
-      (looks, records_fit d.intents (λ x i there. (i, in_at (x, i) d.intents sorted (in_from (x, i) d.intents there))))) (tolds_fit d.intents))
-      (queries_fit (uid_set (prepared_actions d.store ++ prepared_actions d.names))))
-      (hellos_fit (without_number k (numbers_to hd.nodes)))
+  restart_fits = restart_each Fits hd k (d.inc + 1) d looks puts tt (back_fit (naming_at k (d.inc + 1) d.names)) (records_fit d.intents (λ x i there. (i, in_at (x, i) d.intents sorted (in_from (x, i) d.intents there)))) (tolds_fit d.intents)
+      (λ u. (((λ h states q. absurd (cc q)), (λ w q. absurd (cc q))), ((λ a q. cc q), (λ w q. cc q))))
+      (λ n. (((λ h states q. absurd (cc q)), (λ w q. absurd (cc q))), ((λ a q. cc q), (λ w q. cc q))))
     where
       sorted : AreSorted d.intents
       sorted = let r = recorded in let c = r.disk in sorted_as d.intents c.sorted
-
-      one : List Effect
-      one = Do Look ∷ Do (PutInc (d.inc + 1)) ∷ Say (body.Up k (d.inc + 1)) ∷ Do Look ∷ naming_back (naming_at k (d.inc + 1) d.names)
-
-      records : List Effect
-      records = Do Look ∷ recovered_records k d.intents
-
-      two : List Effect
-      two = one ++ records
-
-      three : List Effect
-      three = two ++ tolds_again d.intents
-
-      asking : List Effect
-      asking = map query_about (uid_set (prepared_actions d.store ++ prepared_actions d.names))
-
-      four : List Effect
-      four = three ++ asking
-
-      hellos : List Effect
-      hellos = map (hello_to k (d.inc + 1)) (without_number k (numbers_to hd.nodes))
 
   -- ---- what holds then
 

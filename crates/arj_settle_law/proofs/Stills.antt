@@ -39,9 +39,7 @@ use Rattle.arj_settle_law.proofs.Knowns.{Known, asked_settled, commit_called, co
 use Rattle.arj_settle_law.proofs.Milds.{here_is, later, lists_back, lists_on, mild_core, recorded_back, the_node, votes_sent}
 use Rattle.arj_settle_law.proofs.Trails.{Down, FitsSo, HasLine, LineMild, SaysIn, UpBy, Went, mild_clean, mild_decides, quiet_mild, said_lines, went}
 use Rattle.arj_settle_law.proofs.Yeses.{AskedFrom, SaidYes, Votes}
-
-some_is : {A : Type 0} {a b : A} → Some a ≡ Some b → a ≡ b
-some_is {A} {a} {b} is = let k : ◌≡◌ {A = Option A} (Some a) (Some b) = is in cc
+use Rattle.arj_address_law.proofs.Lists.{some_is}
 
 -- what is known, and what holds
 abbrev pub IsRight : Seen → Type 0

@@ -44,9 +44,7 @@ use Rattle.arj_settle_law.proofs.StockParts.{quiet_undeciding}
 use Rattle.arj_settle_law.proofs.Stills.{IsPlainSend, IsRight, Unasked, line_fits, no_work}
 use Rattle.arj_settle_law.proofs.Stocks.{IsFed, IsIncluded, IsStocked, IsStored, halt_by, still_by, stocked_on, walk_by}
 use Rattle.arj_settle_law.proofs.Trails.{FitsSo, LineMild, UpBy, Went, mild_decides, quiet_mild}
-
-some_is : {A : Type 0} {a b : A} → Some a ≡ Some b → a ≡ b
-some_is {A} {a} {b} is = let k : ◌≡◌ {A = Option A} (Some a) (Some b) = is in cc k
+use Rattle.arj_address_law.proofs.Lists.{some_is}
 
 -- ---- where disks stay
 

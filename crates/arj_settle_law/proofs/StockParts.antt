@@ -40,9 +40,7 @@ use Rattle.arj_settle_law.proofs.Steps.{Either}
 use Rattle.arj_settle_law.proofs.Stills.{IsRight}
 use Rattle.arj_settle_law.proofs.Stocks.{IsFed, IsIncluded, IsStocked, halt_by, stocked_on, walk_by}
 use Rattle.arj_settle_law.proofs.Trails.{FitsSo, Went}
-
-some_is : {A : Type 0} {a b : A} → Some a ≡ Some b → a ≡ b
-some_is {A} {a} {b} is = let k : ◌≡◌ {A = Option A} (Some a) (Some b) = is in cc k
+use Rattle.arj_address_law.proofs.Lists.{some_is}
 
 -- ---- committed states
 

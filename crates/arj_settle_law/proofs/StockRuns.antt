@@ -17,7 +17,7 @@ use Rattle.arj_protocol.specs.World.{Labelled, format, is_serial_kind, numbered}
 use Rattle.arj_view_law.specs.Keeps.{Keeps}
 use Rattle.arj_view_law.specs.Seen.{AreQuiet, In, Post, Seen, down, given, is_quiet_line, said, see, up}
 use Rattle.arj_view_law.specs.Walks.{Up, Walks}
-use Rattle.arj_address_law.proofs.Lists.{all_at_uid}
+use Rattle.arj_address_law.proofs.Lists.{all_at_uid, some_is}
 use Rattle.arj_call_law.proofs.Given.{KeepsGiven, keeps_given, kept_both}
 use Rattle.arj_disk_run_law.specs.States.{Own}
 use Rattle.arj_disk_run_law.proofs.Lists.{all_each}
@@ -41,9 +41,6 @@ use Rattle.arj_settle_law.proofs.StockCoords.{act_stock, acked_stock, heard_stoc
 use Rattle.arj_settle_law.proofs.StockParts.{AreObjects, again_stock, asks_stock, beside_stock, ends_stock, prepares_stock, quiet_undeciding}
 use Rattle.arj_settle_law.proofs.Stocks.{IsIncluded, IsStocked, stocked_on, walk_by}
 use Rattle.arj_settle_law.proofs.Trails.{LineMild, Went, mild_decides, quiet_mild}
-
-some_is : {A : Type 0} {a b : A} → Some a ≡ Some b → a ≡ b
-some_is {A} {a} {b} is = let k : ◌≡◌ {A = Option A} (Some a) (Some b) = is in cc k
 
 -- what is known beside
 abbrev pub StockBase : Header → Seen → Type 0

@@ -19,7 +19,7 @@ use Rattle.arj_protocol.specs.Effect.{Already, Disk, Do, Effect, InDoubt, Look, 
 use Rattle.arj_protocol.specs.Ending.{acked, answer_query}
 use Rattle.arj_protocol.specs.Naming as naming
 use Rattle.arj_protocol.specs.Naming.{Naming}
-use Rattle.arj_protocol.specs.Node.{Handled, Parts, Took, Void, ack_told, by_reply, coord_heard, end_states, handle, handle_answer, handle_ask, handle_ends, handle_other, holders, if_naming, is_earlier, load_by, load_held, naming_hello, naming_told, prepare_by, query_about, sends_answer, serve, served, store_told, with_coord, with_naming, with_server}
+use Rattle.arj_protocol.specs.Node.{Handled, Parts, Took, Void, ack_told, coord_heard, end_states, handle, handle_ends, handle_other, holders, if_naming, is_earlier, load_by, load_held, naming_hello, naming_told, prepare_by, query_about, sends_answer, serve, served, store_told, with_naming, with_server}
 use Rattle.arj_protocol.specs.Says.{AreAll, is_naming_effect, is_server_effect}
 use Rattle.arj_protocol.specs.Server as server
 use Rattle.arj_protocol.specs.Server.{Server}
@@ -29,6 +29,7 @@ use Rattle.arj_record_law.proofs.Quiet.{AllQuiet}
 use Rattle.arj_call_law.proofs.CoordSends.{AllSo, SendsSo}
 use Rattle.arj_joint_law.proofs.Mute.{AllMute, AllSilent, restart_mute}
 use Rattle.arj_call_law.proofs.WorldSteps.{no_request}
+use Rattle.arj_joint_law.proofs.ByMessage.{by_coord, by_message}
 
 -- ---- without answers
 
@@ -206,11 +207,7 @@ module _ (RB : Head → ℕ → Bool → Binding → BoundReply → Type 0) (RL 
           (λ n at. let r = confirm h.path grants excluded included d.names n in answered h (with_naming t r.part) r.outs (option_map Reply.Confirmed r.reply) kept.its_server (kept.confirm h grants excluded included n at) kept.its_coord (own_naming r.outs (confirm_own h.path grants excluded included d.names n)) (plain h Reply.Confirmed (λ q. tt) r.reply))
 
       coord_left : (r : Served Coord (Unit {0})) → C r.part × AllSend r.part r.outs → By (coord_heard t r)
-      coord_left r so = by r.reply
-        where
-          by : (o : Option (Unit {0})) → By (by_reply (with_coord t r.part) r.outs o)
-          by None = tt
-          by (Some u) = (((kept.its_server, kept.its_naming), so.0), so.1)
+      coord_left r so = by_coord k d t from By tt r (((kept.its_server, kept.its_naming), so.0), so.1)
 
       ends_left : (ack : Bool) (ends : List (Uid × End)) (o : Option (Uid × End)) → By (handle_ends k d t from ack ends o)
       ends_left ack ends None = (((kept.its_server, kept.its_naming), kept.its_coord), tt)
@@ -248,30 +245,7 @@ module _ (RB : Head → ℕ → Bool → Binding → BoundReply → Type 0) (RL 
         other (message.Acked p) = coord_left (acked from p.act d.intents t.coord) (acks p.act)
         other (message.Query p) = (((kept.its_server, kept.its_naming), kept.its_coord), tells p.act)
         other (message.Hello p) = (((kept.its_server, hello_left p.node p.inc t.naming refl), kept.its_coord), queries_so t.coord (filter (is_earlier p.node p.inc) (holders d t)))
-        other (message.Bind p) = tt
-        other (message.Bound p) = tt
-        other (message.Load p) = tt
-        other (message.Loaded p) = tt
-        other (message.Activate p) = tt
-        other (message.Activated p) = tt
-        other (message.RecordMsg p) = tt
-        other (message.Recorded p) = tt
-        other (message.Invoke p) = tt
-        other (message.Invoked p) = tt
-        other (message.Vote p) = tt
-        other (message.Voted p) = tt
-        other (message.Prepare p) = tt
-        other (message.Prepared p) = tt
-        other (message.Confirm p) = tt
-        other (message.Confirmed p) = tt
+        other p = tt
 
         pub message_served : By (handle k d t from m)
-        message_served = by (asks m) refl
-          where
-            answer : (o : Option (Asked × Reply)) → answers m ≡ o → By (handle_answer k d t from m o)
-            answer None is = other m
-            answer (Some a) is = coord_left (heard from a.0 a.1 d.intents t.coord) (hears a.0 a.1 is)
-
-            by : (o : Option (Head × Ask)) → asks m ≡ o → By (handle_ask k d t from m o)
-            by None is = answer (answers m) refl
-            by (Some a) is = asked a.0 a.1 is
+        message_served = by_message k d t from By tt m asked (λ a r is. coord_left (heard from a r d.intents t.coord) (hears a r is)) (other m)

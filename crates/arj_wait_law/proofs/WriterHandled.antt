@@ -17,11 +17,11 @@ use Rattle.arj_protocol.specs.Asking.{heard}
 use Rattle.arj_protocol.specs.Confirm.{confirm}
 use Rattle.arj_protocol.specs.Coord.{Coord}
 use Rattle.arj_protocol.specs.Copy.{Copy, Over, changed_state, over_of}
-use Rattle.arj_protocol.specs.Effect.{either, void, Already, Disk, Do, Effect, InDoubt, Look, Old, Prep, Prepare, Ready, Say, Send, Served, held_at, holder_of, is_prepared, prepare_answer}
+use Rattle.arj_protocol.specs.Effect.{either, void, Already, Disk, Do, Effect, InDoubt, Look, Old, Prep, Prepare, Ready, Say, Send, held_at, holder_of, is_prepared, prepare_answer}
 use Rattle.arj_protocol.specs.Ending.{acked, answer_query}
 use Rattle.arj_protocol.specs.Naming as naming
 use Rattle.arj_protocol.specs.Naming.{Naming}
-use Rattle.arj_protocol.specs.Node.{Handled, Parts, Took, Void, ack_told, by_reply, coord_heard, end_states, handle, handle_answer, handle_ask, handle_ends, handle_other, holders, if_naming, is_earlier, load_by, load_held, naming_told, prepare_by, query_about, sends_answer, serve, store_told, with_coord, with_naming, with_server}
+use Rattle.arj_protocol.specs.Node.{Handled, Parts, Took, Void, ack_told, end_states, handle, handle_ends, handle_other, holders, if_naming, is_earlier, load_by, load_held, naming_told, prepare_by, query_about, sends_answer, serve, store_told, with_naming, with_server}
 use Rattle.arj_protocol.specs.Order.{next_version}
 use Rattle.arj_protocol.specs.Server as server
 use Rattle.arj_protocol.specs.Server.{Server, changed_states}
@@ -32,6 +32,7 @@ use Rattle.arj_wait_law.specs.Writers.{AskIsBy, AskedIsBy, HasToldEnd, IsBy, IsP
 use Rattle.arj_wait_law.proofs.WriterCommits.{IsTold, plainly}
 use Rattle.arj_wait_law.proofs.WriterCoords.{So}
 use Rattle.arj_wait_law.proofs.WriterNodes.{Fine, fine_both, naming_fine, queries, response_fine, server_fine}
+use Rattle.arj_joint_law.proofs.ByMessage.{by_coord, by_message}
 
 -- ---- one message
 
@@ -134,13 +135,6 @@ module _ (sent : List Post) (k : ℕ) (d : Disk) (t : Parts) (from : ℕ) (disk 
       each false = new (prepare_answer (actor h.path) states d.store)
   asked h (ask.Confirm grants excluded included) brings = with_it _ t.naming (λ n. let r = confirm h.path grants excluded included d.names n in answered h (with_naming t r.part) r.outs (option_map Reply.Confirmed r.reply) refl (naming_fine P r.outs (confirm_own h.path grants excluded included d.names n)) (plain_reply h Reply.Confirmed (λ z. tt) r.reply))
 
-  coord_left : (r : Served Coord (Unit {0})) → FineBy r.outs → IsTold (IsPastWriter sent) (record { part = r.part; outs = r.outs }) → By (coord_heard t r)
-  coord_left r fine so = by r.reply
-    where
-      by : (o : Option (Unit {0})) → By (by_reply (with_coord t r.part) r.outs o)
-      by None = tt
-      by (Some u) = (fine, so)
-
   ends_left : (ack : Bool) (ends : List (Uid × End)) → ((u : Uid) (e : End) → Contains {X = Uid × End} ends (u, e) → HasToldEnd sent u) → (o : Option (Uid × End)) → last_end ends ≡ o → By (handle_ends k d t from ack ends o)
   ends_left ack ends told None is = still [] tt
   ends_left ack ends told (Some e) is =
@@ -167,33 +161,10 @@ module _ (sent : List Post) (k : ℕ) (d : Disk) (t : Parts) (from : ℕ) (disk 
       (acks : (u : Uid) → FineBy (acked from u d.intents t.coord).outs × So (IsPastWriter sent) (acked from u d.intents t.coord).part) (answers_it : (u : Uid) → FineBy (answer_query from u d.intents t.coord)) where
     other : (n : Message) → n ≡ m → By (handle_other k d t from n)
     other (message.Told n) is = ends_left n.ack n.ends (λ u e there. told u e (subst (λ (z : Message). Contains {X = Uid × End} (told_by z) (u, e)) is there)) (last_end n.ends) refl
-    other (message.Acked n) is = let q = acked from n.act d.intents t.coord in coord_left q (acks n.act).0 (plainly P (record { part = q.part; outs = q.outs }) (acks n.act).1)
+    other (message.Acked n) is = let q = acked from n.act d.intents t.coord in by_coord k d t from By tt q ((acks n.act).0, plainly P (record { part = q.part; outs = q.outs }) (acks n.act).1)
     other (message.Query n) is = still (answer_query from n.act d.intents t.coord) (answers_it n.act)
     other (message.Hello n) is = still (map query_about (filter (is_earlier n.node n.inc) (holders d t))) (queries P (filter (is_earlier n.node n.inc) (holders d t)))
-    other (message.Bind n) is = tt
-    other (message.Bound n) is = tt
-    other (message.Load n) is = tt
-    other (message.Loaded n) is = tt
-    other (message.Activate n) is = tt
-    other (message.Activated n) is = tt
-    other (message.RecordMsg n) is = tt
-    other (message.Recorded n) is = tt
-    other (message.Invoke n) is = tt
-    other (message.Invoked n) is = tt
-    other (message.Vote n) is = tt
-    other (message.Voted n) is = tt
-    other (message.Prepare n) is = tt
-    other (message.Prepared n) is = tt
-    other (message.Confirm n) is = tt
-    other (message.Confirmed n) is = tt
+    other n is = tt
 
     pub handled_by : AskedIsBy (IsPastWriter sent) (asks m) → (v : Parts) (outs : List Effect) → handle k d t from m ≡ Took v outs → FineBy outs × IsTold (IsPastWriter sent) (record { part = v.coord; outs = outs })
-    handled_by brings v outs is = subst By is (by (asks m) brings)
-      where
-        answer : (o : Option (Asked × Reply)) → answers m ≡ o → By (handle_answer k d t from m o)
-        answer None of = other m refl
-        answer (Some a) of = let h = hears a.0 a.1 of in coord_left (heard from a.0 a.1 d.intents t.coord) h.0 h.1
-
-        by : (o : Option (Head × Ask)) → AskedIsBy (IsPastWriter sent) o → By (handle_ask k d t from m o)
-        by None its_ask = answer (answers m) refl
-        by (Some a) its_ask = asked a.0 a.1 its_ask
+    handled_by brings v outs is = subst By is (by_message k d t from By tt m (λ h a of. asked h a (subst (AskedIsBy (IsPastWriter sent)) of brings)) (λ a r of. by_coord k d t from By tt (heard from a r d.intents t.coord) (hears a r of)) (other m refl))

@@ -9,31 +9,28 @@ use Rattle.std.proofs.lemmas.Bool.{and_parts}
 use Rattle.arj_base.specs.Order.{uid_order}
 use Rattle.arj_protocol.specs.Words.{Ask, Asked, Head, Header, Message, ObjectState, Uid, asks}
 use Rattle.arj_protocol.specs.Words.ask
-use Rattle.arj_protocol.specs.Words.body
 use Rattle.arj_protocol.specs.Words.ending
 use Rattle.arj_protocol.specs.Words.message
 use Rattle.arj_protocol.specs.Words.role
 use Rattle.arj_protocol.specs.Ask.{Reply, actor, answers, response}
 use Rattle.arj_protocol.specs.Call.{At, AtActivate, AtBind, AtInvoke, AtLoad, AtNote, Goal, ask_at}
 use Rattle.arj_protocol.specs.Commit.{Machine, Confirming, Plan, Preparing, Used, Voting, ask_of, changed_of, state_by, state_for, states_for}
-use Rattle.arj_protocol.specs.Confirm.{back_lines}
 use Rattle.arj_protocol.specs.Coord.{Calling, Committing, Coord, Idle, Now}
 use Rattle.arj_protocol.specs.Effect.{Abort, After, Before, Commit, Disk, Do, Effect, InPart, Intent, Look, Pair, Prepare, PutInc, PutIntent, RemoveIntent, Say, Send, Stop, Work, moved, moved_some, new_states, stopped, worked}
 use Rattle.arj_protocol.specs.Ending.{tell_all}
-use Rattle.arj_protocol.specs.Named.{Named}
-use Rattle.arj_protocol.specs.Naming.{Naming}
-use Rattle.arj_protocol.specs.Node.{prepared_actions, query_about}
-use Rattle.arj_protocol.specs.Order.{at_uid, has, put_uid, uid_set, without_number}
+use Rattle.arj_protocol.specs.Node.{query_about}
+use Rattle.arj_protocol.specs.Order.{at_uid, has, put_uid}
 use Rattle.arj_protocol.specs.Says.{AreAll, is_coord_effect, is_naming_effect, is_server_effect}
-use Rattle.arj_protocol.specs.Step.{hello_to, naming_at, naming_back, numbers_to, recovered_records, restart_outs, tolds_again}
+use Rattle.arj_protocol.specs.Step.{restart_outs, tolds_again}
 use Rattle.arj_part_law.specs.Claims.{AreTrue, is_of_coord}
 use Rattle.arj_part_law.proofs.Keys.{order_exact}
-use Rattle.arj_part_law.proofs.SaidIncs.{all_both, all_flat, all_map}
+use Rattle.arj_part_law.proofs.SaidIncs.{all_both, all_map}
 use Rattle.arj_call_law.specs.Coords.{bare}
 use Rattle.arj_call_law.proofs.CoordSends.{AllSo, IsSentBy}
 use Rattle.arj_address_law.proofs.Lists.{all_put, all_some, all_without}
 use Rattle.arj_wait_law.specs.Writers.{AnsweredIsBy, AskIsBy, AskedIsBy, CoordIsBy, EffectIsBy, IsBy, IsOwnOrBy, NowIsBy, PairIsBy, PlanIsBy, ReplyIsBy}
 use Rattle.arj_wait_law.proofs.Known.{keyed_at}
+use Rattle.arj_joint_law.proofs.Restarting.{restart_said}
 
 -- a step of a call prepares nothing
 step_none : (x : ℕ) (g : Goal) (at : At) {states : List ObjectState} → ask.Prepare states ≡ ask_at x g [] at → ⊥
@@ -261,31 +258,4 @@ module _ (P : Uid → Type 0) where
   -- ---- a restart
 
   pub restart_fine : (hd : Header) (k inc : ℕ) (d : Disk) → Fine (restart_outs hd k inc d)
-  restart_fine hd k inc d = fine_both four hellos (fine_both three asking (fine_both two (tolds_again d.intents) (fine_both one records (tt, (tt, (tt, (tt, back_so (naming_at k inc d.names))))) (tt, all_map (EffectIsBy P) (λ (e : Uid × Intent). Say (body.Recovered k e.0)) d.intents (λ e. tt))) (tells_fine d.intents))
-      (queries (uid_set (prepared_actions d.store ++ prepared_actions d.names))))
-      (all_map (EffectIsBy P) (hello_to k inc) (without_number k (numbers_to hd.nodes)) (λ w. (tt, tt)))
-    where
-      back_so : (o : Option Naming) → Fine (naming_back o)
-      back_so None = tt
-      back_so (Some o) = all_flat (EffectIsBy P) (λ (e : ℕ × Named). back_lines e.1) o.objects (λ e. all_map (EffectIsBy P) _ e.1.rows (λ r. tt))
-
-      one : List Effect
-      one = Do Look ∷ Do (PutInc inc) ∷ Say (body.Up k inc) ∷ Do Look ∷ naming_back (naming_at k inc d.names)
-
-      records : List Effect
-      records = Do Look ∷ recovered_records k d.intents
-
-      two : List Effect
-      two = one ++ records
-
-      three : List Effect
-      three = two ++ tolds_again d.intents
-
-      asking : List Effect
-      asking = map query_about (uid_set (prepared_actions d.store ++ prepared_actions d.names))
-
-      four : List Effect
-      four = three ++ asking
-
-      hellos : List Effect
-      hellos = map (hello_to k inc) (without_number k (numbers_to hd.nodes))
+  restart_fine hd k inc d = restart_said (EffectIsBy P) (λ b. tt) hd k inc d tt tt (tells_fine d.intents) (λ u. (tt, tt)) (λ n. (tt, tt))

@@ -43,6 +43,7 @@ use Rattle.arj_wait_law.proofs.WriterCoords.{So, begins_so}
 use Rattle.arj_wait_law.proofs.WriterCoords as coords
 use Rattle.arj_wait_law.proofs.WriterHandled.{handled_by}
 use Rattle.arj_wait_law.proofs.WriterNodes.{Fine, Held, coord_fine, fine_both, put_so, queries, restart_fine, stopped_so, tells_fine}
+use Rattle.arj_address_law.proofs.Lists.{some_is}
 
 -- ---- more writers
 
@@ -145,9 +146,6 @@ back k d live M its o posts = record {
   nodes = λ j n there. ⊎_elim (λ (z : (j ≡ k) × (record { number = k; disk = d; live = live } ≡ n)). subst (NodeIsBy (IsPastWriter M.sent)) z.1 its) (λ (z : ((j == k) ≡ false) × (M.nodes j ≡ Some n)). o j n z.0 z.1) (node_cases M k (record { number = k; disk = d; live = live }) j n there);
   posts = posts;
 }
-
-some_is : {A : Type 0} {a b : A} → Some a ≡ Some b → a ≡ b
-some_is {A} {a} {b} is = let k : ◌≡◌ {A = Option A} (Some a) (Some b) = is in cc
 
 down_by : (e k : ℕ) (d : Disk) (M : Seen) → PairIsBy (IsPastWriter M.sent) d.store → Others k M → Posts M → ArePastWriters (halted e k d M)
 down_by e k d M its o posts = let b = back k d None M (record { store = its; live = λ t is. absurd (cc is) }) o posts in record { nodes = b.nodes; posts = b.posts }
