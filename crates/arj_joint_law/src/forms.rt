@@ -1,4 +1,5 @@
-// What stands of an object on disks.
+// What stands of an object on disks, and which operations a journal answers.
+ghost use Rattle.arj_joint_law.specs.FitRuns.{RunsFit};
 ghost use Rattle.arj_joint_law.specs.Forms.{FormsAreKept, RunsHaveForm};
 
 /// After the run of each script whose header is in form, with all frames that came in any order, again or never, all stops, crashes and
@@ -8,4 +9,10 @@ ghost use Rattle.arj_joint_law.specs.Forms.{FormsAreKept, RunsHaveForm};
 pub fn runs_have_form()
     ensures handlers { FormsAreKept }
     ensures runs { RunsHaveForm }
+{}
+
+/// In the journal of every script whose events are in form the operations of answered calls are in form (`OpsFit`): they are those of its
+/// events, whatever is sent, lost, stopped or restarted. It does nothing when it runs.
+pub fn answered_operations_are_in_form()
+    ensures { RunsFit }
 {}

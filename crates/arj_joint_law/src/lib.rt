@@ -10,7 +10,8 @@
 //! (`specs/Excluded.antt`, `specs/InTime.antt`). What one outcome is by a journal is in `specs/Outcome.antt`; what lines say of exclusions
 //! in `specs/Marked.antt`, and of includes in `specs/Joins.antt`; over which states copies and votes lie in `specs/Based.antt` and
 //! `specs/BasedSteps.antt`. What it gives upward: `runs_begin_as_the_header_says`,
-//! `decisions_come_behind_calls`, `writers_are_called_as_they_are_decided`, `runs_have_form`, `runs_have_both_machines`,
+//! `decisions_come_behind_calls`, `writers_are_called_as_they_are_decided`, `runs_have_form`, `answered_operations_are_in_form`,
+//! `runs_have_both_machines`,
 //! `joint_runs_hold_locks` (`specs/Held.antt`), `runs_are_clean`,
 //! `runs_exclude_in_time` (of what is seen of a run: `seen_runs_exclude_in_time`), `commits_are_done_behind_decisions`,
 //! `commits_say_what_they_exclude`, `commits_include_what_survives`, `commits_of_a_root_go_on_alone`,
@@ -25,7 +26,7 @@ mod runs;
 mod writers;
 
 pub use based::votes_are_over_known_states;
-pub use forms::runs_have_form;
+pub use forms::{answered_operations_are_in_form, runs_have_form};
 pub use held::joint_runs_hold_locks;
 pub use outcomes::{
     commits_are_done_behind_decisions, exclusion_in_time_tells_disks_apart,
