@@ -50,6 +50,7 @@ IsFine x A lines w u used = Settled A lines w u ⊎ UsesNone x (A.world.disk.pla
 abbrev pub IsLitOn : World → Office → Type 0
 IsLitOn W B = (t : ℕ) → B.world.disk.light t ≡ true → (W.disk.light t ≡ true) ⊎ ((B.world.disk.tops ≡ W.disk.tops) × IsPassedNow W.disk B.world.disk B.names t)
 
+-- A step has gone on: who is confirmed since is so with present grants, grants and decisions stay, and naming's incarnation doesn't fall.
 pub record IsFurther (A B : Office) : Type 0 where
   pub onward : GoesOnward A B
   pub lit : IsLitOn A.world B

@@ -98,7 +98,7 @@ module _ (x : ℕ) (tops : Kinds) (D : Office → Type 0) (C Cand : Uid → Type
         old : In d.0 S.tops → (decided S (uid_number w) ≡ true) ⊎ Cand w
         old i = inl (subst (λ z. decided S z ≡ true) d.2 (in_decided S.tops d.0 i))
 
-    -- one that was confirmed so now, in this step or before
+    -- naming confirmed it so in this step, in which nothing was decided
     record IsNew (w : Uid) : Type 0 where
       passing : IsPassing A M w
       same : B.world.disk.tops ≡ S.tops
@@ -208,6 +208,7 @@ module _ (x : ℕ) (tops : Kinds) (D : Office → Type 0) (C Cand : Uid → Type
 
     -- ---- the whole
 
+    -- the stores that a top includes
     abbrev JoinsOf : Office → Uid → List ℕ
     JoinsOf G w = (let q = G.world.disk.plan (uid_number w) in q.joins)
 
