@@ -1,6 +1,6 @@
 -- Each handler keeps that decisions are said, and so they are after each run.
 use Rattle.std.proofs.Common.{◌≡◌, ◌⊎◌, ◌==◌, ℕ, ◌+◌, List, [], true, Option, Some, None, is_some, refl, sym, ◌∙◌, ap, subst, inl, inr, ⊎_elim, ◌++◌, ◌∷◌}
-use Rattle.std.specs.Prelude.{◌≤◌, Contains, length}
+use Rattle.std.specs.Prelude.{⊤, ◌≤◌, Contains, length}
 use Rattle.arj_lock.proofs.Members.{in_to, In as Among, in_from}
 use Rattle.arj_protocol.specs.Words.{Body, Header, Kind, Label, Uid, Line}
 use Rattle.arj_protocol.specs.Words.body
@@ -31,7 +31,7 @@ use Rattle.arj_disk_run_law.specs.Part.{Going, HasHeard, KeepsPart, are_recorded
 use Rattle.arj_disk_run_law.specs.Kinds.{kinds_of}
 use Rattle.arj_disk_run_law.proofs.Begun.{kinds_agree}
 use Rattle.arj_disk_run_law.specs.Bindings.{KnowsScript}
-use Rattle.arj_call_law.proofs.Given.{kept_both, keeps_given}
+use Rattle.arj_call_law.proofs.Given.{kept_both, keeps_given, while_given}
 use Rattle.arj_disk_run_law.proofs.Scripts.{part_few, part_more, script_holds}
 use Rattle.arj_disk_run_law.proofs.Given.{gives_votes}
 use Rattle.arj_disk_run_law.specs.Entries.{HaveEntries}
@@ -43,7 +43,7 @@ use Rattle.arj_line_law.specs.Knows.{IsKept, IsWritten, KnowsUp, AreLate, HasBra
 use Rattle.arj_line_law.proofs.Books.{decided_later, Later, book_more, quiet_book}
 use Rattle.arj_line_law.proofs.Models.{decided_in, among}
 use Rattle.arj_line_law.proofs.Runs.{lines_keep, act_turns, message_turns, rest_goes, tick_turns}
-use Rattle.arj_disk_line_law.specs.Said.{AreSaid, HeardRunsAreJournalled, IsJournalled, IsKnownEarly, IsLate, IsTied, RunsAreJournalled, AreDone, IsDoneBy, WithTie}
+use Rattle.arj_disk_line_law.specs.Said.{AreSaid, HeardRunsAreJournalled, IsJournalled, IsKnownEarly, IsLate, IsTied, RunsAreJournalled, AreDone, IsDoneBy, WasBefore, WithTie}
 use Rattle.arj_disk_line_law.proofs.IdleKnown.{KnowsIdle, knows_idle}
 use Rattle.arj_disk_line_law.proofs.Owners.{decided_begun, whose_it_is}
 use Rattle.arj_disk_run_law.proofs.Grows.{later_lines}
@@ -266,17 +266,19 @@ one_act (x ∷ xs) apart a b (inr i) (inr j) same = one_act xs apart.3 a b i j s
 abbrev pub IsJournalledBeside : (Kinds → Office → Seen → Type 0) → ℕ → Seen → Type 0
 IsJournalledBeside P x M = (j : IsJournalled x M) × (A : Office) × (A.world ≡ j.machine) × P j.tops A M × KnowsFew M
 
-pub journalled_beside : (hd : Header) (x : ℕ) (R : Seen → Type 0) (P : Kinds → Office → Seen → Type 0) → Keeps hd R → KeepsPart hd x (λ W M. R M × IsKnownEarly W M) P → (es : List Asked) → length es ≤ most_events → Holds hd (IsJournalledBeside P x) (run_all es (format hd))
-journalled_beside hd x R P kept parts es short =
+pub journalled_beside : (hd : Header) (x : ℕ) (Fits : List Line → Type 0) → WasBefore Fits → (R : Seen → Type 0) (P : Kinds → Office → Seen → Type 0) → Keeps hd R → KeepsPart hd x (λ W M. R M × IsKnownEarly Fits W M) P → (es : List Asked) → length es ≤ most_events → Fits (run_all es (format hd)).lines → Holds hd (IsJournalledBeside P x) (run_all es (format hd))
+journalled_beside hd x Fits before R P kept parts es short fits =
     let Idle : List Line → Uid → Type 0 = λ ls u. IsIdle (book ls) u in
     let idles = knows_idle R in
-    let B : Seen → Type 0 = Both hd x R IsKnownEarly P Idle kept parts idles in
+    let G : Seen → Type 0 = λ M. KnowsScript M × Fits M.lines in
+    let B : Seen → Type 0 = Both hd x R (IsKnownEarly Fits) P Idle kept parts idles in
     let Known : Seen → Type 0 = λ M. B M × HaveEntries x M in
-    let tied = tied_part hd x R IsKnownEarly P Idle kept parts idles in
-    let Q : Kinds → Seen → Type 0 = IsCarriedSo hd x B KnowsScript P Idle tied in
-    let known = with_entries hd x B (λ W M. B M × IsKnownEarly W M) (WithTie P Idle) tied (both_too hd x R IsKnownEarly P Idle kept parts idles) in
-    let r = script_holds hd (IsKeptInRun Known Q) (all_keep hd x Known KnowsScript Q known (gives_votes Known) (unlate_each hd x B KnowsScript P Idle tied)) es short in
-    let h = r.holds.1 in
+    let tied = tied_part hd x R (IsKnownEarly Fits) P Idle kept parts idles in
+    let Q : Kinds → Seen → Type 0 = IsCarriedSo hd x B G P Idle tied in
+    let known = with_entries hd x B (λ W M. B M × IsKnownEarly Fits W M) (WithTie P Idle) tied (both_too hd x R (IsKnownEarly Fits) P Idle kept parts idles) in
+    let all = all_keep hd x Known G Q known (λ us k d t M q. gives_votes Known us k d t M (q.0, q.1.0)) (unlate_each hd x B G P Idle tied) in
+    let r = script_holds hd (λ M. Fits M.lines → IsKeptInRun Known Q M) (while_given Fits before (IsKeptInRun Known Q) hd KnowsScript all) es short in
+    let h = r.holds.1 fits in
     let g = h.1 in
     let s = g.5 (kinds_of h.0) (kinds_agree h.0 g.0.begun g.1) in
     let lines = (run_all es (format hd)).lines in
@@ -310,7 +312,7 @@ journalled_beside hd x R P kept parts es short =
         absurd (never (ap (λ (y : Act). is_top y.kind) same ∙ top) plain)
 
 journalled : (hd : Header) (x : ℕ) (R : Seen → Type 0) (P : Kinds → Office → Seen → Type 0) → Keeps hd R → KeepsPart hd x (λ W M. R M × KnowsScript M) P → (es : List Asked) → length es ≤ most_events → Holds hd (IsJournalled x) (run_all es (format hd))
-journalled hd x R P kept parts es short = let h = journalled_beside hd x R P kept (part_more hd x (λ W M. R M × KnowsScript M) (λ W M. R M × IsKnownEarly W M) P (λ W M q. (q.0, q.1.0)) parts) es short in record { sent = h.sent; stands = h.stands; holds = h.holds.0 }
+journalled hd x R P kept parts es short = let h = journalled_beside hd x (λ ls. ⊤) (λ ls more f. tt) R P kept (part_more hd x (λ W M. R M × KnowsScript M) (λ W M. R M × IsKnownEarly (λ ls. ⊤) W M) P (λ W M q. (q.0, q.1.0.0)) parts) es short tt in record { sent = h.sent; stands = h.stands; holds = h.holds.0 }
 
 pub runs_are_journalled : RunsAreJournalled
 runs_are_journalled hd x part parts es short = journalled hd x IsGood (λ tops A M. part tops A M ≡ true) (parts_good hd) (part_few hd x IsGood (λ tops A M. part tops A M ≡ true) parts) es short

@@ -1,5 +1,5 @@
 -- The decisions of an object's machine against the journal, and back.
-use Rattle.std.specs.Prelude.{◌≡◌, ◌⊎◌, ◌≤◌, ℕ, Bool, true, false, List, None, Some, Contains, length}
+use Rattle.std.specs.Prelude.{◌≡◌, ◌⊎◌, ◌≤◌, ◌++◌, ℕ, Bool, true, false, List, None, Some, Contains, length}
 use Rattle.arj_model.specs.Actions.{Act, acts}
 use Rattle.arj_protocol.specs.Words.{Header, Line, Uid}
 use Rattle.arj_protocol.specs.Effect.{Intent}
@@ -39,9 +39,13 @@ AreSaid W M = (u : Uid) (n : Node) → M.nodes u.node ≡ Some n → decided W.d
 abbrev pub AreNotLate : machine.World → Seen → Type 0
 AreNotLate W M = (u : Uid) (n : Node) → M.nodes u.node ≡ Some n → n.live ≡ None → decided W.disk (uid_number u) ≡ true → is_decided (book M.lines) u ≡ true
 
--- with what is known in every run of a script
-abbrev pub IsKnownEarly : machine.World → Seen → Type 0
-IsKnownEarly W M = KnowsScript M × AreNotLate W M
+-- with what is known in every run of a script, where the journal is so
+abbrev pub IsKnownEarly : (List Line → Type 0) → machine.World → Seen → Type 0
+IsKnownEarly Fits W M = (KnowsScript M × Fits M.lines) × AreNotLate W M
+
+-- a journal is so from its beginning
+abbrev pub WasBefore : (List Line → Type 0) → Type 0
+WasBefore Fits = (lines more : List Line) → Fits (lines ++ more) → Fits lines
 
 -- ---- what the journal says is decided
 

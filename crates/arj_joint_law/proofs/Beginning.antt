@@ -1,6 +1,6 @@
 -- The machine's first state and entry are kept, and so they are those of the header after each run.
 use Rattle.std.proofs.Common.{◌≡◌, ℕ, ◌+◌, true, List, [], None, Some, sym, ◌∙◌, subst, is_some, length, map, arith}
-use Rattle.std.specs.Prelude.{◌≤◌, ◌&&◌, nat_le}
+use Rattle.std.specs.Prelude.{⊤, ◌≤◌, ◌&&◌, nat_le}
 use Rattle.std.proofs.lemmas.Bool.Decides.{nat_tests}
 use Rattle.arj_journal.specs.ScriptForm.{HeaderInForm}
 use Rattle.arj_model.specs.Last.{object_line}
@@ -105,7 +105,7 @@ first_begins hd x form there tops A walk both none =
 
 begun_beside : (hd : Header) (x : ℕ) (R : Seen → Type 0) (P : Kinds → Office → Seen → Type 0) → HeaderInForm hd → is_some (object_line hd x) ≡ true → Keeps hd R → KeepsPart hd x (λ W M. R M × KnowsScript M) P → (es : List Asked) → length es ≤ most_events → Holds hd (IsBegunSo hd x) (run_all es (format hd))
 begun_beside hd x R P form there kept parts es short =
-    let h = journalled_beside hd x R (WithFirst hd x P) kept (first_part hd x (λ W M. R M × IsKnownEarly W M) P (part_more hd x (λ W M. R M × KnowsScript M) (λ W M. R M × IsKnownEarly W M) P (λ W M q. (q.0, q.1.0)) parts) (first_begins hd x form there)) es short in
+    let h = journalled_beside hd x (λ ls. ⊤) (λ ls more f. tt) R (WithFirst hd x P) kept (first_part hd x (λ W M. R M × IsKnownEarly (λ ls. ⊤) W M) P (part_more hd x (λ W M. R M × KnowsScript M) (λ W M. R M × IsKnownEarly (λ ls. ⊤) W M) P (λ W M q. (q.0, q.1.0.0)) parts) (first_begins hd x form there)) es short tt in
     let b = h.holds in
     record { sent = h.sent; stands = h.stands; holds = record { journalled = b.0; begins = subst (λ (W : machine.World). BeginsSo hd x W.disk) b.2 (let z = b.3 in z.1) } }
 

@@ -41,13 +41,13 @@ use Rattle.arj_serial_law.specs.Cleaned.{HaveForm, IsCleanIn}
 use Rattle.arj_serial_law.specs.Decided.{AreDecided, AreDecisions, AreNewestFirst, DecideChanges, Joined, Wrote, WroteSo}
 use Rattle.arj_lock_fact_law.specs.Entries.{HasObject}
 use Rattle.arj_lock_whole_law.proofs.WholeRuns.{runs_call_objects, runs_include_objects}
-use Rattle.arj_part_law.specs.Actions.{Action}
 use Rattle.arj_serial_law.proofs.Seeing.{locked_runs_are_serial, locked_tied}
 use Rattle.arj_serial_law.proofs.Cleaning.{is_clean}
 use Rattle.arj_serial_law.proofs.Including.{are_decided, changers_turn}
 use Rattle.arj_serial_law.proofs.Shown.{files_clean}
 use Rattle.arj_serial_law.proofs.Ties.{Ties, ties_of}
 use Rattle.arj_joint_law.specs.Cleaned.{AreLockTied, AreNamed, RunsAreClean, WholeRunsAreClean, disk_of, is_one_of, number_of}
+use Rattle.arj_joint_law.specs.Fit.{AreFit}
 use Rattle.arj_joint_law.specs.Includers.{IncludersTakeTurns, JoinersAreNewestFirst, TakesTurnsSo}
 use Rattle.arj_joint_law.specs.Ordered.{AreSpared, AreTurnsOf, IsOrderedSo}
 use Rattle.arj_joint_law.specs.Shown.{FilesAre, IncludesAreThere}
@@ -55,7 +55,7 @@ use Rattle.arj_joint_law.specs.Writers.{WritersAreNewestFirst}
 use Rattle.arj_joint_law.proofs.Called.{decided_writers_stand, decision_of, number_is, one_number, those_of, wrote_something}
 use Rattle.arj_joint_law.proofs.FormRuns.{runs_have_form}
 use Rattle.arj_joint_law.proofs.IdlePlaces.{added, all_idle, all_those, none_among, serial_there}
-use Rattle.arj_joint_law.specs.Joined.{AreBareSo, AreRestBeside, AreWritten, IsJoinedSo, JoinedRunsAreSerial}
+use Rattle.arj_joint_law.specs.Joined.{AreBareSo, AreWritten, IsJoinedSo, JoinedRunsAreSerial}
 use Rattle.arj_joint_law.proofs.JoinedRuns.{runs_are_joined}
 use Rattle.arj_joint_law.proofs.JoinOrder.{decided_joiners_stand}
 use Rattle.arj_joint_law.proofs.Naming.{decided_named}
@@ -455,20 +455,19 @@ runs_are_clean hd es disks test form short heard tied decide files = let held = 
 -- ---- with the lock half
 
 -- with both machines at once
-pub joined_at : (hd : Header) (es : List Asked) (test : ℕ → List Action → Seen → Bool) → HeaderInForm hd → length es ≤ most_events → AreRestBeside hd test
-    → (x : ℕ) → is_some (object_line hd x) ≡ true → Holds hd (IsJoinedSo hd x) (run_all es (format hd))
-joined_at hd es test form short rest x there = runs_are_joined hd x (test x) form there (rest x there) es short
+pub joined_at : (hd : Header) (es : List Asked) → HeaderInForm hd → length es ≤ most_events → AreFit hd (journal hd es) → (x : ℕ) → is_some (object_line hd x) ≡ true → Holds hd (IsJoinedSo hd x) (run_all es (format hd))
+joined_at hd es form short fit x there = runs_are_joined hd x form there es (fit x there) short
 
 -- the journal is tied to the lock machines
 module _ (hd : Header) (es : List Asked) (joined : (x : ℕ) → is_some (object_line hd x) ≡ true → Holds hd (IsJoinedSo hd x) (run_all es (format hd))) where
   tied_at : (x : ℕ) → is_some (object_line hd x) ≡ true → (S : State) × IsTied (first_values hd) (journal hd es) x S
-  tied_at x there = let h = joined x there in let j = h.holds in locked_tied (first_values hd) x (see h.sent (run_all es (format hd))) j.begun j.alike (λ f a. let z = j.seen f a in (z.0, z.1, z.2)) j.requests
+  tied_at x there = let h = joined x there in let j = h.holds in locked_tied (first_values hd) x (see h.sent (run_all es (format hd))) j.begun j.alike (λ f apart a. let z = j.seen f (a.0, (a.1, apart)) in (z.0, z.1, z.2)) j.requests
 
   pub lock_tied : AreLockTied hd (journal hd es)
   lock_tied = record { called = λ x called. tied_at x (object_some hd x (runs_call_objects hd es x called)); listed = tied_at }
 
   pub serial : IsSerialRun hd es
-  serial = locked_runs_are_serial hd es (λ x called. let h = joined x (object_some hd x (runs_call_objects hd es x called)) in let j = h.holds in record { sent = h.sent; stands = h.stands; holds = (j.begun, j.alike, (λ f a. let z = j.seen f a in (z.0, z.1, z.2)), j.requests) })
+  serial = locked_runs_are_serial hd es (λ x called. let h = joined x (object_some hd x (runs_call_objects hd es x called)) in let j = h.holds in record { sent = h.sent; stands = h.stands; holds = (j.begun, j.alike, (λ f apart a. let z = j.seen f (a.0, (a.1, apart)) in (z.0, z.1, z.2)), j.requests) })
 
 abbrev pub held_in : (hd : Header) (es : List Asked) → ((x : ℕ) → is_some (object_line hd x) ≡ true → Holds hd (IsJoinedSo hd x) (run_all es (format hd))) → Held hd es
 held_in hd es joined x there = let h = joined x there in record { sent = h.sent; stands = h.stands; holds = (let j = h.holds in record { ordered = j.ordered; includers = j.includers; lights = j.lights }) }
@@ -479,9 +478,9 @@ decides_in hd es joined x there =
     (j.wrote, j.bare)
 
 pub whole_runs_are_clean : WholeRunsAreClean
-whole_runs_are_clean hd es disks test form short rest files =
-    let joined = joined_at hd es test form short rest in
+whole_runs_are_clean hd es disks form short fit files =
+    let joined = joined_at hd es form short fit in
     are_clean hd es disks form (lock_tied hd es joined) (held_in hd es joined) (decides_in hd es joined) files
 
 pub joined_runs_are_serial : JoinedRunsAreSerial
-joined_runs_are_serial hd es test form short rest = serial hd es (joined_at hd es test form short rest)
+joined_runs_are_serial hd es form fit short = serial hd es (joined_at hd es form short fit)

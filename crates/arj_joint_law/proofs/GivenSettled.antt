@@ -219,7 +219,7 @@ module _ (hd : Header) (f : Fixed) (x : ℕ) (begun : List Action) (S : State) (
 
   module _ (naming : Node) (first : M.nodes 1 ≡ Some naming) (c : Call) (there : In c S.calls) (write : c.write ≡ true) (alive : Alive S c.act) (conf : S.confirmed (top c.act) ≡ true) (two : (let k = S.action (top c.act) in k.stage) ≤ 2) where
     k : IsTopThere f.act M.lines (top c.act)
-    k = top_there f x begun S M b.seen (first_values hd) b.agrees.1 c there
+    k = top_there f x begun S M b.seen (first_values hd) b.agrees.1.0 c there
 
     abbrev a : Act
     a = k.its

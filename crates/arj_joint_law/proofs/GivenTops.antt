@@ -74,7 +74,7 @@ module _ (hd : Header) (f : Fixed) (x : ℕ) (begun : List Action) (S : State) (
   places = let s = b.seen in let a = s.agrees in begun_have_places begun f.paths f.act M.lines right (subst (AreAlike begun) (its_acts M.lines right) s.alike) a.whole
 
   pub tied : IsTiedToLines f.act f.code (first_values hd) x M.lines S
-  tied = let s = b.seen in s.tied (first_values hd) b.agrees.1
+  tied = let s = b.seen in s.tied (first_values hd) b.agrees.1.0
 
   -- what the machine has of an action
   pub said_of : (a : Act) → list.In a (acts M.lines) → is_serial a.kind ≡ false → IsAsSaid M.lines a (S.action (f.act a.uid))

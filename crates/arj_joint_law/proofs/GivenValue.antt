@@ -146,7 +146,7 @@ module _ (hd : Header) (f : Fixed) (x : ℕ) (begun : List Action) (S : State) (
   }
     where
       k : IsTopThere f.act M.lines (top c.act)
-      k = top_there f x begun S M b.seen (first_values hd) b.agrees.1 c i
+      k = top_there f x begun S M b.seen (first_values hd) b.agrees.1.0 c i
 
       acts_so : machine.is_action c.act ≡ true
       acts_so = let h = holds hd f x begun S M b in (h.calls c i).acts
@@ -155,7 +155,7 @@ module _ (hd : Header) (f : Fixed) (x : ℕ) (begun : List Action) (S : State) (
       three = ap (λ (y : machine.Act). (let z = S.action y in z.stage)) k.place ∙ survives (top c.act) (on_top c.act) (top_action (top c.act) (top_is c.act acts_so))
 
       on : disk.decided D (uid_number (let y = k.its in y.uid)) ≡ true
-      on = machine_decided f x begun S M b.seen (first_values hd) b.agrees.1 (let A = b.office in A.world) b.carried.0.1.1 b.planned (let y = k.its in y.uid) three c i write (sym k.place) survives
+      on = machine_decided f x begun S M b.seen (first_values hd) b.agrees.1.0 (let A = b.office in A.world) b.carried.0.1.1 b.planned (let y = k.its in y.uid) three c i write (sym k.place) survives
 
       d : (d : Done) × words.In d D.tops × (d.top ≡ uid_number (let y = k.its in y.uid))
       d = decided_at D.tops (uid_number (let y = k.its in y.uid)) on
@@ -217,9 +217,9 @@ module _ (hd : Header) (f : Fixed) (x : ℕ) (begun : List Action) (S : State) (
     last_write : (d : Call) → In d S.calls → d.write ≡ true → Survives S d.act → top d.act ≢ f.act u → (c : Call) → In c S.calls → c.write ≡ true → (top c.act ≡ f.act u) × Alive S c.act → c.line < d.line → ⊥
     last_write d i write survives other c j writes_c its less =
         let w = writer_of d i write survives in
-        let said_d : HasSaid M.lines x (let y = w.its in y.uid) d.line = has_said f x begun S M b.seen (first_values hd) b.agrees.1 d i write survives (let y = w.its in y.uid) (sym w.place) in
+        let said_d : HasSaid M.lines x (let y = w.its in y.uid) d.line = has_said f x begun S M b.seen (first_values hd) b.agrees.1.0 d i write survives (let y = w.its in y.uid) (sym w.place) in
         let alive_c = theirs_survive (holds hd f x begun S M b) (values hd f x begun S M b) (low hd f x begun S M b) (f.act u) is three c j its in
-        let said_c : HasSaid M.lines x u c.line = has_said f x begun S M b.seen (first_values hd) b.agrees.1 c j writes_c alive_c u its.0 in
+        let said_c : HasSaid M.lines x u c.line = has_said f x begun S M b.seen (first_values hd) b.agrees.1.0 c j writes_c alive_c u its.0 in
         let one_d : said_d.act ≡ w.its = same_act said_d.act w.its said_d.there w.there said_d.uid in
         let one_c : said_c.act ≡ a.0 = same_act said_c.act a.0 said_c.there a.1 (said_c.uid ∙ sym a.2) in
         let apart : (let e = w.done in e.top) ≢ (let e = z.done in e.top) = λ same. other (sym w.place ∙ ap f.act (number_tells (let y = w.its in y.uid) u (sym w.number ∙ same ∙ sym number))) in

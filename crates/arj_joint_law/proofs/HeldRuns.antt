@@ -7,7 +7,6 @@ use Rattle.arj_lock.proofs.Members.{In}
 use Rattle.arj_model.specs.Last.{first_values, object_line}
 use Rattle.arj_protocol.specs.Words.{Header, Line}
 use Rattle.arj_protocol.specs.World.{Asked, World, format, most_labels, run_all, run_event}
-use Rattle.arj_part_law.specs.Actions.{Action}
 use Rattle.arj_run_law.specs.Worlds.{IsGood}
 use Rattle.arj_run_law.proofs.AllRuns.{all_keep as parts_good}
 use Rattle.arj_view_law.specs.Keeps.{Holds, Keeps, KeepsOn}
@@ -15,7 +14,7 @@ use Rattle.arj_view_law.specs.Seen.{Seen, see}
 use Rattle.arj_view_law.proofs.Happens.{all_to, event_asked}
 use Rattle.arj_call_law.specs.Bindings.{AreSaid, HasFewBindings}
 use Rattle.arj_call_law.specs.Runs.{KnowsFew}
-use Rattle.arj_call_law.proofs.Given.{KeepsGiven, given_more, keeps_given, kept_both}
+use Rattle.arj_call_law.proofs.Given.{KeepsGiven, both_given, given_more, keeps_given, kept_both, while_given}
 use Rattle.arj_call_law.proofs.WholeRuns.{WhileFew, few_before, few_go}
 use Rattle.arj_binding_law.specs.Scripts.{most_events}
 use Rattle.arj_binding_law.proofs.Events.{few_labels}
@@ -40,12 +39,12 @@ use Rattle.arj_lock_law.specs.State.{State}
 use Rattle.arj_lock_law.proofs.Order.{go_on}
 use Rattle.arj_lock_run_law.specs.Fixed.{Fixed}
 use Rattle.arj_lock_whole_law.specs.Held.{AfterEach}
-use Rattle.arj_lock_whole_law.specs.Runs.{IsRestBeside}
 use Rattle.arj_lock_whole_law.proofs.Fronts.{lines_grow}
 use Rattle.arj_lock_whole_law.proofs.HeldBy.{HasBegun, WasSeen}
-use Rattle.arj_joint_law.specs.Joined.{IsBeside, IsCountedJoined, IsKnownJoined, SeesInOrder}
+use Rattle.arj_joint_law.specs.Fit.{OpsFit}
+use Rattle.arj_joint_law.proofs.Fits.{fits_before}
 use Rattle.arj_joint_law.proofs.GivenOn.{GoesOn, HasLines, keeps_on}
-use Rattle.arj_joint_law.proofs.JoinedParts.{Knows, counted_kept, locked}
+use Rattle.arj_joint_law.proofs.JoinedParts.{Base, Carried, Early, Whole, base, locked}
 use Rattle.arj_joint_law.proofs.Joining.{WithLocks}
 use Rattle.arj_joint_law.proofs.LastWriters.{Idle}
 
@@ -84,12 +83,13 @@ one_behind : (es : List Asked) (e : Asked) (w : World) → run_all (es ++ e ∷ 
 one_behind [] e w = refl
 one_behind (f ∷ es) e w = one_behind es e (run_event f w)
 
-module _ (hd : Header) (x : ℕ) (E : List Action → Seen → Type 0) (form : HeaderInForm hd) (there : is_some (object_line hd x) ≡ true) (rest : IsRestBeside hd (first_values hd) x E (IsBeside x)) where
-  abbrev pub Known : List Action → Seen → Type 0
-  Known = Knows hd x E form there rest
+module _ (hd : Header) (x : ℕ) (form : HeaderInForm hd) (there : is_some (object_line hd x) ≡ true) where
+  counted : Keeps hd (Base hd x)
+  counted = base hd x form there (λ M. ⊤) (λ f S M. ⊤) (λ M N l f S T run past. tt) (λ f S. tt)
 
-  counted : Keeps hd IsCountedJoined
-  counted = counted_kept hd x E form there rest
+  -- operations are in form
+  abbrev Fits : Seen → Type 0
+  Fits M = OpsFit x M.lines
 
   -- the object was seen in each of these worlds, in a state from which the machine goes on to this one
   abbrev pub Past : List World → Fixed → State → Seen → Type 0
@@ -100,11 +100,17 @@ module _ (hd : Header) (x : ℕ) (E : List Action → Seen → Type 0) (form : H
       (λ w z. record { sent = z.sent; begun = z.begun; alike = z.alike; names = z.names; agrees = z.agrees; state = z.state; sees = z.sees; tied = z.tied; goes = go_on z.goes run }) (past has)
 
   abbrev pub Pairs : List World → Kinds → Office → Seen → Type 0
-  Pairs ws = WithLocks (first_values hd) x Known (Past ws) (SeesInOrder x)
+  Pairs ws = WithLocks (first_values hd) x (Whole x) (Past ws) (Carried hd x)
 
-  pairs_given : (ws : List World) → KeepsGiven hd (λ M. KnowsScript M × HasLines M) (IsThere x IsCountedJoined (Pairs ws))
-  pairs_given ws = there_given hd x IsCountedJoined HasLines counted (Pairs ws)
-      (part_more hd x (λ W M. IsKnownJoined M × HasLines M) (λ W M. IsCountedJoined M × ((KnowsScript M × HasLines M) × AreNotLate W M)) (Pairs ws) (λ W M q. let r = q.1 in ((q.0, r.0.0), r.0.1)) (locked hd x E form there rest HasLines (Past ws) (stays ws) (λ f S later. absurd (later refl))))
+  -- in each world of the run, where operations are in form
+  abbrev pub Fitting : List World → Seen → Type 0
+  Fitting ws M = Fits M → IsThere x (Base hd x) (Pairs ws) M
+
+  pairs_given : (ws : List World) → KeepsGiven hd (λ M. KnowsScript M × HasLines M) (Fitting ws)
+  pairs_given ws = while_given (OpsFit x) (fits_before x) (IsThere x (Base hd x) (Pairs ws)) hd (λ M. KnowsScript M × HasLines M)
+      (given_more hd (λ M. KnowsScript M × (Fits M × HasLines M)) (λ M. (KnowsScript M × HasLines M) × Fits M) (IsThere x (Base hd x) (Pairs ws)) (λ M k. (k.0.0, (k.1, k.0.1)))
+      (there_given hd x (Base hd x) (λ M. Fits M × HasLines M) counted (Pairs ws)
+      (part_more hd x (λ W M. Early hd x W M × HasLines M) (λ W M. Base hd x M × ((KnowsScript M × (Fits M × HasLines M)) × AreNotLate W M)) (Pairs ws) (λ W M q. let r = q.1 in ((q.0, ((r.0.0, r.0.1.0), r.1)), r.0.1.1)) (locked hd x form there HasLines (Past ws) (stays ws) (λ f S later. absurd (later refl))))))
 
   -- what is known as long as few bindings were made
   abbrev pub Calm : Seen → Type 0
@@ -117,15 +123,15 @@ module _ (hd : Header) (x : ℕ) (E : List Action → Seen → Type 0) (form : H
   know M c few = (few, (c.1 few).0)
 
   abbrev pub Going : List World → Seen → Type 0
-  Going ws M = GoesOn Calm (IsThere x IsCountedJoined (Pairs ws)) M
+  Going ws M = GoesOn Calm (Fitting ws) M
 
   going_kept : (ws : List World) → KeepsOn hd (Going ws)
-  going_kept ws = keeps_on hd Calm (IsThere x IsCountedJoined (Pairs ws)) calm know (pairs_given ws)
+  going_kept ws = keeps_on hd Calm (Fitting ws) calm know (pairs_given ws)
 
   -- ---- a world more
 
   with_here : (ws : List World) (w : World) → Holds hd (Going ws) w → HasFewBindings w.lines → length w.labels ≤ most_labels → Holds hd (Going (w ∷ ws)) w
-  with_here ws w h bindings labels = record { sent = h.sent; stands = h.stands; holds = (h.holds.0, (λ few. let k = h.holds.1 (bindings, labels) in (k.0, (k.1.0, k.1.1, k.1.2, k.1.3, k.1.4, (λ tops agree. on tops (k.1.5 tops agree)))))) }
+  with_here ws w h bindings labels = record { sent = h.sent; stands = h.stands; holds = (h.holds.0, (λ few fit. let k = h.holds.1 (bindings, labels) fit in (k.0, (k.1.0, k.1.1, k.1.2, k.1.3, k.1.4, (λ tops agree. on tops (k.1.5 tops agree)))))) }
     where
       on : (tops : Kinds) → IsCarriedThere x (Pairs ws) tops (see h.sent w) → IsCarriedThere x (Pairs (w ∷ ws)) tops (see h.sent w)
       on tops (A, both, ((p, j), tie), early) = (
@@ -140,7 +146,7 @@ module _ (hd : Header) (x : ℕ) (E : List Action → Seen → Type 0) (form : H
               j.2,
               (λ f a.
                   let g = j.3 f a in
-                  (g.0, g.1, g.2, g.3, g.4, g.5, g.6, (λ later. (record { sent = h.sent; begun = j.0; alike = j.1; names = (let k = j.2.0 in k.names); agrees = a; state = g.0; sees = g.1; tied = g.2; goes = stay }, g.7 later)))),
+                  (g.0, g.1, g.2, g.3, g.4, g.5, g.6, (λ later. (record { sent = h.sent; begun = j.0; alike = j.1; names = (let k = j.2.0 in k.names); agrees = (a.0, a.1.0); state = g.0; sees = g.1; tied = g.2; goes = stay }, g.7 later)))),
               j.4,
             ),
           ),
@@ -165,25 +171,27 @@ module _ (hd : Header) (x : ℕ) (E : List Action → Seen → Type 0) (form : H
   -- ---- as something is said first
 
   abbrev Plain : Kinds → Office → Seen → Type 0
-  Plain = WithLocks (first_values hd) x Known (λ f S M. ⊤) (SeesInOrder x)
+  Plain = WithLocks (first_values hd) x (Whole x) (λ f S M. ⊤) (Carried hd x)
 
-  plain_given : KeepsGiven hd (λ M. KnowsScript M × ⊤) (IsThere x IsCountedJoined Plain)
-  plain_given = there_given hd x IsCountedJoined (λ M. ⊤) counted Plain
-      (part_more hd x (λ W M. IsKnownJoined M × ⊤) (λ W M. IsCountedJoined M × ((KnowsScript M × ⊤) × AreNotLate W M)) Plain (λ W M q. let r = q.1 in ((q.0, r.0.0), tt)) (locked hd x E form there rest (λ M. ⊤) (λ f S M. ⊤) (λ M N l f S T run past. tt) (λ f S. tt)))
+  plain_given : KeepsGiven hd KnowsScript (λ M. Base hd x M × (Fits M → IsThere x (Base hd x) Plain M))
+  plain_given = both_given hd KnowsScript (Base hd x) (λ M. Fits M → IsThere x (Base hd x) Plain M) (keeps_given hd (λ M. KnowsScript M × (Fits M → IsThere x (Base hd x) Plain M)) (Base hd x) counted)
+      (given_more hd KnowsScript (λ M. KnowsScript M × Base hd x M) (λ M. Fits M → IsThere x (Base hd x) Plain M) (λ M k. k.0) (while_given (OpsFit x) (fits_before x) (IsThere x (Base hd x) Plain) hd KnowsScript
+      (there_given hd x (Base hd x) Fits counted Plain
+      (part_more hd x (λ W M. Early hd x W M × ⊤) (λ W M. Base hd x M × ((KnowsScript M × Fits M) × AreNotLate W M)) Plain (λ W M q. ((q.0, q.1), tt)) (locked hd x form there (λ M. ⊤) (λ f S M. ⊤) (λ M N l f S T run past. tt) (λ f S. tt))))))
 
   -- after a script behind which something was said
   started : (es : List Asked) → length es ≤ most_events → HasBegun (run_all es (format hd)) → Holds hd (Going []) (run_all es (format hd))
   started es short begun =
-      let r = script_holds hd (IsThere x IsCountedJoined Plain) (given_more hd (λ M. KnowsScript M × ⊤) KnowsScript (IsThere x IsCountedJoined Plain) (λ M k. (k, tt)) plain_given) es short in
+      let r = script_holds hd (λ M. Base hd x M × (Fits M → IsThere x (Base hd x) Plain M)) plain_given es short in
       record { sent = r.sent; stands = r.stands; holds = going (see r.sent (run_all es (format hd))) begun r.holds.0 r.holds.1 }
     where
       on : (M : Seen) (tops : Kinds) → IsCarriedThere x Plain tops M → IsCarriedThere x (Pairs []) tops M
       on M tops (A, both, ((p, j), tie), early) = (A, both, ((p, (j.0, j.1, j.2, (λ f a. let g = j.3 f a in (g.0, g.1, g.2, g.3, g.4, g.5, g.6, (λ later. tt))), j.4)), tie), early)
 
-      going : (M : Seen) → HasLines M → KnowsFew M → IsThere x IsCountedJoined Plain M → Going [] M
-      going M has few k =
-          let good : IsGood M × AreSaid M = (let c = k.1.4.0.0.0.0 in (c.0.0.0, c.1.1)) in
-          (((good, (λ f. (few.1, good.0))), has), (λ f. (k.0, (k.1.0, k.1.1, k.1.2, k.1.3, k.1.4, (λ tops agree. on M tops (k.1.5 tops agree))))))
+      going : (M : Seen) → HasLines M → KnowsFew M → Base hd x M × (Fits M → IsThere x (Base hd x) Plain M) → Going [] M
+      going M has few z =
+          let good : IsGood M × AreSaid M = (let c = z.0.0.0.0.0 in (c.0.0.0, c.1.1)) in
+          (((good, (λ f. (few.1, good.0))), has), (λ f fit. let k = z.1 fit in (k.0, (k.1.0, k.1.1, k.1.2, k.1.3, k.1.4, (λ tops agree. on M tops (k.1.5 tops agree))))))
 
   -- ---- the whole run
 

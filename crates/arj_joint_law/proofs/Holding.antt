@@ -8,7 +8,6 @@ use Rattle.arj_model.specs.Calls.{committed_calls, tops}
 use Rattle.arj_model.specs.Last.{first_values, object_line}
 use Rattle.arj_protocol.specs.Words.{Header, Line}
 use Rattle.arj_protocol.specs.World.{Asked, World, format, journal, run_all}
-use Rattle.arj_part_law.specs.Actions.{Action}
 use Rattle.arj_view_law.specs.Keeps.{Holds}
 use Rattle.arj_view_law.specs.Seen.{Seen, see}
 use Rattle.arj_binding_law.specs.Scripts.{most_events}
@@ -20,19 +19,21 @@ use Rattle.arj_lock_run_law.specs.Fixed.{AgreesAs, Fixed}
 use Rattle.arj_lock_run_law.specs.Sees.{SeesLocks}
 use Rattle.arj_lock_run_law.specs.Tied.{AreTied}
 use Rattle.arj_lock_whole_law.specs.Held.{AfterEach}
-use Rattle.arj_lock_whole_law.specs.Runs.{IsRestBeside}
+use Rattle.arj_serial_law.specs.Tied.{AreApart}
+use Rattle.arj_serial_law.proofs.Codes.{codes_are_apart}
 use Rattle.arj_lock_whole_law.proofs.Fronts.{each_to}
 use Rattle.arj_lock_whole_law.proofs.AckWalks.{all_at}
 use Rattle.arj_lock_whole_law.proofs.HeldBy.{HasBegun, OfObject, WasSeen, agreed, fixed, holds, last, of_object}
 use Rattle.arj_serial_law.specs.Seen.{RequestsAreOne}
 use Rattle.arj_joint_law.specs.Held.{JointRunsHoldLocks}
-use Rattle.arj_joint_law.specs.Joined.{IsBeside, IsCountedJoined}
+use Rattle.arj_joint_law.specs.Fit.{OpsFit}
+use Rattle.arj_joint_law.proofs.JoinedParts.{Base, Whole}
 use Rattle.arj_joint_law.proofs.Clean.{object_some}
-use Rattle.arj_joint_law.proofs.HeldRuns.{Going, IsThere, Known, Pairs, Past, ends, know}
+use Rattle.arj_joint_law.proofs.HeldRuns.{Going, IsThere, Pairs, Past, ends, know}
 use Rattle.arj_joint_law.proofs.Joining.{HasLocks}
 use Rattle.arj_joint_law.proofs.NextGiven.{one_requests}
 
-module _ (hd : Header) (x : ℕ) (E : List Action → Seen → Type 0) (form : HeaderInForm hd) (there : is_some (object_line hd x) ≡ true) (rest : IsRestBeside hd (first_values hd) x E (IsBeside x)) (es : List Asked) (short : length es ≤ most_events) where
+module _ (hd : Header) (x : ℕ) (form : HeaderInForm hd) (there : is_some (object_line hd x) ≡ true) (es : List Asked) (short : length es ≤ most_events) (fit : OpsFit x (journal hd es)) where
   -- in a journal without a line nothing is held
   of_none : (journal hd es) ≡ [] → OfObject hd es x
   of_none empty = record {
@@ -42,21 +43,21 @@ module _ (hd : Header) (x : ℕ) (E : List Action → Seen → Type 0) (form : H
     one = λ c d i j a b. absurd (subst (λ (ls : List Line). In c (committed_calls ls)) empty i);
   }
 
-  module _ (all : List World) (h : Holds hd (Going hd x E form there rest all) (run_all es (format hd))) where
+  module _ (all : List World) (h : Holds hd (Going hd x form there all) (run_all es (format hd))) where
     abbrev M : Seen
     M = see h.sent (run_all es (format hd))
 
-    abbrev k : IsThere x IsCountedJoined (Pairs hd x E form there rest all) M
-    k = h.holds.1 (scripts_few hd es short, few_labels hd es)
+    abbrev k : IsThere x (Base hd x) (Pairs hd x form there all) M
+    k = h.holds.1 (scripts_few hd es short, few_labels hd es) fit
 
-    abbrev j : HasLocks (first_values hd) x (Known hd x E form there rest) (Past hd x E form there rest all) (let c = k.1.5 (kinds_of k.0) (kinds_agree k.0 (let g = k.1.0 in g.begun) k.1.1) in c.0.world) M
+    abbrev j : HasLocks (first_values hd) x (Whole x) (Past hd x form there all) (let c = k.1.5 (kinds_of k.0) (kinds_agree k.0 (let g = k.1.0 in g.begun) k.1.1) in c.0.world) M
     j = let c = k.1.5 (kinds_of k.0) (kinds_agree k.0 (let g = k.1.0 in g.begun) k.1.1) in c.2.0.1
 
-    abbrev seen : (f : Fixed) → AgreesAs (first_values hd) f x j.0 M.sent → (S : State) × SeesLocks f x j.0 S M × AreTied f x M.lines S
-    seen f a = let g = j.3 f a in (g.0, g.1, g.2)
+    abbrev seen : (f : Fixed) → AreApart f.code → AgreesAs (first_values hd) f x j.0 M.sent → (S : State) × SeesLocks f x j.0 S M × AreTied f x M.lines S
+    seen f apart a = let g = j.3 f (a.0, (a.1, apart)) in (g.0, g.1, g.2)
 
     knows : RequestsAreOne M
-    knows = one_requests x j.0 M (know hd x E form there rest M h.holds.0.0 (scripts_few hd es short)) j.2.0
+    knows = one_requests x j.0 M (know hd x form there M h.holds.0.0 (scripts_few hd es short)) j.2.0
 
     abbrev f : Fixed
     f = fixed hd (first_values hd) x es h.sent j.0 j.1 seen knows
@@ -65,15 +66,14 @@ module _ (hd : Header) (x : ℕ) (E : List Action → Seen → Type 0) (form : H
     T = last hd (first_values hd) x es h.sent j.0 j.1 seen knows
 
     was : AllByRecursion (WasSeen (first_values hd) x f T) all
-    was = let g = j.3 f (agreed hd (first_values hd) x es h.sent j.0 j.1 seen knows) in g.7 h.holds.0.1
+    was = let a = agreed hd (first_values hd) x es h.sent j.0 j.1 seen knows in let g = j.3 f (a.0, (a.1, codes_are_apart)) in g.7 h.holds.0.1
 
     its : AfterEach (λ v. HasBegun v → In v all) (format hd) es → OfObject hd es x
     its each = of_object hd (first_values hd) x es h.sent j.0 j.1 seen knows
         (each_to (λ v. HasBegun v → In v all) (λ v. HasBegun v → WasSeen (first_values hd) x f T v) (λ v i begun. all_at (WasSeen (first_values hd) x f T) all v was (i begun)) es (format hd) each)
 
   pub its_object : OfObject hd es x
-  its_object = ⊎_elim of_none (λ q. its q.0 q.1 q.2) (ends hd x E form there rest es (format hd) [] refl (omega (arith, short)) (scripts_few hd es short))
+  its_object = ⊎_elim of_none (λ q. its q.0 q.1 q.2) (ends hd x form there es (format hd) [] refl (omega (arith, short)) (scripts_few hd es short))
 
 pub joint_runs_hold_locks : JointRunsHoldLocks
-joint_runs_hold_locks hd es test form short rest =
-    holds hd es (λ x has. let there = object_some hd x has in its_object hd x (λ begun M. test x begun M ≡ true) form there (rest x there) es short)
+joint_runs_hold_locks hd es form short fit = holds hd es (λ x has. let there = object_some hd x has in its_object hd x form there es short (fit x there))

@@ -1,20 +1,18 @@
 -- Both machines of each object at once, in every run.
-use Rattle.std.proofs.Common.{◌≡◌, true, List, subst}
-use Rattle.arj_joint_law.specs.Joined.{IsCountedJoined, IsJoinedSo, IsKnownJoined, RunsAreJoined, SeesInOrder, world_of}
+use Rattle.std.proofs.Common.{List, subst}
+use Rattle.arj_joint_law.specs.Joined.{IsJoinedSo, RunsAreJoined, world_of}
 use Rattle.arj_joint_law.proofs.NextGiven.{one_requests}
 use Rattle.arj_joint_law.specs.Includers.{IncludersTakeTurns}
 use Rattle.arj_joint_law.proofs.JoinKeeps.{WithTurns, turns_part}
 use Rattle.arj_joint_law.proofs.LightKeeps.{WithLights, lights_part}
 use Rattle.arj_joint_law.proofs.Joining.{HasLocks, WithLocks}
-use Rattle.arj_joint_law.proofs.OrderedRuns.{IsOrderedBeside, early, lights_split, ordered_beside}
+use Rattle.arj_joint_law.proofs.OrderedRuns.{IsOrderedBeside, lights_split, ordered_beside}
 use Rattle.arj_disk_run_law.proofs.Copies.{copies_agree}
 use Rattle.arj_disk_run_law.specs.Part.{KeepsPart}
-use Rattle.arj_lock_whole_law.specs.Whole.{KnowsWhole}
 use Rattle.arj_disk_view_law.specs.Sees.{Kinds}
 use Rattle.arj_disk_law.specs.Effects.{World}
 use Rattle.arj_disk_law.specs.Names.{Office}
 use Rattle.arj_view_law.specs.Seen.{Post, Seen, see}
-use Rattle.arj_part_law.specs.Actions.{Action}
 use Rattle.arj_model.specs.Last.{first_values}
 use Rattle.arj_protocol.specs.World.{format, run_all}
 use Rattle.arj_line_law.specs.Book.{new_book}
@@ -26,35 +24,31 @@ use Rattle.arj_disk_run_law.proofs.Scripts.{part_more}
 use Rattle.std.specs.Prelude.{⊤}
 use Rattle.arj_lock_law.specs.State.{State}
 use Rattle.arj_lock_run_law.specs.Fixed.{Fixed}
-use Rattle.arj_joint_law.proofs.JoinedParts.{counted_kept, locked}
+use Rattle.arj_joint_law.proofs.JoinedParts.{Base, Carried, Early, Whole, base, locked}
+use Rattle.arj_joint_law.specs.Fit.{OpsFit}
+use Rattle.arj_joint_law.proofs.Fits.{fits_before}
 
 -- ---- the law
 
 pub runs_are_joined : RunsAreJoined
-runs_are_joined hd x test form there rest es short =
-    let h = ordered_beside hd x IsCountedJoined Joined form there (counted_kept hd x E form there rest) (early hd x IsCountedJoined Joined part) es short in
+runs_are_joined hd x form there es fit short =
+    let h = ordered_beside hd x (OpsFit x) (fits_before x) (Base hd x) Joined form there (base hd x form there (λ M. ⊤) Nothing (λ M N l f S T run past. tt) (λ f S. tt)) part es short fit in
     record { sent = h.sent; stands = h.stands; holds = joined h.sent h.holds }
   where
-    E : List Action → Seen → Type 0
-    E begun M = test begun M ≡ true
-
-    R : List Action → Seen → Type 0
-    R begun M = KnowsWhole x begun M × E begun M
-
     -- of the lock machine's state nothing more
     Nothing : Fixed → State → Seen → Type 0
     Nothing f S M = ⊤
 
     Joined : Kinds → Office → Seen → Type 0
-    Joined tops A M = WithLights x (WithTurns x (WithLocks (first_values hd) x R Nothing (SeesInOrder x))) tops A M
+    Joined tops A M = WithLights x (WithTurns x (WithLocks (first_values hd) x (Whole x) Nothing (Carried hd x))) tops A M
 
-    paired : KeepsPart hd x (λ W M. IsKnownJoined M) (WithLocks (first_values hd) x R Nothing (SeesInOrder x))
-    paired = part_more hd x (λ W M. IsKnownJoined M × ⊤) (λ W M. IsKnownJoined M) (WithLocks (first_values hd) x R Nothing (SeesInOrder x)) (λ W M q. (q, tt)) (locked hd x E form there rest (λ M. ⊤) Nothing (λ M N l f S T run past. tt) (λ f S. tt))
+    paired : KeepsPart hd x (Early hd x) (WithLocks (first_values hd) x (Whole x) Nothing (Carried hd x))
+    paired = part_more hd x (λ W M. Early hd x W M × ⊤) (Early hd x) (WithLocks (first_values hd) x (Whole x) Nothing (Carried hd x)) (λ W M q. (q, tt)) (locked hd x form there (λ M. ⊤) Nothing (λ M N l f S T run past. tt) (λ f S. tt))
 
     -- and each two of which one includes a store took turns; and so did those that change nothing
-    part : KeepsPart hd x (λ W M. IsKnownJoined M) Joined
-    part = lights_part hd x (λ W M. IsKnownJoined M) (WithTurns x (WithLocks (first_values hd) x R Nothing (SeesInOrder x))) (λ W M q. q.0.0.1) (λ tops A M p. p.0.0.0.0.0.0) (λ tops A M p. p.1)
-        (turns_part hd x (λ W M. IsKnownJoined M) (WithLocks (first_values hd) x R Nothing (SeesInOrder x)) (λ W M q. q.0.0.1) (λ tops A M p. p.0.0.0.0.0) (λ tops A M p. p.0.0.0.0.1) paired)
+    part : KeepsPart hd x (Early hd x) Joined
+    part = lights_part hd x (Early hd x) (WithTurns x (WithLocks (first_values hd) x (Whole x) Nothing (Carried hd x))) (λ W M q. q.0.0.0.0.1) (λ tops A M p. p.0.0.0.0.0.0.0.0) (λ tops A M p. p.1)
+        (turns_part hd x (Early hd x) (WithLocks (first_values hd) x (Whole x) Nothing (Carried hd x)) (λ W M q. q.0.0.0.0.1) (λ tops A M p. p.0.0.0.0.0.0.0) (λ tops A M p. p.0.0.0.0.0.0.1) paired)
 
     joined : (sent : List Post) → IsOrderedBeside Joined hd x (see sent (run_all es (format hd))) → IsJoinedSo hd x (see sent (run_all es (format hd)))
     joined sent (o, tops, A, same, p, few) = record {
@@ -73,8 +67,8 @@ runs_are_joined hd x test form there rest es short =
         M : Seen
         M = see sent (run_all es (format hd))
 
-        locks : HasLocks (first_values hd) x R Nothing (world_of o) M
-        locks = subst (λ W. HasLocks (first_values hd) x R Nothing W M) same p.0.0.1
+        locks : HasLocks (first_values hd) x (Whole x) Nothing (world_of o) M
+        locks = subst (λ W. HasLocks (first_values hd) x (Whole x) Nothing W M) same p.0.0.1
 
         right : AreRight new_book (let w = run_all es (format hd) in w.lines)
         right = let r = run_written hd es in let z = r.1 in z.right

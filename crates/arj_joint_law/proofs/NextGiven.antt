@@ -24,7 +24,7 @@ use Rattle.arj_disk_view_law.proofs.Frames.{node_here}
 use Rattle.arj_line_law.specs.Paths.{IsAlikeOf}
 use Rattle.arj_lock_law.specs.State.{State}
 use Rattle.arj_lock_run_law.specs.Beside.{IsSeenIn}
-use Rattle.arj_lock_run_law.specs.Fixed.{AgreesAs, Fixed}
+use Rattle.arj_lock_run_law.specs.Fixed.{Fixed}
 use Rattle.arj_lock_run_law.specs.Kept.{case_of}
 use Rattle.arj_lock_run_law.specs.Sees.{SeesLocks}
 use Rattle.arj_lock_run_law.specs.Tied.{AreTied}
@@ -35,6 +35,7 @@ use Rattle.arj_serial_law.specs.Seen.{RequestsAreOne}
 use Rattle.arj_serial_law.proofs.Codes.{codes_are_apart}
 use Rattle.arj_serial_law.proofs.Seeing.{agrees_at, fixed_at}
 use Rattle.arj_view_law.specs.Seen.{In, Seen, up}
+use Rattle.arj_joint_law.specs.Apt.{AgreesApart}
 use Rattle.arj_joint_law.specs.BasedSteps.{AreBasedSo}
 use Rattle.arj_joint_law.specs.Joined.{ArePlannedSo, IsKnownJoined}
 use Rattle.arj_joint_law.specs.Ordered.{IsOrdered}
@@ -46,7 +47,7 @@ use Rattle.arj_joint_law.proofs.Turns.{IdleThere}
 -- states copies and votes lie.
 abbrev pub StandsBeside : Values → ℕ → World → Seen → Type 0
 StandsBeside values x W M = (begun : List Action) × IsAlikeOf begun M × KnowsWhole x begun M
-    × ((f : Fixed) → AgreesAs values f x begun M.sent → (S : State) × SeesLocks f x begun S M × AreTied f x M.lines S × AreVotedAt f x S M × ArePlannedSo f x S W M × AreBasedSo f x S W M)
+    × ((f : Fixed) → AgreesApart values f x begun M.sent → (S : State) × SeesLocks f x begun S M × AreTied f x M.lines S × AreVotedAt f x S M × ArePlannedSo f x S W M × AreBasedSo f x S W M)
 
 -- the machine's decisions are those of the journal, in their order
 abbrev pub IsTiedInOrder : World → Seen → Type 0
@@ -78,7 +79,7 @@ module _ (values : Values) (x : ℕ) (tops : Kinds) (A : Office) (k : ℕ) (d : 
   abbrev begun : List Action
   begun = pair.0
 
-  locks : (f : Fixed) → AgreesAs values f x begun U.sent → (S : State) × SeesLocks f x begun S U × AreTied f x U.lines S
+  locks : (f : Fixed) → AgreesApart values f x begun U.sent → (S : State) × SeesLocks f x begun S U × AreTied f x U.lines S
   locks f a = let z = pair.3 f a in (z.0, z.1, z.2)
 
   few : KnowsFew U
@@ -88,10 +89,10 @@ module _ (values : Values) (x : ℕ) (tops : Kinds) (A : Office) (k : ℕ) (d : 
   requests = one_requests x begun U few pair.2
 
   abbrev f : Fixed
-  f = fixed_at values x U begun pair.1 locks requests code_of
+  f = fixed_at values x U begun pair.1 (λ g apart a. locks g (a.0, (a.1, apart))) requests code_of
 
-  agrees : AgreesAs values f x begun U.sent
-  agrees = agrees_at values x U begun pair.1 locks requests code_of
+  agrees : AgreesApart values f x begun U.sent
+  agrees = let a = agrees_at values x U begun pair.1 (λ g apart a. locks g (a.0, (a.1, apart))) requests code_of in (a.0, (a.1, codes_are_apart))
 
   abbrev S : State
   S = (pair.3 f agrees).0
@@ -105,7 +106,7 @@ module _ (values : Values) (x : ℕ) (tops : Kinds) (A : Office) (k : ℕ) (d : 
   pub next_at : IsNext A.world.disk (uid_number (top_of h.path))
   next_at =
       let r = at.run in
-      next_here values x tops A U at.both at.heard at.decided r.0.0.1 r.0.1.1 few.1.1 f begun S (let w = pair.2 in w.parted) seen agrees.1 codes_are_apart (pair.3 f agrees).3 (pair.3 f agrees).4 ((pair.3 f agrees).5 codes_are_apart).0 r.1.1.0 r.1.1.1
+      next_here values x tops A U at.both at.heard at.decided r.0.0.1 r.0.1.1 few.1.1 f begun S (let w = pair.2 in w.parted) seen agrees.1.0 codes_are_apart (pair.3 f agrees).3 (pair.3 f agrees).4 ((pair.3 f agrees).5 codes_are_apart).0 r.1.1.0 r.1.1.1
       (record { number = k; disk = d; live = Some t }) t n (ap U.nodes (sym first_node) ∙ node_here M k (record { number = k; disk = d; live = Some t })) refl named from m h grants excluded included (subst (λ (j : ℕ). In (record { from = from; to = j; message = m }) M.sent) first_node sent) asking new.free
 
 pub gives_next : (values : Values) (x : ℕ) → GivesNaming x (KnowsPair values x)

@@ -1,6 +1,6 @@
 -- The order in which an object's machine decides tops, in every run.
 use Rattle.std.proofs.Common.{◌≡◌, ◌⊎◌, ℕ, List, [], ◌∷◌, true, ◌∙◌, ap, subst, inl, inr, is_some, length, not, sym, ◌&&◌, ◌||◌, Bool, false, filter, None, Some}
-use Rattle.std.specs.Prelude.{◌≤◌, Contains}
+use Rattle.std.specs.Prelude.{⊤, ◌≤◌, Contains}
 use Rattle.arj_journal.specs.ScriptForm.{HeaderInForm}
 use Rattle.arj_lock.proofs.Members.{In, in_from, in_to}
 use Rattle.arj_model.specs.Actions.{Act, acts as acts_of, path, uids}
@@ -27,14 +27,14 @@ use Rattle.arj_disk_run_law.specs.Rest.{IsCountedWith, IsKnownWith, SeesCarried}
 use Rattle.arj_disk_run_law.specs.Part.{KeepsPart}
 use Rattle.arj_disk_run_law.proofs.BothEach.{counted_with, heard_part}
 use Rattle.arj_line_law.specs.Book.{book, is_decided, is_top, new_book}
-use Rattle.arj_line_law.specs.Idle.{HasNothing}
+use Rattle.arj_line_law.specs.Idle.{IsIdle, HasNothing}
 use Rattle.arj_line_law.specs.Knows.{IsKept}
 use Rattle.arj_line_law.specs.Laws.{IsSound}
 use Rattle.arj_line_law.specs.Right.{AreRight}
 use Rattle.arj_line_law.proofs.Nothing.{idle_has_nothing}
 use Rattle.arj_line_law.proofs.Runs.{lines_keep}
 use Rattle.arj_line_law.proofs.Tops.{is_sound}
-use Rattle.arj_disk_line_law.specs.Said.{IsDoneBy, IsKnownEarly, IsPlain, WithTie}
+use Rattle.arj_disk_line_law.specs.Said.{IsDoneBy, IsKnownEarly, IsPlain, WasBefore, WithTie}
 use Rattle.arj_disk_line_law.proofs.IdleKnown.{KnowsIdle}
 use Rattle.arj_disk_line_law.proofs.Tying.{both_too, journalled_beside, one_act, tied_part}
 use Rattle.arj_serial_law.specs.Cleaned.{BeginsSo}
@@ -78,13 +78,13 @@ abbrev Idle : List Line → Uid → Type 0
 Idle ls u = IsIdleSo ls u
 
 -- in the words of the model
-turns_of : (lines : List Line) → AreRight new_book lines → (ds : List Done) → AreTurns (IdleThere Idle) lines ds → AreTurnsOf lines ds
-turns_of lines right [] turns = tt
-turns_of lines right (d ∷ ds) turns = (λ e a b i in_a in_b ea db top apart. by a b in_b top (turns.0 e i a.uid b.uid ea db apart), turns_of lines right ds turns.1)
+pub turns_of : (Its : List Line → Uid → Type 0) → ((ls : List Line) (u : Uid) → Its ls u → IsIdle (book ls) u) → (lines : List Line) → AreRight new_book lines → (ds : List Done) → AreTurns (IdleThere Its) lines ds → AreTurnsOf lines ds
+turns_of Its idle_of lines right [] turns = tt
+turns_of Its idle_of lines right (d ∷ ds) turns = (λ e a b i in_a in_b ea db top apart. by a b in_b top (turns.0 e i a.uid b.uid ea db apart), turns_of Its idle_of lines right ds turns.1)
   where
-    by : (a b : Act) → Contains (acts_of lines) b → is_top b.kind ≡ true → IsCalledFirst lines a.uid b.uid ⊎ IdleThere Idle lines b.uid ⊎ IsPlain lines b.uid → IsCalledFirst lines a.uid b.uid ⊎ HasNothing lines b
+    by : (a b : Act) → Contains (acts_of lines) b → is_top b.kind ≡ true → IsCalledFirst lines a.uid b.uid ⊎ IdleThere Its lines b.uid ⊎ IsPlain lines b.uid → IsCalledFirst lines a.uid b.uid ⊎ HasNothing lines b
     by a b in_b top (inl first) = inl first
-    by a b in_b top (inr (inl (on, idle))) = let reads = (let s : IsSound lines = is_sound lines right in s.reads) in inr (idle_has_nothing lines right b in_b (reads.decided b in_b ∙ on) idle.0)
+    by a b in_b top (inr (inl (on, idle))) = let reads = (let s : IsSound lines = is_sound lines right in s.reads) in inr (idle_has_nothing lines right b in_b (reads.decided b in_b ∙ on) (idle_of lines b.uid idle))
     by a b in_b top (inr (inr (p, its, uid, plain))) =
         let s : IsSound lines = is_sound lines right in
         let same = one_act (acts_of lines) s.distinct p b (subst (In p) (let r = s.reads in r.begun) (in_from p (let B = book lines in B.acts) its)) (in_from b (acts_of lines) in_b) uid in
@@ -205,8 +205,8 @@ all_know hd es sent (d ∷ ds) whose know = (
 )
 
 -- where nobody is late, too
-pub early : (hd : Header) (x : ℕ) (R : Seen → Type 0) (P : Kinds → Office → Seen → Type 0) → KeepsPart hd x (λ W M. R M × KnowsScript M) P → KeepsPart hd x (λ W M. R M × IsKnownEarly W M) P
-early hd x R P parts = part_more hd x (λ W M. R M × KnowsScript M) (λ W M. R M × IsKnownEarly W M) P (λ W M q. (q.0, q.1.0)) parts
+pub early : (hd : Header) (x : ℕ) (Fits : List Line → Type 0) (R : Seen → Type 0) (P : Kinds → Office → Seen → Type 0) → KeepsPart hd x (λ W M. R M × KnowsScript M) P → KeepsPart hd x (λ W M. R M × IsKnownEarly Fits W M) P
+early hd x Fits R P parts = part_more hd x (λ W M. R M × KnowsScript M) (λ W M. R M × IsKnownEarly Fits W M) P (λ W M q. (q.0, q.1.0.0)) parts
 
 -- what commits under way include is known beside the journal
 abbrev Including : Seen → Type 0
@@ -220,15 +220,15 @@ Saying M = Including M × MarksAreSaid M
 abbrev Marking : (Seen → Type 0) → Seen → Type 0
 Marking R M = R M × (Saying M × (MarksAreAsked M × ArePartedNow M))
 
-pub ordered_beside : (hd : Header) (x : ℕ) (R : Seen → Type 0) (P : Kinds → Office → Seen → Type 0) → HeaderInForm hd → is_some (object_line hd x) ≡ true → Keeps hd R → KeepsPart hd x (λ W M. R M × IsKnownEarly W M) P → (es : List Asked) → length es ≤ most_events → Holds hd (IsOrderedBeside P hd x) (run_all es (format hd))
-ordered_beside hd x R P form there kept parts es short =
-    let first : KeepsPart hd x (λ W M. Marking R M × IsKnownEarly W M) (WithFirst hd x (WithMarks x P)) = first_part hd x (λ W M. Marking R M × IsKnownEarly W M) (WithMarks x P) marks (first_begins hd x form there) in
+pub ordered_beside : (hd : Header) (x : ℕ) (Fits : List Line → Type 0) → WasBefore Fits → (R : Seen → Type 0) (P : Kinds → Office → Seen → Type 0) → HeaderInForm hd → is_some (object_line hd x) ≡ true → Keeps hd R → KeepsPart hd x (λ W M. R M × IsKnownEarly Fits W M) P → (es : List Asked) → length es ≤ most_events → Fits (run_all es (format hd)).lines → Holds hd (IsOrderedBeside P hd x) (run_all es (format hd))
+ordered_beside hd x Fits before R P form there kept parts es short fits =
+    let first : KeepsPart hd x (λ W M. Marking R M × IsKnownEarly Fits W M) (WithFirst hd x (WithMarks x P)) = first_part hd x (λ W M. Marking R M × IsKnownEarly Fits W M) (WithMarks x P) marks (first_begins hd x form there) in
     let idles : KnowsIdle (Marking R) Idle = knows_spared (Marking R) (λ M r. r.1.1) in
-    let tied = tied_part hd x (Marking R) IsKnownEarly (WithFirst hd x (WithMarks x P)) Idle marking first idles in
-    let ordered = ordered_part hd x (λ M. Marking R M × IsKept M) IsKnownEarly (WithTie (WithFirst hd x (WithMarks x P)) Idle) Idle (both_too hd x (Marking R) IsKnownEarly (WithFirst hd x (WithMarks x P)) Idle marking first idles) (λ M r. r.1) (knows_spared (λ M. Marking R M × IsKept M) (λ M r. r.0.1.1)) tied (λ tops A M p. (p.1).1) in
+    let tied = tied_part hd x (Marking R) (IsKnownEarly Fits) (WithFirst hd x (WithMarks x P)) Idle marking first idles in
+    let ordered = ordered_part hd x (λ M. Marking R M × IsKept M) (IsKnownEarly Fits) (WithTie (WithFirst hd x (WithMarks x P)) Idle) Idle (both_too hd x (Marking R) (IsKnownEarly Fits) (WithFirst hd x (WithMarks x P)) Idle marking first idles) (λ M r. r.1) (knows_spared (λ M. Marking R M × IsKept M) (λ M r. r.0.1.1)) tied (λ tops A M p. (p.1).1) in
     let Q : Kinds → Office → Seen → Type 0 = λ tops A M. WithTie (WithFirst hd x (WithMarks x P)) Idle tops A M × IsOrdered (IdleThere Idle) A.world M in
-    let knowing = known_part hd x (λ W M. (Marking R M × IsKept M) × IsKnownEarly W M) Q (λ W M r. (let z = r.0 in z.1)) (λ W M r. (let z = r.1 in z.1)) (λ tops A M p. (let o = p.1 in o.once)) (λ tops A M p. (let z = p.0 in let t = z.1 in t.0)) ordered in
-    let h = journalled_beside hd x (λ M. Marking R M × IsKept M) (WithKnown x Q) (both_too hd x (Marking R) IsKnownEarly (WithFirst hd x (WithMarks x P)) Idle marking first idles) knowing es short in
+    let knowing = known_part hd x (λ W M. (Marking R M × IsKept M) × IsKnownEarly Fits W M) Q (λ W M r. (let z = r.0 in z.1)) (λ W M r. (let z = r.1 in z.1)) (λ tops A M p. (let o = p.1 in o.once)) (λ tops A M p. (let z = p.0 in let t = z.1 in t.0)) ordered in
+    let h = journalled_beside hd x Fits before (λ M. Marking R M × IsKept M) (WithKnown x Q) (both_too hd x (Marking R) (IsKnownEarly Fits) (WithFirst hd x (WithMarks x P)) Idle marking first idles) knowing es short fits in
     let b = h.holds in
     let order = (let y = b.3 in let z = y.0 in z.1) in
     let more = (let y = b.3 in let z = y.0 in let t = z.0 in let p = t.0 in p.0) in
@@ -241,7 +241,7 @@ ordered_beside hd x R P form there kept parts es short =
           begun = record { journalled = b.0; begins = subst (λ (W : machine.World). BeginsSo hd x W.disk) b.2 (let y = b.3 in let z = y.0 in let t = z.0 in let p = t.0 in p.1) };
           once = subst (λ (W : machine.World). AreOnce W.disk.tops) b.2 order.once;
           called = subst (λ (W : machine.World). AreCalled (run_all es (format hd)).lines W.disk.tops) b.2 order.called;
-          turns = subst (λ (W : machine.World). AreTurnsOf (run_all es (format hd)).lines W.disk.tops) b.2 (turns_of (run_all es (format hd)).lines right (let A = b.1 in A.world.disk.tops) order.turns);
+          turns = subst (λ (W : machine.World). AreTurnsOf (run_all es (format hd)).lines W.disk.tops) b.2 (turns_of Idle (λ ls u i. i.0) (run_all es (format hd)).lines right (let A = b.1 in A.world.disk.tops) order.turns);
           roots = (let j = b.0 in roots_all hd x es h.sent j.machine right (let s = j.sees in s.whole) (subst (λ (W : machine.World). AreMarkedSo x W (see h.sent (run_all es (format hd)))) b.2 more.1));
           leaves = (let j = b.0 in leaves_all hd x es h.sent j.machine right (let s = j.sees in s.whole) (subst (λ (W : machine.World). AreMarkedSo x W (see h.sent (run_all es (format hd)))) b.2 more.1));
           joins = (let j = b.0 in joins_all hd x es h.sent j.machine right (let s = j.sees in s.whole) (subst (λ (W : machine.World). AreMarkedSo x W (see h.sent (run_all es (format hd)))) b.2 more.1));
@@ -271,17 +271,17 @@ ordered_beside hd x R P form there kept parts es short =
         asking = both_given hd Saying MarksAreAsked ArePartedNow (given_more hd (λ M. IsKept M × MarksAreSaid M) (λ M. Saying M × ArePartedNow M) MarksAreAsked (λ M r. let z = r.0 in (z.0.0.0, z.1)) (asks_given hd))
             (keeps_given hd (λ M. Saying M × MarksAreAsked M) ArePartedNow (kept_of hd KnowsParted (parted_keep hd)))
 
-    marks : KeepsPart hd x (λ W M. Marking R M × IsKnownEarly W M) (WithMarks x P)
-    marks = marks_part hd x (λ W M. R M × IsKnownEarly W M) (λ W M. Marking R M × IsKnownEarly W M) P (λ W M r. (r.0.0, r.1)) (λ W M r. let z = r.0.1.0 in (z.0.0.0, z.1, z.0.1)) parts
+    marks : KeepsPart hd x (λ W M. Marking R M × IsKnownEarly Fits W M) (WithMarks x P)
+    marks = marks_part hd x (λ W M. R M × IsKnownEarly Fits W M) (λ W M. Marking R M × IsKnownEarly Fits W M) P (λ W M r. (r.0.0, r.1)) (λ W M r. let z = r.0.1.0 in (z.0.0.0, z.1, z.0.1)) parts
 
 ordered : (hd : Header) (x : ℕ) (P : Kinds → Office → Seen → Type 0) (es : List Asked) → Holds hd (IsOrderedBeside P hd x) (run_all es (format hd)) → Holds hd (IsOrderedSo hd x) (run_all es (format hd))
 ordered hd x P es h = record { sent = h.sent; stands = h.stands; holds = (let z = h.holds in z.0) }
 
 pub runs_are_ordered : RunsAreOrdered
-runs_are_ordered hd x test form there rest es short = ordered hd x (SeesCarried x) es (ordered_beside hd x (IsCountedWith test) (SeesCarried x) form there (counted_with hd x test rest) (early hd x (IsCountedWith test) (SeesCarried x) (heard_part hd x test (line_there hd x form there).0 rest)) es short)
+runs_are_ordered hd x test form there rest es short = ordered hd x (SeesCarried x) es (ordered_beside hd x (λ ls. ⊤) (λ ls more f. tt) (IsCountedWith test) (SeesCarried x) form there (counted_with hd x test rest) (early hd x (λ ls. ⊤) (IsCountedWith test) (SeesCarried x) (heard_part hd x test (line_there hd x form there).0 rest)) es short tt)
 
 pub runs_are_ordered_beside : RunsAreOrderedBeside
-runs_are_ordered_beside hd x part form there parts es short = ordered hd x (λ tops A M. part tops A M ≡ true) es (ordered_beside hd x IsGood (λ tops A M. part tops A M ≡ true) form there (parts_good hd) (early hd x IsGood (λ tops A M. part tops A M ≡ true) (part_few hd x IsGood (λ tops A M. part tops A M ≡ true) parts)) es short)
+runs_are_ordered_beside hd x part form there parts es short = ordered hd x (λ tops A M. part tops A M ≡ true) es (ordered_beside hd x (λ ls. ⊤) (λ ls more f. tt) IsGood (λ tops A M. part tops A M ≡ true) form there (parts_good hd) (early hd x (λ ls. ⊤) IsGood (λ tops A M. part tops A M ≡ true) (part_few hd x IsGood (λ tops A M. part tops A M ≡ true) parts)) es short tt)
 
 -- ---- where one includes a store
 
@@ -313,7 +313,7 @@ lights_split hd x es sent o A same lights = subst (λ (W : machine.World). Light
 
 pub runs_take_turns : RunsTakeTurns
 runs_take_turns hd x test form there rest es short =
-    let h = ordered_beside hd x (IsCountedWith test) Kept form there (counted_with hd x test rest) (early hd x (IsCountedWith test) Kept part) es short in
+    let h = ordered_beside hd x (λ ls. ⊤) (λ ls more f. tt) (IsCountedWith test) Kept form there (counted_with hd x test rest) (early hd x (λ ls. ⊤) (IsCountedWith test) Kept part) es short tt in
     record { sent = h.sent; stands = h.stands; holds = turned h.sent h.holds }
   where
     Kept : Kinds → Office → Seen → Type 0

@@ -7,6 +7,8 @@ use Rattle.arj_protocol.specs.Ask.{Reply, answers, ask_kind, reply_kind}
 use Rattle.arj_protocol.specs.Call.{AtLoad, next_ask, next_node, node_at}
 use Rattle.arj_part_law.specs.Actions.{Action}
 use Rattle.arj_view_law.specs.Seen.{In, Seen}
+use Rattle.arj_disk_law.specs.Names.{Office}
+use Rattle.arj_disk_view_law.specs.Sees.{Kinds}
 use Rattle.arj_disk_view_law.proofs.Frames.{node_here}
 use Rattle.arj_lock_law.specs.State.{State}
 use Rattle.arj_lock_run_law.specs.Answers.{GivesLast}
@@ -16,7 +18,7 @@ use Rattle.arj_lock_run_law.specs.Kept.{case_of}
 use Rattle.arj_lock_whole_law.specs.Rest.{GivesRest}
 use Rattle.arj_lock_whole_law.specs.Stored.{AwaitsLoad}
 use Rattle.arj_lock_whole_law.specs.Runs.{Known}
-use Rattle.arj_joint_law.specs.Joined.{IsBeside}
+use Rattle.arj_joint_law.specs.Joined.{IsPaired, SeesRecorded}
 use Rattle.arj_joint_law.specs.Loads.{AreLoadsLast}
 use Rattle.arj_joint_law.proofs.DecidedTops.{machine_decided}
 
@@ -50,12 +52,12 @@ module _ (f : Fixed) (x : ℕ) (begun : List Action) (S : State) (s : Spot) (las
         request = eqb-true w.req a.req parts.0;
       }
 
--- so nothing is still taken but what stores give as they answer
-pub rest_beside : (values : Values) (x : ℕ) (E : List Action → Seen → Type 0) (f : Fixed) → BeginsAs values x f → GivesRest f x (λ begun S M. Known x E begun M × IsBeside x f begun S M)
-rest_beside values x E f begins = record {
+-- so nothing is still taken, beside what is carried with the disk machine's state
+pub rest_beside : (values : Values) (x : ℕ) (E : List Action → Seen → Type 0) (P : Kinds → Office → Seen → Type 0) → ((tops : Kinds) (A : Office) (M : Seen) → P tops A M → SeesRecorded x tops A M) → (f : Fixed) → BeginsAs values x f → GivesRest f x (λ begun S M. Known x E begun M × IsPaired x P f begun S M)
+rest_beside values x E P carries f begins = record {
   recorded = λ begun S M t k n j i q seen here voter three there write survives of.
-      let p = q.1.1 in
-      let kept = p.4 in
-      kept.0.1 t n here (machine_decided f x begun S M seen values begins (let A = p.2 in A.world) kept.0.0.1.1 p.6 t three k there write of survives);
-  loads = record { last = λ begun S s from m a q seen there is. (let p = q.1.1 in last_beside f x begun S s p.7 from m a.0 a.1 there is) };
+      let p = q.1 in
+      let kept = carries p.0 p.2 M p.4 in
+      kept.1 t n here (machine_decided f x begun S M seen values begins (let A = p.2 in A.world) kept.0.1.1 p.6 t three k there write of survives);
+  loads = record { last = λ begun S s from m a q seen there is. (let p = q.1 in last_beside f x begun S s p.7 from m a.0 a.1 there is) };
 }

@@ -41,6 +41,6 @@ pub runs_exclude : RunsExcludeInTime
 runs_exclude hd es test form short heard tied decide = let held = ordered_held hd es test form short heard in in_time hd es form tied held (λ x there. decide x there (ordered_of hd es x (held x there)))
 
 pub whole_runs_exclude : WholeRunsExcludeInTime
-whole_runs_exclude hd es test form short rest =
-    let joined = joined_at hd es test form short rest in
+whole_runs_exclude hd es form short fit =
+    let joined = joined_at hd es form short fit in
     in_time hd es form (lock_tied hd es joined) (held_in hd es joined) (decides_in hd es joined)

@@ -17,7 +17,7 @@ use Rattle.arj_line_law.specs.Book.{new_book}
 use Rattle.arj_line_law.specs.Paths.{AreAlike, IsAlikeOf}
 use Rattle.arj_line_law.specs.Right.{AreRight}
 use Rattle.arj_lock_law.specs.State.{State}
-use Rattle.arj_lock_run_law.specs.Fixed.{AgreesAs, Fixed}
+use Rattle.arj_lock_run_law.specs.Fixed.{Fixed}
 use Rattle.arj_lock_run_law.specs.Sees.{SeesLocks}
 use Rattle.arj_lock_run_law.specs.Tied.{AreTied}
 use Rattle.arj_view_law.specs.Seen.{Post, Seen, see}
@@ -34,6 +34,7 @@ use Rattle.arj_serial_law.proofs.Votes.{votes_give}
 use Rattle.arj_base.specs.Uid.{nobody}
 use Rattle.arj_line_law.proofs.Models.{its_acts}
 use Rattle.arj_lock_view_law.specs.Families.{acts_of}
+use Rattle.arj_joint_law.specs.Apt.{AgreesApart}
 use Rattle.arj_joint_law.specs.Joined.{AreBareSo, ArePlannedSo, AreWritten, IsPlannedSo}
 use Rattle.arj_joint_law.proofs.Writing.{VotedIn, planned_voted}
 use Rattle.arj_line_law.proofs.Books.{never}
@@ -48,21 +49,21 @@ decided_there (e ∷ ds) d (inr i) = by (e.top == d.top) (decided_there ds d i)
     by false on = on
 
 module _ (hd : Header) (es : List Asked) (x : ℕ) (right : AreRight new_book (let w = run_all es (format hd) in w.lines)) (sent : List Post) (kinds : Kinds) (W : machine.World) (disks : SeesDisks x kinds W (see sent (run_all es (format hd)))) (begun : List Action) (alike : IsAlikeOf begun (see sent (run_all es (format hd))))
-    (seen : (f : Fixed) → AgreesAs (first_values hd) f x begun sent → (S : State) × SeesLocks f x begun S (see sent (run_all es (format hd))) × AreTied f x (let w = run_all es (format hd) in w.lines) S × ArePlannedSo f x S W (see sent (run_all es (format hd)))) (knows : RequestsAreOne (see sent (run_all es (format hd)))) where
+    (seen : (f : Fixed) → AgreesApart (first_values hd) f x begun sent → (S : State) × SeesLocks f x begun S (see sent (run_all es (format hd))) × AreTied f x (let w = run_all es (format hd) in w.lines) S × ArePlannedSo f x S W (see sent (run_all es (format hd)))) (knows : RequestsAreOne (see sent (run_all es (format hd)))) where
   abbrev M : Seen
   M = see sent (run_all es (format hd))
 
   abbrev values : Values
   values = first_values hd
 
-  locks : (f : Fixed) → AgreesAs (first_values hd) f x begun M.sent → (S : State) × SeesLocks f x begun S M × AreTied f x M.lines S
+  locks : (f : Fixed) → AgreesApart (first_values hd) f x begun M.sent → (S : State) × SeesLocks f x begun S M × AreTied f x M.lines S
   locks f a = let z = seen f a in (z.0, z.1, z.2)
 
   abbrev f : Fixed
-  f = fixed_at values x M begun alike locks knows code_of
+  f = fixed_at values x M begun alike (λ g apart a. locks g (a.0, (a.1, apart))) knows code_of
 
-  agrees : AgreesAs values f x begun M.sent
-  agrees = agrees_at values x M begun alike locks knows code_of
+  agrees : AgreesApart values f x begun M.sent
+  agrees = let a = agrees_at values x M begun alike (λ g apart a. locks g (a.0, (a.1, apart))) knows code_of in (a.0, (a.1, codes_are_apart))
 
   abbrev S : State
   S = (seen f agrees).0

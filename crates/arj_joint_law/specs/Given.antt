@@ -26,15 +26,14 @@ use Rattle.arj_lock_law.specs.Steps.{IsCurrent, LoadsTheLast}
 use Rattle.arj_lock_view_law.specs.Copies.{state_code}
 use Rattle.arj_lock_view_law.specs.Named.{binding_at}
 use Rattle.arj_lock_run_law.specs.Beside.{IsSeenIn}
-use Rattle.arj_lock_run_law.specs.Fixed.{AgreesAs, Fixed}
+use Rattle.arj_lock_run_law.specs.Fixed.{Fixed}
 use Rattle.arj_lock_run_law.specs.Kept.{AreCoordsNamed, case_of}
-use Rattle.arj_lock_run_law.specs.Sees.{SeesLocks}
-use Rattle.arj_lock_run_law.specs.Tied.{AreTied}
 use Rattle.arj_lock_run_law.specs.Votes.{AreVotedAt}
 use Rattle.arj_lock_whole_law.specs.Stored.{AwaitsLoad}
 use Rattle.arj_lock_whole_law.specs.Whole.{KnowsWhole}
 use Rattle.arj_serial_law.specs.Cleaned.{BeginsSo}
 use Rattle.arj_view_law.specs.Seen.{Seen}
+use Rattle.arj_joint_law.specs.Apt.{AgreesApart}
 use Rattle.arj_joint_law.specs.Forms.{AreSo, kind_of}
 use Rattle.arj_serial_law.specs.Tied.{AreApart}
 use Rattle.arj_joint_law.specs.Fit.{OpsFit}
@@ -44,8 +43,8 @@ use Rattle.arj_joint_law.specs.Loads.{AreLoadsLast}
 use Rattle.arj_joint_law.specs.Ordered.{AreTurnsOf}
 
 -- The object in one state of a run, by both machines: the disk machine, which began as the header says, whose decisions are said, none of them
--- late, recorded, and ordered as commits were called; this state of the lock machine, with all that goes with it; for all else that may be
--- fixed such a state; what is known of the protocol alone, with the nodes of all labels there; and values are told apart, and operations in form.
+-- late, recorded, and ordered as commits were called; this state of the lock machine, with all that goes with it; what is known of the protocol
+-- alone, with the nodes of all labels there; and values are told apart, and operations in form.
 pub record AreBeside (hd : Header) (f : Fixed) (x : ℕ) (begun : List Action) (S : lock.State) (M : Seen) : Type 0 where
   pub tops : Kinds
   pub unwalked : tops.walk ≡ None
@@ -56,11 +55,10 @@ pub record AreBeside (hd : Header) (f : Fixed) (x : ℕ) (begun : List Action) (
   pub begins : BeginsSo hd x (let W = office.world in W.disk)
   pub turns : AreTurnsOf M.lines (let W = office.world in let D = W.disk in D.tops)
   pub seen : IsSeenIn (case_of f x begun S) M
-  pub agrees : AgreesAs (first_values hd) f x begun M.sent
+  pub agrees : AgreesApart (first_values hd) f x begun M.sent
   pub voted : AreVotedAt f x S M
   pub planned : ArePlannedSo f x S (let A = office in A.world) M
   pub loads : AreLoadsLast f x S M
-  pub each : (g : Fixed) → AgreesAs (first_values hd) g x begun M.sent → (T : lock.State) × SeesLocks g x begun T M × AreTied g x M.lines T × AreVotedAt g x T M × ArePlannedSo g x T (let A = office in A.world) M × AreLoadsLast g x T M
   pub named : AreCoordsNamed M
   pub whole : KnowsWhole x begun M
   pub known : (AreGoodCounted M × IsKept M) × KnowsScript M

@@ -1,6 +1,6 @@
 -- The disk machine and the lock machine of one object beside each other in one run: what a top that the disk machine decided has in its plan is
 -- what was voted for it, by the lock machine.
-use Rattle.std.specs.Prelude.{◌≡◌, ◌≤◌, ℕ, Bool, true, List, [], None, Some, Contains, is_some, length}
+use Rattle.std.specs.Prelude.{◌≡◌, ◌≤◌, ℕ, true, List, [], None, Some, Contains, is_some, length}
 use Rattle.arj_journal.specs.ScriptForm.{HeaderInForm}
 use Rattle.arj_model.specs.Actions.{acts}
 use Rattle.arj_model.specs.Calls.{Top, tops}
@@ -12,7 +12,7 @@ use Rattle.arj_protocol.specs.Commit.{Confirming, Plan, Used, changed_of}
 use Rattle.arj_protocol.specs.Effect.{Intent}
 use Rattle.arj_protocol.specs.Order.{uid_number}
 use Rattle.arj_protocol.specs.Step.{Node}
-use Rattle.arj_protocol.specs.World.{Asked, format, run_all}
+use Rattle.arj_protocol.specs.World.{Asked, format, journal, run_all}
 use Rattle.arj_part_law.specs.Actions.{Action}
 use Rattle.arj_disk_law.specs.Effects.{World}
 use Rattle.arj_disk_law.specs.Names.{Office}
@@ -34,13 +34,15 @@ use Rattle.arj_disk_line_law.specs.Said.{WithTie}
 use Rattle.arj_lock_fact_law.specs.Votes.{side_at}
 use Rattle.arj_lock_view_law.specs.Plans.{SeesMachine}
 use Rattle.arj_lock_view_law.specs.Voted.{HasVotes}
-use Rattle.arj_lock_run_law.specs.Fixed.{AgreesAs, Fixed}
+use Rattle.arj_lock_run_law.specs.Fixed.{Fixed}
 use Rattle.arj_lock_run_law.specs.Sees.{SeesLocks}
 use Rattle.arj_lock_run_law.specs.Tied.{AreTied}
 use Rattle.arj_lock_run_law.specs.Votes.{AreVotedAt}
 use Rattle.arj_serial_law.specs.Tied.{AreApart}
+use Rattle.arj_joint_law.specs.Apt.{AgreesApart}
 use Rattle.arj_joint_law.specs.Based.{IsVotedOver}
 use Rattle.arj_joint_law.specs.BasedSteps.{AreBasedSo}
+use Rattle.arj_joint_law.specs.Fit.{AreFit, OpsFit}
 use Rattle.arj_joint_law.specs.Includers.{IncludersTakeTurns}
 use Rattle.arj_joint_law.specs.Lights.{LightsAreSplit}
 use Rattle.arj_joint_law.specs.Loads.{AreLoadsLast}
@@ -52,7 +54,6 @@ use Rattle.arj_serial_law.specs.Seen.{IsSerialRun, RequestsAreOne}
 use Rattle.arj_disk_run_law.specs.Bindings.{AreGoodCounted, KnowsScript}
 use Rattle.arj_disk_run_law.specs.Rest.{SeesCarried}
 use Rattle.arj_disk_run_law.specs.Runs.{CopiesAgree}
-use Rattle.arj_lock_whole_law.specs.Runs.{IsRestBeside}
 use Rattle.arj_binding_law.specs.Scripts.{most_events}
 
 -- ---- one top
@@ -122,10 +123,6 @@ SeesRecorded x tops A M = SeesTied x tops A M × WereRecorded A.world M
 abbrev pub SeesInOrder : ℕ → Kinds → Office → Seen → Type 0
 SeesInOrder x tops A M = SeesRecorded x tops A M × IsOrdered (λ ls u. (is_decided (book ls) u ≡ true) × IsIdle (book ls) u) A.world M
 
--- so much may be counted on of a state of the lock machine
-abbrev pub IsBeside : ℕ → Fixed → List Action → lock.State → Seen → Type 0
-IsBeside x f begun S M = IsKnownJoined M × IsPaired x (SeesInOrder x) f begun S M
-
 -- ---- the run
 
 -- the world of the disk machine
@@ -150,24 +147,16 @@ pub record IsJoinedSo (hd : Header) (x : ℕ) (M : Seen) : Type 0 where
   pub lights : LightsAreSplit M.lines (let W = world_of ordered in W.disk)
   pub begun : List Action
   pub alike : IsAlikeOf begun M
-  pub seen : (f : Fixed) → AgreesAs (first_values hd) f x begun M.sent → (S : lock.State) × SeesLocks f x begun S M × AreTied f x M.lines S × AreVotedAt f x S M × ArePlannedSo f x S (world_of ordered) M × AreBasedSo f x S (world_of ordered) M
+  pub seen : (f : Fixed) → AgreesApart (first_values hd) f x begun M.sent → (S : lock.State) × SeesLocks f x begun S M × AreTied f x M.lines S × AreVotedAt f x S M × ArePlannedSo f x S (world_of ordered) M × AreBasedSo f x S (world_of ordered) M
   pub requests : RequestsAreOne M
   pub wrote : AreWritten (first_values hd) M.lines x (let W = world_of ordered in W.disk.tops)
   pub bare : AreBareSo M.lines x (let W = world_of ordered in W.disk)
   pub agree : CopiesAgree x M
 
--- So it is in the run of every script, of each object of the header, with what is still taken of the lock half, where it stands beside the
--- disk half.
+-- So it is in the run of every script, of each object of the header, of which the operations of answered calls are in form.
 abbrev pub RunsAreJoined : Type 0
-RunsAreJoined = (hd : Header) (x : ℕ) (test : List Action → Seen → Bool) → HeaderInForm hd → is_some (object_line hd x) ≡ true → IsRestBeside hd (first_values hd) x (λ begun M. test begun M ≡ true) (IsBeside x)
-    → (es : List Asked) → length es ≤ most_events → Holds hd (IsJoinedSo hd x) (run_all es (format hd))
+RunsAreJoined = (hd : Header) (x : ℕ) → HeaderInForm hd → is_some (object_line hd x) ≡ true → (es : List Asked) → OpsFit x (journal hd es) → length es ≤ most_events → Holds hd (IsJoinedSo hd x) (run_all es (format hd))
 
--- where for each object of the header what is still taken of the lock half is given of such states
-abbrev pub AreRestBeside : Header → (ℕ → List Action → Seen → Bool) → Type 0
-AreRestBeside hd test = (x : ℕ) → is_some (object_line hd x) ≡ true → IsRestBeside hd (first_values hd) x (λ begun M. test x begun M ≡ true) (IsBeside x)
-
--- So the run of every script is serial.
+-- So the run of every script is serial, where that is so of each object.
 abbrev pub JoinedRunsAreSerial : Type 0
-JoinedRunsAreSerial = (hd : Header) (es : List Asked) (test : ℕ → List Action → Seen → Bool) → HeaderInForm hd → length es ≤ most_events
-    → AreRestBeside hd test
-    → IsSerialRun hd es
+JoinedRunsAreSerial = (hd : Header) (es : List Asked) → HeaderInForm hd → AreFit hd (journal hd es) → length es ≤ most_events → IsSerialRun hd es

@@ -1,3 +1,4 @@
+pub mod Apt
 pub mod Begun
 pub mod Cleaned
 pub mod Forms

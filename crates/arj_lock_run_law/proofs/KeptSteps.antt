@@ -34,7 +34,7 @@ use Rattle.arj_lock_fact_law.specs.Acts.{KeepsOf, begins_in}
 use Rattle.arj_lock_run_law.specs.Beside.{Case, IsSeenIn, Spot, world_at}
 use Rattle.arj_lock_run_law.specs.Coordinating.{coord_at}
 use Rattle.arj_model.specs.Serial.{Values}
-use Rattle.arj_lock_run_law.specs.Fixed.{Agrees, AgreesAs, BeginsAs, Fixed}
+use Rattle.arj_lock_run_law.specs.Fixed.{Agrees, AgreesBy, BeginsAs, Fixed}
 use Rattle.arj_lock_run_law.specs.Kept.{AreCoordsNamed, AreLocksSeen, GivesLocks, HasCome, LocksAreKept, RunsKeepLocks, case_of}
 use Rattle.arj_lock_run_law.specs.Sees.{SeesLocks}
 use Rattle.arj_lock_run_law.specs.Tied.{AreTied}
@@ -89,27 +89,27 @@ module _ (f : Fixed) (x : ℕ) where
     wanted = λ p h q there is. g.wanted p h q there is;
   }
 
--- so it is with a first value
-pub as_less : (values : Values) (f : Fixed) (x : ℕ) (begun : List Action) (sent more : List Post) → Within sent more → AgreesAs values f x begun more → AgreesAs values f x begun sent
-as_less values f x begun sent more within a = (agree_less f x begun sent more within a.0, a.1)
+-- so it is with what else is asked of it
+pub as_less : (Apt : Fixed → Type 0) (f : Fixed) (x : ℕ) (begun : List Action) (sent more : List Post) → Within sent more → AgreesBy Apt f x begun more → AgreesBy Apt f x begun sent
+as_less Apt f x begun sent more within a = (agree_less f x begun sent more within a.0, a.1)
 
-pub as_older : (values : Values) (f : Fixed) (x : ℕ) (a : Action) (begun : List Action) (sent : List Post) → AgreesAs values f x (a ∷ begun) sent → AgreesAs values f x begun sent
-as_older values f x a begun sent g = (agree_older f x a begun sent g.0, g.1)
+pub as_older : (Apt : Fixed → Type 0) (f : Fixed) (x : ℕ) (a : Action) (begun : List Action) (sent : List Post) → AgreesBy Apt f x (a ∷ begun) sent → AgreesBy Apt f x begun sent
+as_older Apt f x a begun sent g = (agree_older f x a begun sent g.0, g.1)
 
 -- the object is seen, and on a condition commits have their votes
-abbrev pub LocksSo : Values → Type 0 → ℕ → (List Action → Seen → Type 0) → Seen → Type 0
-LocksSo values U x R M = (begun : List Action) × IsAlikeOf begun M × R begun M × ((f : Fixed) → AgreesAs values f x begun M.sent → (S : State) × SeesLocks f x begun S M × AreTied f x M.lines S × (U → AreVotedAt f x S M)) × AreCoordsNamed M
+abbrev pub LocksSo : (Fixed → Type 0) → Type 0 → ℕ → (List Action → Seen → Type 0) → Seen → Type 0
+LocksSo Apt U x R M = (begun : List Action) × IsAlikeOf begun M × R begun M × ((f : Fixed) → AgreesBy Apt f x begun M.sent → (S : State) × SeesLocks f x begun S M × AreTied f x M.lines S × (U → AreVotedAt f x S M)) × AreCoordsNamed M
 
 -- And the machine has gone there from these states, for all that was fixed and agreed with what was sent then.
-abbrev pub LocksFrom : (values : Values) → Type 0 → (x : ℕ) → (List Action → Seen → Type 0) → (begun : List Action) → (sent : List Post) → ((f : Fixed) → AgreesAs values f x begun sent → State) → Seen → Type 0
-LocksFrom values U x R begun sent from M = IsAlikeOf begun M × R begun M × ((f : Fixed) → AgreesAs values f x begun M.sent → (S : State) × SeesLocks f x begun S M × AreTied f x M.lines S × (U → AreVotedAt f x S M) × ((a : AgreesAs values f x begun sent) × Run (from f a) S)) × AreCoordsNamed M
+abbrev pub LocksFrom : (Apt : Fixed → Type 0) → Type 0 → (x : ℕ) → (List Action → Seen → Type 0) → (begun : List Action) → (sent : List Post) → ((f : Fixed) → AgreesBy Apt f x begun sent → State) → Seen → Type 0
+LocksFrom Apt U x R begun sent from M = IsAlikeOf begun M × R begun M × ((f : Fixed) → AgreesBy Apt f x begun M.sent → (S : State) × SeesLocks f x begun S M × AreTied f x M.lines S × (U → AreVotedAt f x S M) × ((a : AgreesBy Apt f x begun sent) × Run (from f a) S)) × AreCoordsNamed M
 
 -- a walk in which the object is seen, for all that may be fixed and agrees with what was done before
-kept_walk : (values : Values) (V : Type 0) (x : ℕ) (R : List Action → Seen → Type 0) (begun : List Action) (e k : ℕ) (outs : List Effect) (v : Parts) (d : Disk) (M : Seen) (from : (f : Fixed) → AgreesAs values f x begun M.sent → State) → Walks (R begun) e k outs (Up (R begun) k v) d M → Walks (IsPathedOf begun) e k outs (Up (IsPathedOf begun) k v) d M
-    → ((f : Fixed) (a : AgreesAs values f x begun M.sent) → Walks (IsSeenSo (case_of f x begun (from f a))) e k outs (Up (IsSeenSo (case_of f x begun (from f a))) k v) d M × ((T : State) → Run (from f a) T → V → HaveVotes f x M k v.coord T))
-    → Walks (LocksFrom values V x R begun M.sent from) e k outs (Up (LocksFrom values V x R begun M.sent from) k v) d M
-kept_walk values V x R begun e k outs v d M from holds good sees =
-    let A : Type 0 = (f : Fixed) × AgreesAs values f x begun M.sent in
+kept_walk : (Apt : Fixed → Type 0) (V : Type 0) (x : ℕ) (R : List Action → Seen → Type 0) (begun : List Action) (e k : ℕ) (outs : List Effect) (v : Parts) (d : Disk) (M : Seen) (from : (f : Fixed) → AgreesBy Apt f x begun M.sent → State) → Walks (R begun) e k outs (Up (R begun) k v) d M → Walks (IsPathedOf begun) e k outs (Up (IsPathedOf begun) k v) d M
+    → ((f : Fixed) (a : AgreesBy Apt f x begun M.sent) → Walks (IsSeenSo (case_of f x begun (from f a))) e k outs (Up (IsSeenSo (case_of f x begun (from f a))) k v) d M × ((T : State) → Run (from f a) T → V → HaveVotes f x M k v.coord T))
+    → Walks (LocksFrom Apt V x R begun M.sent from) e k outs (Up (LocksFrom Apt V x R begun M.sent from) k v) d M
+kept_walk Apt V x R begun e k outs v d M from holds good sees =
+    let A : Type 0 = (f : Fixed) × AgreesBy Apt f x begun M.sent in
     let Q : A → Seen → Type 0 = λ a N. Agrees a.0 x begun N.sent → (S : State) × SeesLocks a.0 x begun S N × AreTied a.0 x N.lines S × Run (from a.0 a.1) S in
     let H : Seen → Type 0 = λ N. Within M.sent N.sent in
     let E : Seen → Type 0 = λ N. (a : A) → Q a N in
@@ -123,16 +123,16 @@ kept_walk values V x R begun e k outs v d M from holds good sees =
     let O : Seen → Type 0 = IsOldOrNew M k v in
     let W : Seen → Type 0 = λ N. R begun N × U N in
     let five = walks_both O W e k outs (Up O k v) (λ c N. Up (R begun) k v c N × (Up G k v c N × (Up H k v c N × ((a : A) → Up (Q a) k v c N)))) d M (nodes_walk M k v e outs d M (λ j. refl)) four in
-    walks_to (λ N. O N × W N) (LocksFrom values V x R begun M.sent from) e k outs (λ c N. Up O k v c N × (Up (R begun) k v c N × (Up G k v c N × (Up H k v c N × ((a : A) → Up (Q a) k v c N))))) (Up (LocksFrom values V x R begun M.sent from) k v) d M
+    walks_to (λ N. O N × W N) (LocksFrom Apt V x R begun M.sent from) e k outs (λ c N. Up O k v c N × (Up (R begun) k v c N × (Up G k v c N × (Up H k v c N × ((a : A) → Up (Q a) k v c N))))) (Up (LocksFrom Apt V x R begun M.sent from) k v) d M
     (λ N w. locked N w.0 w.1)
     (λ c N w. locked (up k c v N) w.0 w.1) five
   where
-    locked : (N : Seen) → IsOldOrNew M k v N → R begun N × (IsPathedOf begun N × (Within M.sent N.sent × ((a : (f : Fixed) × AgreesAs values f x begun M.sent) → Agrees a.0 x begun N.sent → (S : State) × SeesLocks a.0 x begun S N × AreTied a.0 x N.lines S × Run (from a.0 a.1) S))) → LocksFrom values V x R begun M.sent from N
+    locked : (N : Seen) → IsOldOrNew M k v N → R begun N × (IsPathedOf begun N × (Within M.sent N.sent × ((a : (f : Fixed) × AgreesBy Apt f x begun M.sent) → Agrees a.0 x begun N.sent → (S : State) × SeesLocks a.0 x begun S N × AreTied a.0 x N.lines S × Run (from a.0 a.1) S))) → LocksFrom Apt V x R begun M.sent from N
     locked N nodes z = (
       z.1.0.1,
       z.0,
       (λ f agrees.
-          let before = as_less values f x begun M.sent N.sent z.1.1.0 agrees in
+          let before = as_less Apt f x begun M.sent N.sent z.1.1.0 agrees in
           let g = z.1.1.1 (f, before) agrees.0 in
           (g.0, g.1, g.2, (λ u. voted_at f x M k v N g.0 nodes ((sees f before).1 g.0 g.3 u)), (before, g.3))),
       z.1.0.0.1,
@@ -226,21 +226,21 @@ not_begin i act l k parent same = let bad : true ≡ false = sym act ∙ ap is_a
 
 -- ---- each handler
 
-module _ (hd : Header) (values : Values) (x : ℕ) (G : Seen → Type 0) (R : List Action → Seen → Type 0) (Y : Fixed → List Action → State → Seen → Type 0) (keeps : KeepsOf hd (λ begun M. G M) R) (gives : (f : Fixed) → BeginsAs values x f → GivesLocks hd f x (λ begun S M. (G M × R begun M) × Y f begun S M))
+module _ (hd : Header) (Apt : Fixed → Type 0) (x : ℕ) (G : Seen → Type 0) (R : List Action → Seen → Type 0) (Y : Fixed → List Action → State → Seen → Type 0) (keeps : KeepsOf hd (λ begun M. G M) R) (gives : (f : Fixed) → Apt f → GivesLocks hd f x (λ begun S M. (G M × R begun M) × Y f begun S M))
     (V : Type 0) (used : (M : Seen) → G M → V → AllVotesAreUsed M) where
   abbrev Kept : Seen → Type 0
-  Kept N = LocksSo values V x R N
+  Kept N = LocksSo Apt V x R N
 
   -- what is seen from this state of each machine on
   abbrev pub From : (M : Seen) → Kept M → Seen → Type 0
-  From M z N = LocksFrom values V x R z.0 M.sent (λ f a. let g = z.3 f a in g.0) N
+  From M z N = LocksFrom Apt V x R z.0 M.sent (λ f a. let g = z.3 f a in g.0) N
 
   -- in each state in which it is seen more is known
   abbrev pub Knows : (M : Seen) → Kept M → Type 0
-  Knows M z = (f : Fixed) (a : AgreesAs values f x z.0 M.sent) → Y f z.0 (let g = z.3 f a in g.0) M
+  Knows M z = (f : Fixed) (a : AgreesBy Apt f x z.0 M.sent) → Y f z.0 (let g = z.3 f a in g.0) M
 
   -- what is seen, where what is fixed agrees
-  seen_in : (f : Fixed) (M : Seen) (z : Kept M) (agrees : AgreesAs values f x z.0 M.sent) → IsSeenIn (case_of f x z.0 (let g = z.3 f agrees in g.0)) M
+  seen_in : (f : Fixed) (M : Seen) (z : Kept M) (agrees : AgreesBy Apt f x z.0 M.sent) → IsSeenIn (case_of f x z.0 (let g = z.3 f agrees in g.0)) M
   seen_in f M z agrees = record { good = z.1.0; alike = z.1.1; written = z.1.2; agrees = agrees.0; sees = (let g = z.3 f agrees in g.1); tied = (let g = z.3 f agrees in g.2) }
 
   -- its actions are those of the journal
@@ -255,7 +255,7 @@ module _ (hd : Header) (values : Values) (x : ℕ) (G : Seen → Type 0) (R : Li
   pub stop_kept : (e k : ℕ) (d : Disk) (live : Option Parts) (M : Seen) → G (at k d live M) → (z : Kept (at k d live M)) → Knows (at k d live M) z → From (at k d live M) z (halted e k d M)
   stop_kept e k d live M more z more_known = let r = stop_pathed hd z.0 e k d live M (pathed_in (at k d live M) z) in (r.1, keeps.stop z.0 e k d live M more z.1.0 z.2, (λ f. by f live more z more_known), r.0.1)
     where
-      by : (f : Fixed) (live : Option Parts) → G (at k d live M) → (z : Kept (at k d live M)) → Knows (at k d live M) z → AgreesAs values f x z.0 M.sent → (S : State) × SeesLocks f x z.0 S (halted e k d M) × AreTied f x (let N = halted e k d M in N.lines) S × (V → AreVotedAt f x S (halted e k d M)) × ((a : AgreesAs values f x z.0 M.sent) × Run (let g = z.3 f a in g.0) S)
+      by : (f : Fixed) (live : Option Parts) → G (at k d live M) → (z : Kept (at k d live M)) → Knows (at k d live M) z → AgreesBy Apt f x z.0 M.sent → (S : State) × SeesLocks f x z.0 S (halted e k d M) × AreTied f x (let N = halted e k d M in N.lines) S × (V → AreVotedAt f x S (halted e k d M)) × ((a : AgreesBy Apt f x z.0 M.sent) × Run (let g = z.3 f a in g.0) S)
       by f None more z more_known agrees = (let g = z.3 f agrees in let h = down_stays (case_of f x z.0 g.0) e k d M (seen_in f (down k d M) z agrees) agrees.0 in (h.0, h.1, h.2, (λ u. halted_votes f x e k d None M g.0 h.0 h.3 (g.3 u)), (agrees, h.3)))
       by f (Some t) more z more_known agrees =
           let g = z.3 f agrees in
@@ -266,7 +266,7 @@ module _ (hd : Header) (values : Values) (x : ℕ) (G : Seen → Type 0) (R : Li
 
   -- ---- a message
 
-  module _ (f : Fixed) (e : ℕ) (s : Spot) (from : ℕ) (more : G (world_at s)) (z : Kept (world_at s)) (agrees : AgreesAs values f x z.0 (let M = s.seen in M.sent)) (known : Y f z.0 (let g = z.3 f agrees in g.0) (world_at s)) where
+  module _ (f : Fixed) (e : ℕ) (s : Spot) (from : ℕ) (more : G (world_at s)) (z : Kept (world_at s)) (agrees : AgreesBy Apt f x z.0 (let M = s.seen in M.sent)) (known : Y f z.0 (let g = z.3 f agrees in g.0) (world_at s)) where
     abbrev begun : List Action
     begun = z.0
 
@@ -352,13 +352,13 @@ module _ (hd : Header) (values : Values) (x : ℕ) (G : Seen → Type 0) (R : Li
   pub kept_message : (e k : ℕ) (d : Disk) (t v : Parts) (from : ℕ) (m : Message) (outs : List Effect) (M : Seen) → G (up k d t M) → (z : Kept (up k d t M)) → Knows (up k d t M) z → In (record { from = from; to = k; message = m }) M.sent → is_meant t m ≡ true → handle k d t from m ≡ Took v outs → Walks (From (up k d t M) z) e k outs (Up (From (up k d t M) z) k v) d M
   kept_message e k d t v from m outs M more z known there meant is =
       let s : Spot = record { node = k; disk = d; parts = t; seen = M } in
-      kept_walk values V x R z.0 e k outs v d M (λ f a. let g = z.3 f a in g.0) (keeps.message z.0 e k d t v from m outs M more z.1.0 z.2 there meant is) (message_pathed hd z.0 e k d t v from m outs M (pathed_in (up k d t M) z) there meant is)
+      kept_walk Apt V x R z.0 e k outs v d M (λ f a. let g = z.3 f a in g.0) (keeps.message z.0 e k d t v from m outs M more z.1.0 z.2 there meant is) (message_pathed hd z.0 e k d t v from m outs M (pathed_in (up k d t M) z) there meant is)
       (λ f agrees. (message_goes f e s from more z agrees (known f agrees) m v outs (record { sent = there; meant = meant; takes = is }), message_votes f e s from more z agrees (known f agrees) m v outs (record { sent = there; meant = meant; takes = is })))
 
   -- ---- the others
 
   -- at an input about an action the object is seen through what the coordinator does
-  module _ (f : Fixed) (e : ℕ) (s : Spot) (more : G (world_at s)) (z : Kept (world_at s)) (agrees : AgreesAs values f x z.0 (let M = s.seen in M.sent)) (known : Y f z.0 (let g = z.3 f agrees in g.0) (world_at s)) where
+  module _ (f : Fixed) (e : ℕ) (s : Spot) (more : G (world_at s)) (z : Kept (world_at s)) (agrees : AgreesBy Apt f x z.0 (let M = s.seen in M.sent)) (known : Y f z.0 (let g = z.3 f agrees in g.0) (world_at s)) where
     abbrev b : Case
     b = case_of f x z.0 (let g = z.3 f agrees in g.0)
 
@@ -377,11 +377,11 @@ module _ (hd : Header) (values : Values) (x : ℕ) (G : Seen → Type 0) (R : Li
   kept_act e k d t i M is none more z known =
       let D = acts i d.intents t.coord in
       let s : Spot = record { node = k; disk = d; parts = t; seen = M } in
-      kept_walk values V x R z.0 e k D.outs (with_coord t D.part) d M (λ f a. let g = z.3 f a in g.0) (keeps.act z.0 e k d t i M is none more z.1.0 z.2) (act_pathed hd z.0 e k d t i M is none (pathed_in (up k d t M) z))
+      kept_walk Apt V x R z.0 e k D.outs (with_coord t D.part) d M (λ f a. let g = z.3 f a in g.0) (keeps.act z.0 e k d t i M is none more z.1.0 z.2) (act_pathed hd z.0 e k d t i M is none (pathed_in (up k d t M) z))
       (λ f agrees. (input_goes f e s more z agrees (known f agrees) i is none, (λ T run u. let h = had_votes f x k d t M (let g = z.3 f agrees in g.0) T run ((let g = z.3 f agrees in g.3) u) in (h.0, acts_are_voted f.act f.code x i d.intents t.coord T (not_begin i is) h.1))))
 
   -- an action that isn't refused may stand where it begins
-  module _ (f : Fixed) (e : ℕ) (s : Spot) (l : Label) (how : Kind) (parent : Option Label) (z : Kept (world_at s)) (older : AgreesAs values f x z.0 (let M = s.seen in M.sent))
+  module _ (f : Fixed) (e : ℕ) (s : Spot) (l : Label) (how : Kind) (parent : Option Label) (z : Kept (world_at s)) (older : AgreesBy Apt f x z.0 (let M = s.seen in M.sent))
       (new : label_at l (let M = s.seen in M.labels) ≡ None) (may : MayGive (let M = s.seen in M.labels) s.node how parent) (none : begin_refusal how (coord_at s) parent ≡ None) where
     abbrev q : Coord
     q = coord_at s
@@ -408,7 +408,7 @@ module _ (hd : Header) (values : Values) (x : ℕ) (G : Seen → Type 0) (R : Li
         by None e f = absurd (cc e)
         by (Some y) e f = (off (begin_reasons how b q) (ap (refused_by (begin_reasons how) q) (sym e) ∙ f)).0
 
-    pub may_stand : AgreesAs values f x (a ∷ z.0) (let M = s.seen in M.sent) → MayStand f.paths how q.tree p
+    pub may_stand : AgreesBy Apt f x (a ∷ z.0) (let M = s.seen in M.sent) → MayStand f.paths how q.tree p
     may_stand agrees = record {
       uid = its_next.uid;
       path = sym path_is ∙ ap f.paths its_next.uid;
@@ -430,7 +430,7 @@ module _ (hd : Header) (values : Values) (x : ℕ) (G : Seen → Type 0) (R : Li
 
   -- with one action more
   abbrev pub FromBegun : Action → (M : Seen) → Kept M → Seen → Type 0
-  FromBegun a M z N = LocksFrom values V x R (a ∷ z.0) M.sent (λ f w. let g = z.3 f (as_older values f x a z.0 M.sent w) in g.0) N
+  FromBegun a M z N = LocksFrom Apt V x R (a ∷ z.0) M.sent (λ f w. let g = z.3 f (as_older Apt f x a z.0 M.sent w) in g.0) N
 
   pub kept_begin : (e k : ℕ) (d : Disk) (t : Parts) (l : Label) (how : Kind) (parent : Option Label) (M : Seen) → label_at l M.labels ≡ None → MayGive M.labels k how parent → begin_refusal how t.coord parent ≡ None → G (up k d t M) → (z : Kept (up k d t M)) → Knows (up k d t M) z
       → let D = begin_action l how parent (parent_of parent t.coord) t.coord in Walks (FromBegun (begins_in how parent t) (up k d t M) z) e k D.outs (Up (FromBegun (begins_in how parent t) (up k d t M) z) k (with_coord t D.part)) d (given l (record { node = k; serial = is_serial_kind how }) M)
@@ -439,33 +439,33 @@ module _ (hd : Header) (values : Values) (x : ℕ) (G : Seen → Type 0) (R : Li
       let s : Spot = record { node = k; disk = d; parts = t; seen = M } in
       let N = given l (record { node = k; serial = is_serial_kind how }) M in
       let a : Action = begins_in how parent t in
-      kept_walk values V x R (a ∷ z.0) e k D.outs (with_coord t D.part) d N (λ f w. let g = z.3 f (as_older values f x a z.0 M.sent w) in g.0) (keeps.begin z.0 e k d t l how parent M new may none more z.1.0 z.2) (begin_pathed hd z.0 e k d t l how parent M new may none (pathed_in (up k d t M) z))
-      (λ f agrees. let older = as_older values f x a z.0 M.sent agrees in (begins_go (case_of f x z.0 (let g = z.3 f older in g.0)) s e l (record { node = k; serial = is_serial_kind how }) how parent (parent_of parent t.coord) (seen_in f (world_at s) z older) (let w = agrees.0.whole in w.begun.0) (may_stand f e s l how parent z older new may none agrees) ((gives f agrees.1).begin z.0 (let g = z.3 f older in g.0) s ((more, z.2), known f older) (seen_in f (world_at s) z older)), (λ T run u. let h = had_votes f x k d t M (let g = z.3 f older in g.0) T run ((let g = z.3 f older in g.3) u) in (h.0, (others_are_voted f.act f.code x t.coord T h.1).0 l how parent))))
+      kept_walk Apt V x R (a ∷ z.0) e k D.outs (with_coord t D.part) d N (λ f w. let g = z.3 f (as_older Apt f x a z.0 M.sent w) in g.0) (keeps.begin z.0 e k d t l how parent M new may none more z.1.0 z.2) (begin_pathed hd z.0 e k d t l how parent M new may none (pathed_in (up k d t M) z))
+      (λ f agrees. let older = as_older Apt f x a z.0 M.sent agrees in (begins_go (case_of f x z.0 (let g = z.3 f older in g.0)) s e l (record { node = k; serial = is_serial_kind how }) how parent (parent_of parent t.coord) (seen_in f (world_at s) z older) (let w = agrees.0.whole in w.begun.0) (may_stand f e s l how parent z older new may none agrees) ((gives f agrees.1).begin z.0 (let g = z.3 f older in g.0) s ((more, z.2), known f older) (seen_in f (world_at s) z older)), (λ T run u. let h = had_votes f x k d t M (let g = z.3 f older in g.0) T run ((let g = z.3 f older in g.3) u) in (h.0, (others_are_voted f.act f.code x t.coord T h.1).0 l how parent))))
 
   pub kept_tick : (e k : ℕ) (d : Disk) (t : Parts) (M : Seen) → G (up k d t M) → (z : Kept (up k d t M)) → Knows (up k d t M) z
       → Walks (From (up k d t M) z) e k (tick_outs (record { number = k; disk = d; live = Some t }) t) (Up (From (up k d t M) z) k (with_coord t (let q = again_all t.coord.doings t.coord in q.part))) d M
   kept_tick e k d t M more z known =
       let s : Spot = record { node = k; disk = d; parts = t; seen = M } in
-      kept_walk values V x R z.0 e k (tick_outs (record { number = k; disk = d; live = Some t }) t) (with_coord t (let q = again_all t.coord.doings t.coord in q.part)) d M (λ f a. let g = z.3 f a in g.0) (keeps.tick z.0 e k d t M more z.1.0 z.2) (tick_pathed hd z.0 e k d t M (pathed_in (up k d t M) z))
+      kept_walk Apt V x R z.0 e k (tick_outs (record { number = k; disk = d; live = Some t }) t) (with_coord t (let q = again_all t.coord.doings t.coord in q.part)) d M (λ f a. let g = z.3 f a in g.0) (keeps.tick z.0 e k d t M more z.1.0 z.2) (tick_pathed hd z.0 e k d t M (pathed_in (up k d t M) z))
       (λ f agrees. let g = z.3 f agrees in let seen = seen_in f (world_at s) z agrees in let q = (gives f agrees.1).tick z.0 g.0 s ((more, z.2), known f agrees) seen in (ticks_go (case_of f x z.0 g.0) s e seen q.0 q.1 q.2, (λ T run u. let h = had_votes f x k d t M g.0 T run (g.3 u) in (h.0, (others_are_voted f.act f.code x t.coord T h.1).2 t.coord.doings))))
 
   pub kept_restart : (e k : ℕ) (d : Disk) (M : Seen) → G (down k d M) → (z : Kept (down k d M)) → Knows (down k d M) z → Walks (From (down k d M) z) e k (restart_outs hd k (d.inc + 1) d) (Up (From (down k d M) z) k (parts_in k (d.inc + 1) d)) d M
   kept_restart e k d M more z known =
-      kept_walk values V x R z.0 e k (restart_outs hd k (d.inc + 1) d) (parts_in k (d.inc + 1) d) d M (λ f a. let g = z.3 f a in g.0) (keeps.restart z.0 e k d M more z.1.0 z.2) (restart_pathed hd z.0 e k d M (pathed_in (down k d M) z))
+      kept_walk Apt V x R z.0 e k (restart_outs hd k (d.inc + 1) d) (parts_in k (d.inc + 1) d) d M (λ f a. let g = z.3 f a in g.0) (keeps.restart z.0 e k d M more z.1.0 z.2) (restart_pathed hd z.0 e k d M (pathed_in (down k d M) z))
       (λ f agrees. let g = z.3 f agrees in let seen = seen_in f (down k d M) z agrees in (restarts_go hd (case_of f x z.0 g.0) e k d M seen ((gives f agrees.1).restart z.0 g.0 k d M ((more, z.2), known f agrees) seen), (λ T run u. new_votes f x k d M (d.inc + 1) d.intents g.0 T run (g.3 u))))
 
   pub first_kept : Kept (see [] (format hd))
   first_kept = let r = first_pathed hd in ([], r.1, keeps.first, (λ f agrees. let g = first_goes hd f x (gives f agrees.1).first in (g.0, g.1, g.2, (λ u. first_votes hd f x g.0))), r.0.1)
 
   -- where the machines came from may be left out
-  kept_from : (begun : List Action) (sent : List Post) (from : (f : Fixed) → AgreesAs values f x begun sent → State) (N : Seen) → LocksFrom values V x R begun sent from N → Kept N
+  kept_from : (begun : List Action) (sent : List Post) (from : (f : Fixed) → AgreesBy Apt f x begun sent → State) (N : Seen) → LocksFrom Apt V x R begun sent from N → Kept N
   kept_from begun sent from N z = (begun, z.0, z.1, (λ f agrees. let g = z.2 f agrees in (g.0, g.1, g.2, g.3)), z.3)
 
-  walk_from : (begun : List Action) (sent : List Post) (from : (f : Fixed) → AgreesAs values f x begun sent → State) (e k : ℕ) (outs : List Effect) (v : Parts) (d : Disk) (N : Seen) → Walks (LocksFrom values V x R begun sent from) e k outs (Up (LocksFrom values V x R begun sent from) k v) d N → Walks Kept e k outs (Up Kept k v) d N
-  walk_from begun sent from e k outs v d N w = walks_to (LocksFrom values V x R begun sent from) Kept e k outs (Up (LocksFrom values V x R begun sent from) k v) (Up Kept k v) d N (kept_from begun sent from) (λ c Z h. kept_from begun sent from (up k c v Z) h) w
+  walk_from : (begun : List Action) (sent : List Post) (from : (f : Fixed) → AgreesBy Apt f x begun sent → State) (e k : ℕ) (outs : List Effect) (v : Parts) (d : Disk) (N : Seen) → Walks (LocksFrom Apt V x R begun sent from) e k outs (Up (LocksFrom Apt V x R begun sent from) k v) d N → Walks Kept e k outs (Up Kept k v) d N
+  walk_from begun sent from e k outs v d N w = walks_to (LocksFrom Apt V x R begun sent from) Kept e k outs (Up (LocksFrom Apt V x R begun sent from) k v) (Up Kept k v) d N (kept_from begun sent from) (λ c Z h. kept_from begun sent from (up k c v Z) h) w
 
   -- where no more is needed
-  pub so_given : ((f : Fixed) (begun : List Action) (S : State) (M : Seen) → Y f begun S M) → KeepsGiven hd G (LocksSo values V x R)
+  pub so_given : ((f : Fixed) (begun : List Action) (S : State) (M : Seen) → Y f begun S M) → KeepsGiven hd G (LocksSo Apt V x R)
   so_given always = record {
     quiet = λ e bs M quiet more z. kept_from z.0 M.sent (λ f a. let g = z.3 f a in g.0) (said e bs M) (quiet_kept e bs M quiet more z);
     stop = λ e k d live M more z. kept_from z.0 M.sent (λ f a. let g = z.3 f a in g.0) (halted e k d M) (stop_kept e k d live M more z (λ f a. always f z.0 (let g = z.3 f a in g.0) (at k d live M)));
@@ -474,7 +474,7 @@ module _ (hd : Header) (values : Values) (x : ℕ) (G : Seen → Type 0) (R : Li
     begin = λ e k d t l how parent M new may none more z.
         let D = begin_action l how parent (parent_of parent t.coord) t.coord in
         let a = begins_in how parent t in
-        walk_from (a ∷ z.0) M.sent (λ f w. let g = z.3 f (as_older values f x a z.0 M.sent w) in g.0) e k D.outs (with_coord t D.part) d (given l (record { node = k; serial = is_serial_kind how }) M) (kept_begin e k d t l how parent M new may none more z (λ f a. always f z.0 (let g = z.3 f a in g.0) (up k d t M)));
+        walk_from (a ∷ z.0) M.sent (λ f w. let g = z.3 f (as_older Apt f x a z.0 M.sent w) in g.0) e k D.outs (with_coord t D.part) d (given l (record { node = k; serial = is_serial_kind how }) M) (kept_begin e k d t l how parent M new may none more z (λ f a. always f z.0 (let g = z.3 f a in g.0) (up k d t M)));
     tick = λ e k d t M more z. walk_from z.0 M.sent (λ f a. let g = z.3 f a in g.0) e k (tick_outs (record { number = k; disk = d; live = Some t }) t) (with_coord t (let q = again_all t.coord.doings t.coord in q.part)) d M (kept_tick e k d t M more z (λ f a. always f z.0 (let g = z.3 f a in g.0) (up k d t M)));
     restart = λ e k d M more z. walk_from z.0 M.sent (λ f a. let g = z.3 f a in g.0) e k (restart_outs hd k (d.inc + 1) d) (parts_in k (d.inc + 1) d) d M (kept_restart e k d M more z (λ f a. always f z.0 (let g = z.3 f a in g.0) (down k d M)));
     first = first_kept;
@@ -522,16 +522,16 @@ module _ (hd : Header) (values : Values) (x : ℕ) (G : Seen → Type 0) (R : Li
   gives_all f begins = gives_by hd f x (λ begun S M. G M × R begun M) (λ begun S M. (G M × R begun M) × Nothing f begun S M) (λ begun S M q. q.0) (gives f begins)
 
   pub locks_given : KeepsGiven hd G (AreLocksSeen values x R)
-  locks_given = given_as hd G (LocksSo values ⊥ x R) (AreLocksSeen values x R)
+  locks_given = given_as hd G (LocksSo (BeginsAs values x) ⊥ x R) (AreLocksSeen values x R)
       (λ M z. (z.0, z.1, z.2, (λ f agrees. let g = z.3 f agrees in (g.0, g.1, g.2)), z.4))
       (λ M z. (z.0, z.1, z.2, (λ f agrees. let g = z.3 f agrees in (g.0, g.1, g.2, (λ never. absurd never))), z.4))
-      (so_given hd values x G R Nothing keeps gives_all ⊥ (λ M g never. absurd never) (λ f begun S M. tt))
+      (so_given hd (BeginsAs values x) x G R Nothing keeps gives_all ⊥ (λ M g never. absurd never) (λ f begun S M. tt))
 
   pub votes_given : ((M : Seen) → G M → AllVotesAreUsed M) → KeepsGiven hd G (AreLocksVoted values x R)
-  votes_given used = given_as hd G (LocksSo values ⊤ x R) (AreLocksVoted values x R)
+  votes_given used = given_as hd G (LocksSo (BeginsAs values x) ⊤ x R) (AreLocksVoted values x R)
       (λ M z. (z.0, z.1, z.2, (λ f agrees. let g = z.3 f agrees in (g.0, g.1, g.2, g.3 tt)), z.4))
       (λ M z. (z.0, z.1, z.2, (λ f agrees. let g = z.3 f agrees in (g.0, g.1, g.2, (λ u. g.3))), z.4))
-      (so_given hd values x G R Nothing keeps gives_all ⊤ (λ M g u. used M g) (λ f begun S M. tt))
+      (so_given hd (BeginsAs values x) x G R Nothing keeps gives_all ⊤ (λ M g u. used M g) (λ f begun S M. tt))
 
 pub votes_are_kept : VotesAreKept
 votes_are_kept hd values x before test keeps gives used everywhere = kept_both hd (λ M. before M ≡ true) (AreLocksVoted values x (λ begun N. test begun N ≡ true)) everywhere (votes_given hd values x (λ M. before M ≡ true) (λ begun M. test begun M ≡ true) keeps gives used)

@@ -39,6 +39,10 @@ pub record Agrees (f : Fixed) (x : ℕ) (begun : List Action) (sent : List Post)
 abbrev pub BeginsAs : Values → ℕ → Fixed → Type 0
 BeginsAs values x f = f.first ≡ f.code (values x) (f.act nobody)
 
--- it agrees with what was done so far, and begins so
+-- it agrees with what was done so far, and is so
+abbrev pub AgreesBy : (Fixed → Type 0) → Fixed → ℕ → List Action → List Post → Type 0
+AgreesBy Apt f x begun sent = Agrees f x begun sent × Apt f
+
+-- it agrees, and begins so
 abbrev pub AgreesAs : Values → Fixed → ℕ → List Action → List Post → Type 0
-AgreesAs values f x begun sent = Agrees f x begun sent × BeginsAs values x f
+AgreesAs values f x begun sent = AgreesBy (BeginsAs values x) f x begun sent

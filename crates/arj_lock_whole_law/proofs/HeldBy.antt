@@ -29,7 +29,8 @@ use Rattle.arj_lock_run_law.specs.Tied.{AreTied}
 use Rattle.arj_serial_law.specs.Codes.{code_of}
 use Rattle.arj_serial_law.specs.Locked.{AreRowsSeen, IsLockedIn, IsSeenAt, IsWrittenIn, joins_top, joins_with, ran_at}
 use Rattle.arj_serial_law.specs.Seen.{IsCalled, RequestsAreOne}
-use Rattle.arj_serial_law.specs.Tied.{IsTied}
+use Rattle.arj_serial_law.specs.Tied.{AreApart, IsTied}
+use Rattle.arj_serial_law.proofs.Codes.{codes_are_apart}
 use Rattle.arj_serial_law.proofs.Begun.{path_same}
 use Rattle.arj_serial_law.proofs.Joins.{written_in}
 use Rattle.arj_serial_law.proofs.Locks.{at_one_node, called_by, locked_in, tie}
@@ -78,7 +79,7 @@ pub record OfObject (hd : Header) (es : List Asked) (x : ℕ) : Type 0 where
   pub one : (c d : Call) → In c (committed_calls (journal hd es)) → In d (committed_calls (journal hd es)) → c.x ≡ x → d.x ≡ x → AreAtOneNode (journal hd es) node c d
 
 module _ (hd : Header) (values : Values) (x : ℕ) (es : List Asked) (sent : List Post) (begun : List Action) (alike : IsAlikeOf begun (see sent (run_all es (format hd))))
-    (seen : (f : Fixed) → AgreesAs values f x begun sent → (S : State) × SeesLocks f x begun S (see sent (run_all es (format hd))) × AreTied f x (journal hd es) S) (knows : RequestsAreOne (see sent (run_all es (format hd)))) where
+    (seen : (f : Fixed) → AreApart f.code → AgreesAs values f x begun sent → (S : State) × SeesLocks f x begun S (see sent (run_all es (format hd))) × AreTied f x (journal hd es) S) (knows : RequestsAreOne (see sent (run_all es (format hd)))) where
   abbrev M : Seen
   M = see sent (run_all es (format hd))
 
@@ -93,10 +94,10 @@ module _ (hd : Header) (values : Values) (x : ℕ) (es : List Asked) (sent : Lis
   agreed = agrees_at values x M begun alike seen knows code_of
 
   abbrev pub last : State
-  last = (seen fixed agreed).0
+  last = (seen fixed codes_are_apart agreed).0
 
   abbrev t : IsTied values lines x last
-  t = let g = seen fixed agreed in tied_at values x M begun alike seen knows g.0 g.1 g.2
+  t = let g = seen fixed codes_are_apart agreed in tied_at values x M begun alike seen knows g.0 g.1 g.2
 
   right : AreRight new_book lines
   right = let q = alike.2 in q.right

@@ -20,6 +20,7 @@ use Rattle.arj_lock_run_law.specs.Kept.{GivesLocks}
 use Rattle.arj_lock_run_law.specs.Sees.{SeesLocks}
 use Rattle.arj_lock_run_law.specs.Tied.{AreTied}
 use Rattle.arj_serial_law.specs.Seen.{RequestsAreOne}
+use Rattle.arj_serial_law.specs.Tied.{AreApart}
 use Rattle.arj_lock_whole_law.specs.Held.{AfterEach, RunsHoldLocks}
 use Rattle.arj_lock_whole_law.specs.Runs.{IsRest}
 use Rattle.arj_lock_whole_law.specs.Whole.{KnowsWhole}
@@ -59,11 +60,11 @@ module _ (hd : Header) (values : Values) (x : ℕ) (has : HasObject hd x) (E : L
     abbrev z : LocksOn hd values x Kept keeps gives all M
     z = h.holds.1 few
 
-    abbrev seen : (f : Fixed) → AgreesAs values f x z.0 M.sent → (S : State) × SeesLocks f x z.0 S M × AreTied f x M.lines S
-    seen f agrees = let g = z.3 f agrees in (g.0, g.1, g.2)
+    abbrev seen : (f : Fixed) → AreApart f.code → AgreesAs values f x z.0 M.sent → (S : State) × SeesLocks f x z.0 S M × AreTied f x M.lines S
+    seen f apart agrees = let g = z.3 f agrees in (g.0, g.1, g.2)
 
     knows : RequestsAreOne M
-    knows = (locked hd values x has E rest M (know hd values x Kept keeps gives M h.holds.0 few) (z.0, z.1, z.2, seen, z.4)).3
+    knows = (locked hd values x has E rest M (know hd values x Kept keeps gives M h.holds.0 few) (z.0, z.1, z.2, (λ f agrees. let g = z.3 f agrees in (g.0, g.1, g.2)), z.4)).3
 
     abbrev f : Fixed
     f = fixed hd values x es h.sent z.0 z.1 seen knows

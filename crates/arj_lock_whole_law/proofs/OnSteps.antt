@@ -37,7 +37,7 @@ module _ (hd : Header) (values : Values) (x : ℕ) (R : List Action → Seen →
   pub record Origin : Type 0 where
     pub world : World
     pub sent : List Post
-    pub seen : LocksSo values ⊥ x R (see sent world)
+    pub seen : LocksSo (BeginsAs values x) ⊥ x R (see sent world)
 
   -- the machine has gone from there to this state
   abbrev pub GoesFrom : Origin → Fixed → State → Type 0
@@ -47,12 +47,12 @@ module _ (hd : Header) (values : Values) (x : ℕ) (R : List Action → Seen →
   abbrev pub LocksOn : List Origin → Seen → Type 0
   LocksOn os M = (begun : List Action) × IsAlikeOf begun M × R begun M × ((f : Fixed) → AgreesAs values f x begun M.sent → (S : State) × SeesLocks f x begun S M × AreTied f x M.lines S × AllByRecursion (λ (o : Origin). GoesFrom o f S) os) × AreCoordsNamed M
 
-  abbrev pub so_of : (os : List Origin) (M : Seen) → LocksOn os M → LocksSo values ⊥ x R M
+  abbrev pub so_of : (os : List Origin) (M : Seen) → LocksOn os M → LocksSo (BeginsAs values x) ⊥ x R M
   so_of os M z = (z.0, z.1, z.2, (λ f agrees. let g = z.3 f agrees in (g.0, g.1, g.2, (λ never. absurd never))), z.4)
 
   -- what a step leaves
   next_on : (os : List Origin) (M : Seen) (z : LocksOn os M) (begun : List Action) (less : (f : Fixed) → AgreesAs values f x begun M.sent → AgreesAs values f x z.0 M.sent) (N : Seen)
-      → LocksFrom values ⊥ x R begun M.sent (λ f a. let g = z.3 f (less f a) in g.0) N → LocksOn os N
+      → LocksFrom (BeginsAs values x) ⊥ x R begun M.sent (λ f a. let g = z.3 f (less f a) in g.0) N → LocksOn os N
   next_on os M z begun less N y = (
     begun,
     y.0,
@@ -65,9 +65,9 @@ module _ (hd : Header) (values : Values) (x : ℕ) (R : List Action → Seen →
   )
 
   walk_on : (os : List Origin) (M : Seen) (z : LocksOn os M) (begun : List Action) (less : (f : Fixed) → AgreesAs values f x begun M.sent → AgreesAs values f x z.0 M.sent) (e k : ℕ) (outs : List Effect) (v : Parts) (d : Disk) (N : Seen)
-      → Walks (LocksFrom values ⊥ x R begun M.sent (λ f a. let g = z.3 f (less f a) in g.0)) e k outs (Up (LocksFrom values ⊥ x R begun M.sent (λ f a. let g = z.3 f (less f a) in g.0)) k v) d N → Walks (LocksOn os) e k outs (Up (LocksOn os) k v) d N
+      → Walks (LocksFrom (BeginsAs values x) ⊥ x R begun M.sent (λ f a. let g = z.3 f (less f a) in g.0)) e k outs (Up (LocksFrom (BeginsAs values x) ⊥ x R begun M.sent (λ f a. let g = z.3 f (less f a) in g.0)) k v) d N → Walks (LocksOn os) e k outs (Up (LocksOn os) k v) d N
   walk_on os M z begun less e k outs v d N w =
-      let F : Seen → Type 0 = LocksFrom values ⊥ x R begun M.sent (λ f a. let g = z.3 f (less f a) in g.0) in
+      let F : Seen → Type 0 = LocksFrom (BeginsAs values x) ⊥ x R begun M.sent (λ f a. let g = z.3 f (less f a) in g.0) in
       walks_to F (LocksOn os) e k outs (Up F k v) (Up (LocksOn os) k v) d N (next_on os M z begun less) (λ c L h. next_on os M z begun less (up k c v L) h) w
 
   abbrev Nothing : Fixed → List Action → State → Seen → Type 0
@@ -103,34 +103,34 @@ module _ (hd : Header) (values : Values) (x : ℕ) (R : List Action → Seen →
       (λ few.
           let r = few_before M.lines (numbered e bs) few in
           let z = h.1 r in
-          next_on os M z z.0 (λ f a. a) (said e bs M) (quiet_kept hd values x KnowsFew R Nothing keeps gives_all ⊥ unused e bs M quiet (know M h.0 r) (so_of os M z))),
+          next_on os M z z.0 (λ f a. a) (said e bs M) (quiet_kept hd (BeginsAs values x) x KnowsFew R Nothing keeps gives_all ⊥ unused e bs M quiet (know M h.0 r) (so_of os M z))),
     );
     stop = λ e k d live M h. (
       w.stop e k d live M h.0,
       (λ few.
           let r = few_before M.lines (numbered e (body.Halted k ∷ [])) few in
           let z = h.1 r in
-          next_on os (at k d live M) z z.0 (λ f a. a) (halted e k d M) (stop_kept hd values x KnowsFew R Nothing keeps gives_all ⊥ unused e k d live M (know (at k d live M) h.0 r) (so_of os (at k d live M) z) (λ f a. tt))),
+          next_on os (at k d live M) z z.0 (λ f a. a) (halted e k d M) (stop_kept hd (BeginsAs values x) x KnowsFew R Nothing keeps gives_all ⊥ unused e k d live M (know (at k d live M) h.0 r) (so_of os (at k d live M) z) (λ f a. tt))),
     );
     message = λ e k d t v from m outs M h there meant is. both os e k outs v d M (w.message e k d t v from m outs M h.0 there meant is) (λ few.
         let z = h.1 few in
-        walk_on os (up k d t M) z z.0 (λ f a. a) e k outs v d M (kept_message hd values x KnowsFew R Nothing keeps gives_all ⊥ unused e k d t v from m outs M (know (up k d t M) h.0 few) (so_of os (up k d t M) z) (λ f a. tt) there meant is));
+        walk_on os (up k d t M) z z.0 (λ f a. a) e k outs v d M (kept_message hd (BeginsAs values x) x KnowsFew R Nothing keeps gives_all ⊥ unused e k d t v from m outs M (know (up k d t M) h.0 few) (so_of os (up k d t M) z) (λ f a. tt) there meant is));
     act = λ e k d t i M is asks free h. let did = acts i d.intents t.coord in both os e k did.outs (with_coord t did.part) d M (w.act e k d t i M is asks free h.0) (λ few.
         let z = h.1 few in
-        walk_on os (up k d t M) z z.0 (λ f a. a) e k did.outs (with_coord t did.part) d M (kept_act hd values x KnowsFew R Nothing keeps gives_all ⊥ unused e k d t i M is free (know (up k d t M) h.0 few) (so_of os (up k d t M) z) (λ f a. tt)));
+        walk_on os (up k d t M) z z.0 (λ f a. a) e k did.outs (with_coord t did.part) d M (kept_act hd (BeginsAs values x) x KnowsFew R Nothing keeps gives_all ⊥ unused e k d t i M is free (know (up k d t M) h.0 few) (so_of os (up k d t M) z) (λ f a. tt)));
     begin = λ e k d t l how parent M new may free h.
         let did = begin_action l how parent (parent_of parent t.coord) t.coord in
         let N = given l (record { node = k; serial = is_serial_kind how }) M in
         let a = begins_in how parent t in
         both os e k did.outs (with_coord t did.part) d N (w.begin e k d t l how parent M new may free h.0) (λ few.
         let z = h.1 few in
-        walk_on os (up k d t M) z (a ∷ z.0) (λ f y. as_older values f x a z.0 M.sent y) e k did.outs (with_coord t did.part) d N (kept_begin hd values x KnowsFew R Nothing keeps gives_all ⊥ unused e k d t l how parent M new may free (know (up k d t M) h.0 few) (so_of os (up k d t M) z) (λ f b. tt)));
+        walk_on os (up k d t M) z (a ∷ z.0) (λ f y. as_older (BeginsAs values x) f x a z.0 M.sent y) e k did.outs (with_coord t did.part) d N (kept_begin hd (BeginsAs values x) x KnowsFew R Nothing keeps gives_all ⊥ unused e k d t l how parent M new may free (know (up k d t M) h.0 few) (so_of os (up k d t M) z) (λ f b. tt)));
     tick = λ e k d t M h. both os e k (tick_outs (record { number = k; disk = d; live = Some t }) t) (with_coord t (let q = again_all t.coord.doings t.coord in q.part)) d M (w.tick e k d t M h.0) (λ few.
         let z = h.1 few in
-        walk_on os (up k d t M) z z.0 (λ f a. a) e k (tick_outs (record { number = k; disk = d; live = Some t }) t) (with_coord t (let q = again_all t.coord.doings t.coord in q.part)) d M (kept_tick hd values x KnowsFew R Nothing keeps gives_all ⊥ unused e k d t M (know (up k d t M) h.0 few) (so_of os (up k d t M) z) (λ f a. tt)));
+        walk_on os (up k d t M) z z.0 (λ f a. a) e k (tick_outs (record { number = k; disk = d; live = Some t }) t) (with_coord t (let q = again_all t.coord.doings t.coord in q.part)) d M (kept_tick hd (BeginsAs values x) x KnowsFew R Nothing keeps gives_all ⊥ unused e k d t M (know (up k d t M) h.0 few) (so_of os (up k d t M) z) (λ f a. tt)));
     restart = λ e k d M h. both os e k (restart_outs hd k (d.inc + 1) d) (parts_in k (d.inc + 1) d) d M (w.restart e k d M h.0) (λ few.
         let z = h.1 few in
-        walk_on os (down k d M) z z.0 (λ f a. a) e k (restart_outs hd k (d.inc + 1) d) (parts_in k (d.inc + 1) d) d M (kept_restart hd values x KnowsFew R Nothing keeps gives_all ⊥ unused e k d M (know (down k d M) h.0 few) (so_of os (down k d M) z) (λ f a. tt)));
+        walk_on os (down k d M) z z.0 (λ f a. a) e k (restart_outs hd k (d.inc + 1) d) (parts_in k (d.inc + 1) d) d M (kept_restart hd (BeginsAs values x) x KnowsFew R Nothing keeps gives_all ⊥ unused e k d M (know (down k d M) h.0 few) (so_of os (down k d M) z) (λ f a. tt)));
     first = tt;
   }
     where

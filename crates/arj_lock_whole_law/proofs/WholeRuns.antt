@@ -71,8 +71,8 @@ all_seen values x M l = (
   l.0,
   l.1,
   λ code.
-      let f = fixed_at values x M l.0 l.1 l.2 l.3 code in
-      let agrees = agrees_at values x M l.0 l.1 l.2 l.3 code in
+      let f = fixed_at values x M l.0 l.1 (λ g apart a. l.2 g a) l.3 code in
+      let agrees = agrees_at values x M l.0 l.1 (λ g apart a. l.2 g a) l.3 code in
       let z = l.2 f agrees in
       record { fixed = f; codes = refl; first = refl; agrees = agrees.0; state = z.0; sees = z.1; tied = z.2 },
 )
@@ -106,7 +106,10 @@ runs_are_tied hd test rest es most x called =
     let has = runs_call_objects hd es x called in
     let h = runs_are_locked hd (first_values hd) x has (test x) (rest x has) es most in
     let l = h.holds in
-    locked_tied (first_values hd) x (see h.sent (run_all es (format hd))) l.0 l.1 l.2 l.3
+    locked_tied (first_values hd) x (see h.sent (run_all es (format hd))) l.0 l.1 (λ f apart a. l.2 f a) l.3
 
 pub runs_are_serial : RunsAreSerial
-runs_are_serial hd test rest es most = locked_runs_are_serial hd es (λ x called. let has = runs_call_objects hd es x called in runs_are_locked hd (first_values hd) x has (test x) (rest x has) es most)
+runs_are_serial hd test rest es most = locked_runs_are_serial hd es (λ x called. let has = runs_call_objects hd es x called in
+    let h = runs_are_locked hd (first_values hd) x has (test x) (rest x has) es most in
+    let l = h.holds in
+    record { sent = h.sent; stands = h.stands; holds = (l.0, l.1, (λ f apart a. l.2 f a), l.3) })

@@ -25,7 +25,6 @@ use Rattle.arj_serial_law.specs.Seen.{IsCalled, IsLocked, IsSerialRun}
 use Rattle.arj_serial_law.specs.Tied.{AreTied}
 use Rattle.arj_lock_whole_law.specs.Called.{IsIncluded}
 use Rattle.arj_lock_whole_law.specs.Rest.{GivesRest}
-use Rattle.arj_lock_whole_law.specs.Stored.{GivesStored}
 use Rattle.arj_lock_whole_law.specs.Whole.{KnowsWhole}
 
 -- each handler keeps what is known of the protocol alone, for an object of the header, where few bindings were made
@@ -40,12 +39,6 @@ Known x E begun M = KnowsFew M × (KnowsWhole x begun M × E begun M)
 pub record IsRest (hd : Header) (values : Values) (x : ℕ) (E : List Action → Seen → Type 0) : Type 0 where
   pub kept : KeepsOf hd (λ begun M. KnowsFew M × KnowsWhole x begun M) E
   pub gives : (f : Fixed) → BeginsAs values x f → GivesRest f x (λ begun S M. Known x E begun M)
-
--- The same, where more is known of the machine's state in which the object is seen: all that is still to be given is what stores give to calls, as
--- they answer.
-pub record IsRestBeside (hd : Header) (values : Values) (x : ℕ) (E : List Action → Seen → Type 0) (Y : Fixed → List Action → State → Seen → Type 0) : Type 0 where
-  pub kept : KeepsOf hd (λ begun M. KnowsFew M × KnowsWhole x begun M) E
-  pub gives : (f : Fixed) → BeginsAs values x f → GivesStored f x (λ begun S M. Known x E begun M × Y f begun S M)
 
 -- The object is seen by its lock machine, in these codes and from this first value: what is fixed agrees with all that was done, and the
 -- journal is tied to the machine's state.

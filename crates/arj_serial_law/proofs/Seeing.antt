@@ -28,7 +28,7 @@ use Rattle.arj_view_law.specs.Seen.{Seen}
 use Rattle.arj_lock_view_law.specs.Copies.{Codes}
 use Rattle.arj_serial_law.specs.Codes.{code_of}
 use Rattle.arj_serial_law.specs.Seen.{GivenRunsAreSerial, RequestsAreOne, LockedRunsAreSerial}
-use Rattle.arj_serial_law.specs.Tied.{IsTied}
+use Rattle.arj_serial_law.specs.Tied.{AreApart, IsTied}
 use Rattle.arj_serial_law.proofs.Begun.{begun_have_places}
 use Rattle.arj_serial_law.proofs.Codes.{codes_are_apart}
 use Rattle.arj_serial_law.proofs.Order.{all_freed, all_in_order, all_in_time}
@@ -36,7 +36,7 @@ use Rattle.arj_serial_law.proofs.Ties.{Ties, ties_of}
 use Rattle.arj_serial_law.proofs.Values.{are_answered}
 
 -- in places of its own, and in any codes
-module _ (values : Values) (x : ℕ) (M : Seen) (begun : List Action) (alike : IsAlikeOf begun M) (seen : (f : Fixed) → AgreesAs values f x begun M.sent → (S : State) × SeesLocks f x begun S M × AreTiedNow f x M.lines S) (knows : RequestsAreOne M) where
+module _ (values : Values) (x : ℕ) (M : Seen) (begun : List Action) (alike : IsAlikeOf begun M) (seen : (f : Fixed) → AreApart f.code → AgreesAs values f x begun M.sent → (S : State) × SeesLocks f x begun S M × AreTiedNow f x M.lines S) (knows : RequestsAreOne M) where
   pub right : AreRight new_book M.lines
   right = let w = alike.2 in w.right
 
@@ -65,7 +65,7 @@ module _ (values : Values) (x : ℕ) (M : Seen) (begun : List Action) (alike : I
   }
 
   pub locked_tied : (S : State) × IsTied values M.lines x S
-  locked_tied = let s = seen (fixed_at code_of) (agrees_at code_of) in (s.0, tied_at s.0 s.1 s.2)
+  locked_tied = let s = seen (fixed_at code_of) codes_are_apart (agrees_at code_of) in (s.0, tied_at s.0 s.1 s.2)
 
 pub locked_runs_are_serial : LockedRunsAreSerial
 locked_runs_are_serial hd es locked = (
@@ -92,4 +92,4 @@ pub given_runs_are_serial : GivenRunsAreSerial
 given_runs_are_serial hd es before test everywhere requests gives = locked_runs_are_serial hd es (λ x called.
     let g = gives x called in
     let h = runs_keep_locks hd (first_values hd) x before (test x) g.0 g.1 everywhere es in
-    record { sent = h.sent; stands = h.stands; holds = (let z = h.holds in (z.1.0, z.1.1, z.1.3, requests _ z.0)) })
+    record { sent = h.sent; stands = h.stands; holds = (let z = h.holds in (z.1.0, z.1.1, (λ f apart a. z.1.3 f a), requests _ z.0)) })

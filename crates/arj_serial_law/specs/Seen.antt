@@ -22,6 +22,7 @@ use Rattle.arj_lock_run_law.specs.Fixed.{AgreesAs, BeginsAs, Fixed}
 use Rattle.arj_lock_run_law.specs.Kept.{GivesLocks}
 use Rattle.arj_lock_run_law.specs.Sees.{SeesLocks}
 use Rattle.arj_lock_run_law.specs.Tied.{AreTied}
+use Rattle.arj_serial_law.specs.Tied.{AreApart}
 
 -- a call on the object was answered
 abbrev pub IsCalled : ℕ → List Line → Type 0
@@ -37,9 +38,13 @@ pub record RequestsAreOne (M : Seen) : Type 0 where
 abbrev pub IsLocked : Values → ℕ → Seen → Type 0
 IsLocked values x M = (begun : List Action) × IsAlikeOf begun M × ((f : Fixed) → AgreesAs values f x begun M.sent → (S : State) × SeesLocks f x begun S M × AreTied f x M.lines S) × RequestsAreOne M
 
+-- so it is for all that tells values apart
+abbrev pub IsLockedApart : Values → ℕ → Seen → Type 0
+IsLockedApart values x M = (begun : List Action) × IsAlikeOf begun M × ((f : Fixed) → AreApart f.code → AgreesAs values f x begun M.sent → (S : State) × SeesLocks f x begun S M × AreTied f x M.lines S) × RequestsAreOne M
+
 -- so it is at the end of this run, of each object of which a call was answered
 abbrev pub AreLocked : Header → List Asked → Type 0
-AreLocked hd es = (x : ℕ) → IsCalled x (journal hd es) → Holds hd (IsLocked (first_values hd) x) (run_all es (format hd))
+AreLocked hd es = (x : ℕ) → IsCalled x (journal hd es) → Holds hd (IsLockedApart (first_values hd) x) (run_all es (format hd))
 
 -- its journal is serial, and its calls give the same answers where each committed nested action runs whole at its commit
 abbrev pub IsSerialRun : Header → List Asked → Type 0
