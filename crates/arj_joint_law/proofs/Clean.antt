@@ -21,7 +21,8 @@ use Rattle.arj_disk_law.specs.Core.{Core}
 use Rattle.arj_disk_law.proofs.Base.{bool_cases}
 use Rattle.arj_base.specs.Uid.{nobody}
 use Rattle.std.proofs.lemmas.Bool.{and_parts}
-use Rattle.arj_joint_law.proofs.LightPlaces.{unlisted_there}
+use Rattle.arj_joint_law.proofs.LightPlaces.{is_there, unlisted_there}
+use Rattle.arj_joint_law.proofs.LightStep.{decided_out}
 use Rattle.arj_joint_law.proofs.Listing.{in_among}
 use Rattle.arj_disk_law.proofs.Listing.{filter_none}
 use Rattle.arj_law.specs.Growth.{IdleInPlace, first_stores}
@@ -65,10 +66,6 @@ use Rattle.arj_lock_law.specs.State.{State}
 use Rattle.arj_serial_law.specs.Seen.{IsSerialRun}
 use Rattle.arj_serial_law.specs.Tied.{IsTied}
 
-decided_out : (ds : List Done) (t : ℕ) → decided_in ds t ≡ true → (d : Done) × disk.In d ds × (d.top ≡ t)
-decided_out [] t on = absurd (cc on)
-decided_out (e ∷ ds) t on = ⊎_elim (λ here. (e, inl refl, eqb-true e.top t here)) (λ there. let r = decided_out ds t there in (r.0, inr r.1, r.2)) (or_which (e.top == t) (decided_in ds t) on)
-
 counted_in : (d : Done) (ds : List Done) → disk.In d ds → d.counts ≡ true → disk.In d (filter counts_of ds)
 counted_in d [] i is = absurd i
 counted_in d (e ∷ ds) (inl same) is = subst (λ b. disk.In d (cond b (e ∷ filter counts_of ds) (filter counts_of ds))) (sym (ap counts_of same ∙ is)) (inl same)
@@ -77,15 +74,6 @@ counted_in d (e ∷ ds) (inr i) is = by e.counts (counted_in d ds i is)
     by : (b : Bool) → disk.In d (filter counts_of ds) → disk.In d (cond b (e ∷ filter counts_of ds) (filter counts_of ds))
     by true j = inr j
     by false j = j
-
-is_there : (t : Top) (ts : List Top) → In t ts → is_one_of ts t ≡ true
-is_there t [] i = absurd i
-is_there t (u ∷ ts) (inl same) = ap (λ b. b || is_one_of ts t) (eq-eqb u.id t.id (ap (λ (z : Top). z.id) same))
-is_there t (u ∷ ts) (inr i) = by (u.id == t.id) (is_there t ts i)
-  where
-    by : (b : Bool) → is_one_of ts t ≡ true → (b || is_one_of ts t) ≡ true
-    by true on = refl
-    by false on = on
 
 found_there : (t : Top) (ts : List Top) → is_one_of ts t ≡ true → (u : Top) × In u ts × (u.id ≡ t.id)
 found_there t [] on = absurd (cc on)

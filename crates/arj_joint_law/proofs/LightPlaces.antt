@@ -96,6 +96,16 @@ stays_unlisted lines x s stores (t ∷ ts) adds off = stays_unlisted lines x s (
         by false false none_here ih = ih none_here
         by false true none_here ih = ap (λ c. c || is_among (filter p ns) s) (outside (n == s) none) ∙ ih none_here
 
+-- one that stands among these
+pub is_there : (u : Top) (ts : List Top) → In u ts → is_one_of ts u ≡ true
+is_there u [] i = absurd i
+is_there u (v ∷ ts) (inl same) = ap (λ b. b || is_one_of ts u) (eq-eqb v.id u.id (ap (λ (z : Top). z.id) same))
+is_there u (v ∷ ts) (inr i) = by (v.id == u.id) (is_there u ts i)
+  where
+    by : (b : Bool) → is_one_of ts u ≡ true → (b || is_one_of ts u) ≡ true
+    by true on = refl
+    by false on = on
+
 -- decisions one by one, of two lists
 cut_decisions : (values : Values) (lines : List Line) (x : ℕ) (ds es : List Done) (ts : List Top) → AreDecisions values lines x (ds ++ es) ts → (us : List Top) × (vs : List Top) × (ts ≡ us ++ vs) × AreDecisions values lines x ds us × AreDecisions values lines x es vs
 cut_decisions values lines x [] es ts are = ([], ts, refl, tt, are)
@@ -113,15 +123,6 @@ module _ (values : Values) (lines : List Line) (right : AreRight new_book lines)
 
   its_those : (es : List Done) (ts : List Top) → AreDecisions values lines x es ts → (u : Top) → In u ts → In u (tops lines)
   its_those es ts are_so u i = let m = its_at values lines x S right t es ts are_so u i in let k = its_top_of values lines x S right t m.0 u m.2 in k.listed
-
-  is_there : (u : Top) (ts : List Top) → In u ts → is_one_of ts u ≡ true
-  is_there u [] i = absurd i
-  is_there u (v ∷ ts) (inl same) = ap (λ b. b || is_one_of ts u) (eq-eqb v.id u.id (ap (λ (z : Top). z.id) same))
-  is_there u (v ∷ ts) (inr i) = by (v.id == u.id) (is_there u ts i)
-    where
-      by : (b : Bool) → is_one_of ts u ≡ true → (b || is_one_of ts u) ≡ true
-      by true on = refl
-      by false on = on
 
   -- in the serial order those that count stand as they were decided
   in_order : filter counts (serial_tops lines) ≡ reverse those

@@ -42,7 +42,8 @@ two_of A u w = ⊎_elim (λ same. inr (eqb-true (A.world.disk.root (uid_number u
 pub not_decided : (S : State) (t : ℕ) → undecided S t ≡ true → decided S t ≡ true → {X : Type 0} → X
 not_decided S t open_t on = absurd (never open_t (ap (λ b. not b && (is_open (S.stage t) || is_some (S.intent t))) on))
 
-decided_out : (ds : List Done) (t : ℕ) → decided_in ds t ≡ true → (d : Done) × In d ds × (d.top ≡ t)
+-- a decided top has its decision
+pub decided_out : (ds : List Done) (t : ℕ) → decided_in ds t ≡ true → (d : Done) × In d ds × (d.top ≡ t)
 decided_out [] t on = absurd (cc on)
 decided_out (e ∷ ds) t on = ⊎_elim (λ here. (e, inl refl, eqb-true e.top t here)) (λ there. let r = decided_out ds t there in (r.0, inr r.1, r.2)) (or_cases (e.top == t) (decided_in ds t) on)
 
