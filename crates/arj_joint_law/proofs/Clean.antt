@@ -48,7 +48,7 @@ use Rattle.arj_serial_law.proofs.Including.{are_decided, changers_turn}
 use Rattle.arj_serial_law.proofs.Shown.{files_clean}
 use Rattle.arj_serial_law.proofs.Ties.{Ties, ties_of}
 use Rattle.arj_joint_law.specs.Cleaned.{AreLockTied, AreNamed, RunsAreClean, WholeRunsAreClean, disk_of, is_one_of, number_of}
-use Rattle.arj_joint_law.specs.Fit.{AreFit}
+use Rattle.arj_joint_law.specs.FitRuns.{AreEventsInForm}
 use Rattle.arj_joint_law.specs.Includers.{IncludersTakeTurns, JoinersAreNewestFirst, TakesTurnsSo}
 use Rattle.arj_joint_law.specs.Ordered.{AreSpared, AreTurnsOf, IsOrderedSo}
 use Rattle.arj_joint_law.specs.Shown.{FilesAre, IncludesAreThere}
@@ -443,8 +443,8 @@ runs_are_clean hd es disks test form short heard tied decide files = let held = 
 -- ---- with the lock half
 
 -- with both machines at once
-pub joined_at : (hd : Header) (es : List Asked) → HeaderInForm hd → length es ≤ most_events → AreFit hd (journal hd es) → (x : ℕ) → is_some (object_line hd x) ≡ true → Holds hd (IsJoinedSo hd x) (run_all es (format hd))
-joined_at hd es form short fit x there = runs_are_joined hd x form there es (fit x there) short
+pub joined_at : (hd : Header) (es : List Asked) → HeaderInForm hd → length es ≤ most_events → AreEventsInForm es → (x : ℕ) → is_some (object_line hd x) ≡ true → Holds hd (IsJoinedSo hd x) (run_all es (format hd))
+joined_at hd es form short fit x there = runs_are_joined hd x form there es fit short
 
 -- the journal is tied to the lock machines
 module _ (hd : Header) (es : List Asked) (joined : (x : ℕ) → is_some (object_line hd x) ≡ true → Holds hd (IsJoinedSo hd x) (run_all es (format hd))) where

@@ -26,6 +26,7 @@ use Rattle.arj_lock_whole_law.proofs.AckWalks.{all_at}
 use Rattle.arj_lock_whole_law.proofs.HeldBy.{HasBegun, OfObject, WasSeen, agreed, fixed, holds, last, of_object}
 use Rattle.arj_serial_law.specs.Seen.{RequestsAreOne}
 use Rattle.arj_joint_law.specs.Held.{JointRunsHoldLocks}
+use Rattle.arj_joint_law.proofs.FitRuns.{runs_fit}
 use Rattle.arj_joint_law.specs.Fit.{OpsFit}
 use Rattle.arj_joint_law.proofs.JoinedParts.{Base, Whole}
 use Rattle.arj_joint_law.proofs.Clean.{object_some}
@@ -76,4 +77,4 @@ module _ (hd : Header) (x : ℕ) (form : HeaderInForm hd) (there : is_some (obje
   its_object = ⊎_elim of_none (λ q. its q.0 q.1 q.2) (ends hd x form there es (format hd) [] refl (omega (arith, short)) (scripts_few hd es short))
 
 pub joint_runs_hold_locks : JointRunsHoldLocks
-joint_runs_hold_locks hd es form short fit = holds hd es (λ x has. let there = object_some hd x has in its_object hd x form there es short (fit x there))
+joint_runs_hold_locks hd es form short fit = holds hd es (λ x has. let there = object_some hd x has in its_object hd x form there es short (runs_fit hd x es fit))

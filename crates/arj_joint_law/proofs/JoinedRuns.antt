@@ -26,13 +26,14 @@ use Rattle.arj_lock_law.specs.State.{State}
 use Rattle.arj_lock_run_law.specs.Fixed.{Fixed}
 use Rattle.arj_joint_law.proofs.JoinedParts.{Base, Carried, Early, Whole, base, locked}
 use Rattle.arj_joint_law.specs.Fit.{OpsFit}
+use Rattle.arj_joint_law.proofs.FitRuns.{runs_fit}
 use Rattle.arj_joint_law.proofs.Fits.{fits_before}
 
 -- ---- the law
 
 pub runs_are_joined : RunsAreJoined
 runs_are_joined hd x form there es fit short =
-    let h = ordered_beside hd x (OpsFit x) (fits_before x) (Base hd x) Joined form there (base hd x form there (λ M. ⊤) Nothing (λ M N l f S T run past. tt) (λ f S. tt)) part es short fit in
+    let h = ordered_beside hd x (OpsFit x) (fits_before x) (Base hd x) Joined form there (base hd x form there (λ M. ⊤) Nothing (λ M N l f S T run past. tt) (λ f S. tt)) part es short (runs_fit hd x es fit) in
     record { sent = h.sent; stands = h.stands; holds = joined h.sent h.holds }
   where
     -- of the lock machine's state nothing more

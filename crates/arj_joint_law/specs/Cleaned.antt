@@ -16,7 +16,7 @@ use Rattle.arj_binding_law.specs.Scripts.{most_events}
 use Rattle.arj_disk_run_law.specs.Rest.{KeepsHeard}
 use Rattle.arj_lock_law.specs.State as lock
 use Rattle.arj_serial_law.specs.Tied.{AreTied, IsTied}
-use Rattle.arj_joint_law.specs.Fit.{AreFit}
+use Rattle.arj_joint_law.specs.FitRuns.{AreEventsInForm}
 use Rattle.arj_joint_law.specs.Joined.{AreBareSo, AreWritten}
 use Rattle.arj_joint_law.specs.Ordered.{IsOrderedSo}
 use Rattle.arj_joint_law.specs.Shown.{FilesAre}
@@ -64,9 +64,9 @@ RunsAreClean = (hd : Header) (es : List Asked) (disks : Disks) (heard : ℕ → 
     → FilesAre (see [] (run_all es (format hd))) disks
     → Clean hd (journal hd es) disks
 
--- So where operations are in form: the journal is tied, and decided tops wrote what they gave.
+-- So where the script is in form: the journal is tied, and decided tops wrote what they gave.
 abbrev pub WholeRunsAreClean : Type 0
 WholeRunsAreClean = (hd : Header) (es : List Asked) (disks : Disks) → HeaderInForm hd → length es ≤ most_events
-    → AreFit hd (journal hd es)
+    → AreEventsInForm es
     → FilesAre (see [] (run_all es (format hd))) disks
     → Clean hd (journal hd es) disks

@@ -1,8 +1,7 @@
 -- Journals in which the operations that were answered are in form.
-use Rattle.std.specs.Prelude.{⊤, ◌≡◌, ℕ, List, true, is_some}
+use Rattle.std.specs.Prelude.{⊤, ◌≡◌, ℕ, List}
 use Rattle.std.specs.List.{AllByRecursion}
-use Rattle.arj_model.specs.Last.{object_line}
-use Rattle.arj_protocol.specs.Words.{Body, Header, Line}
+use Rattle.arj_protocol.specs.Words.{Body, Line}
 use Rattle.arj_protocol.specs.Words.body
 use Rattle.arj_text.specs.Fields.{OpTextInForm}
 
@@ -14,7 +13,3 @@ OpFits x _ = ⊤
 -- so it is of each line
 abbrev pub OpsFit : ℕ → List Line → Type 0
 OpsFit x lines = AllByRecursion (λ (l : Line). OpFits x l.body) lines
-
--- and for each object of the header
-abbrev pub AreFit : Header → List Line → Type 0
-AreFit hd lines = (x : ℕ) → is_some (object_line hd x) ≡ true → OpsFit x lines

@@ -7,7 +7,7 @@ use Rattle.arj_protocol.specs.World.{Asked, format, journal, run_all}
 use Rattle.arj_view_law.specs.Seen.{Seen, see}
 use Rattle.arj_binding_law.specs.Scripts.{most_events}
 use Rattle.arj_disk_run_law.specs.Rest.{KeepsHeard}
-use Rattle.arj_joint_law.specs.Fit.{AreFit}
+use Rattle.arj_joint_law.specs.FitRuns.{AreEventsInForm}
 use Rattle.arj_joint_law.specs.Cleaned.{AreLockTied, DecideWrittenSo}
 use Rattle.arj_joint_law.specs.Excluded.{AreExcludedInTime}
 
@@ -19,8 +19,8 @@ RunsExcludeInTime = (hd : Header) (es : List Asked) (heard : ℕ → Seen → Bo
     → ((x : ℕ) → is_some (object_line hd x) ≡ true → DecideWrittenSo hd x es)
     → (let w = run_all es (format hd) in AreExcludedInTime hd w.event (see [] w))
 
--- So where operations are in form: the journal is tied, and decided tops wrote what they gave.
+-- So where the script is in form: the journal is tied, and decided tops wrote what they gave.
 abbrev pub WholeRunsExcludeInTime : Type 0
 WholeRunsExcludeInTime = (hd : Header) (es : List Asked) → HeaderInForm hd → length es ≤ most_events
-    → AreFit hd (journal hd es)
+    → AreEventsInForm es
     → (let w = run_all es (format hd) in AreExcludedInTime hd w.event (see [] w))

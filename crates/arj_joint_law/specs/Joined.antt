@@ -12,7 +12,7 @@ use Rattle.arj_protocol.specs.Commit.{Confirming, Plan, Used, changed_of}
 use Rattle.arj_protocol.specs.Effect.{Intent}
 use Rattle.arj_protocol.specs.Order.{uid_number}
 use Rattle.arj_protocol.specs.Step.{Node}
-use Rattle.arj_protocol.specs.World.{Asked, format, journal, run_all}
+use Rattle.arj_protocol.specs.World.{Asked, format, run_all}
 use Rattle.arj_part_law.specs.Actions.{Action}
 use Rattle.arj_disk_law.specs.Effects.{World}
 use Rattle.arj_disk_law.specs.Names.{Office}
@@ -42,7 +42,7 @@ use Rattle.arj_serial_law.specs.Tied.{AreApart}
 use Rattle.arj_joint_law.specs.Apt.{AgreesApart}
 use Rattle.arj_joint_law.specs.Based.{IsVotedOver}
 use Rattle.arj_joint_law.specs.BasedSteps.{AreBasedSo}
-use Rattle.arj_joint_law.specs.Fit.{AreFit, OpsFit}
+use Rattle.arj_joint_law.specs.FitRuns.{AreEventsInForm}
 use Rattle.arj_joint_law.specs.Includers.{IncludersTakeTurns}
 use Rattle.arj_joint_law.specs.Lights.{LightsAreSplit}
 use Rattle.arj_joint_law.specs.Loads.{AreLoadsLast}
@@ -153,10 +153,10 @@ pub record IsJoinedSo (hd : Header) (x : ℕ) (M : Seen) : Type 0 where
   pub bare : AreBareSo M.lines x (let W = world_of ordered in W.disk)
   pub agree : CopiesAgree x M
 
--- So it is in the run of every script, of each object of the header, of which the operations of answered calls are in form.
+-- So it is in the run of every script in form, of each object of the header.
 abbrev pub RunsAreJoined : Type 0
-RunsAreJoined = (hd : Header) (x : ℕ) → HeaderInForm hd → is_some (object_line hd x) ≡ true → (es : List Asked) → OpsFit x (journal hd es) → length es ≤ most_events → Holds hd (IsJoinedSo hd x) (run_all es (format hd))
+RunsAreJoined = (hd : Header) (x : ℕ) → HeaderInForm hd → is_some (object_line hd x) ≡ true → (es : List Asked) → AreEventsInForm es → length es ≤ most_events → Holds hd (IsJoinedSo hd x) (run_all es (format hd))
 
--- So the run of every script is serial, where that is so of each object.
+-- So the run of every script in form is serial.
 abbrev pub JoinedRunsAreSerial : Type 0
-JoinedRunsAreSerial = (hd : Header) (es : List Asked) → HeaderInForm hd → AreFit hd (journal hd es) → length es ≤ most_events → IsSerialRun hd es
+JoinedRunsAreSerial = (hd : Header) (es : List Asked) → HeaderInForm hd → AreEventsInForm es → length es ≤ most_events → IsSerialRun hd es

@@ -51,7 +51,7 @@ pub fn seen_runs_exclude_in_time()
 /// After the run of each script whose header is in form, of at most 1,000,000 events, stores are excluded in time, on what makes its files
 /// clean (`runs_are_clean`) and nothing more. That decided tops which count for an object and only include a store of it had their commits called
 /// when whoever wrote the object before them had been said is given (`decisions_come_behind_calls`); that who has an entry prepared beside a
-/// new top, of its root, is committed is given here. So it is where operations are in form, in place of a tied journal; and after each event,
+/// new top, of its root, is committed is given here. So it is where the script's events are in form, in place of a tied journal; and after each event,
 /// since the front of a script is one. It does nothing when it runs.
 pub fn runs_exclude_in_time()
     ensures runs { RunsExcludeInTime }

@@ -41,8 +41,8 @@ pub fn decisions_come_behind_calls()
 
 /// After the run of each script whose header is in form, of at most 1,000,000 events, files that are those of its nodes' pairs are clean:
 /// with what the disk machine's half takes alone, where the journal is tied to the lock machines, and decided tops wrote what they gave to the
-/// stores, and those without a record nothing; or where operations are in form (`whole`), where that is given and nothing taken of either half
-/// (`runs_have_both_machines`). That decided tops are the journal's, that machines began as the header
+/// stores, and those without a record nothing; or where the script's events are in form too (`whole`), where that is given and nothing
+/// taken of either half (`runs_have_both_machines`). That decided tops are the journal's, that machines began as the header
 /// says, that all states are of their class, that decided writers stand as their commits were called, that decided tops take those stores out
 /// of the list that their commits excluded and add those that they included, that who counts for nothing excludes no store that is listed in its
 /// place, and that each include names a node of the header, is given here. It does nothing when it runs.
@@ -53,9 +53,8 @@ pub fn runs_are_clean()
     ensures listed { IncludesAreListed }
 {}
 
-/// After the run of each script whose header is in form, of at most 1,000,000 events, in whose journal the operations of answered calls are in form
-/// (`OpsFit`), there are for each object of the header states of both of its
-/// machines at once: of the disk machine, as `decisions_come_behind_calls` has it; and of the lock machine, to which the journal is tied, in
+/// After the run of each script whose header and events are in form, of at most 1,000,000 events, there are for each object of the header states
+/// of both of its machines at once: of the disk machine, as `decisions_come_behind_calls` has it; and of the lock machine, to which the journal is tied, in
 /// which commits under way have the votes that came. Each top that is decided, or has a record, has in the disk machine the plan with which it
 /// waited for naming in an earlier state of the lock machine: what it changes the object to is what the server voted that was called, over a state that
 /// was the last one once; and so it is known of copies and votes, and of committed tops with surviving writes (`AreBasedSo`). So each
@@ -63,7 +62,7 @@ pub fn runs_are_clean()
 /// copies agree; and the run is serial. Of the disk half nothing is taken: by which version naming takes a top's Confirm the lock half gives,
 /// and so the premise of the laws above is no premise here. Nor is anything taken of the lock half: that commits of tops with surviving writes were
 /// recorded is given here, and so is that what a store gives to a call that waits for it, under a binding that is current, is the last committed
-/// state: it is the last one of the disk machine, which the newest surviving write left, and that is read back where operations are in form. It
+/// state: it is the last one of the disk machine, which the newest surviving write left, and that is read back, since operations are in form. It
 /// does nothing when it runs.
 pub fn runs_have_both_machines()
     ensures joined { RunsAreJoined }
