@@ -17,7 +17,7 @@ use Rattle.arj_serial_law.specs.Locked.{joins_with, locks_call, locks_entry, wri
 use Rattle.arj_table_law.specs.Tables.{rows_on}
 use Rattle.arj_lock_whole_law.specs.Held.{AfterEach, HoldsLocks, IsHeldNow, IsWrittenNow, entry_locks, locks_at}
 use Rattle.arj_lock_whole_law.proofs.Fronts.{each_grown}
-use Rattle.arj_lock_whole_law.proofs.Holding.{runs_hold_locks}
+use Rattle.arj_joint_law.proofs.Holding.{joint_runs_hold_locks}
 use Rattle.arj_held_law.specs.Held.{HoldsInTables, IsLockedNow, IsWrittenSo, RunsHoldInTables}
 use Rattle.arj_held_law.specs.Shown.{AreShown}
 use Rattle.arj_held_law.proofs.Events.{tables_show}
@@ -89,4 +89,4 @@ in_tables hd es h = record {
 }
 
 pub runs_hold : RunsHoldInTables
-runs_hold hd test rest es most = in_tables hd es (runs_hold_locks hd test rest es most)
+runs_hold hd es form short fit = in_tables hd es (joint_runs_hold_locks hd es form short fit)

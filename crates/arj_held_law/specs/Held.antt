@@ -1,6 +1,7 @@
 -- Held and entry held by the tables of a journal, at the end of each event of each script.
-use Rattle.std.specs.Prelude.{◌<◌, ◌≤◌, ℕ, Bool, List, length}
+use Rattle.std.specs.Prelude.{◌<◌, ◌≤◌, ℕ, List, length}
 use Rattle.std.specs.List.{AllByRecursion}
+use Rattle.arj_journal.specs.ScriptForm.{HeaderInForm}
 use Rattle.arj_protocol.specs.Words.{Header, Line}
 use Rattle.arj_protocol.specs.World.{Asked, World, format, journal}
 use Rattle.arj_model.specs.Actions.{Placed}
@@ -10,11 +11,9 @@ use Rattle.arj_model.specs.Serial.{unit_place}
 use Rattle.arj_law.specs.Book.{OfEachTwo}
 use Rattle.arj_law.specs.Held.{AreAtOneNode, tables_of, unit_end}
 use Rattle.arj_binding_law.specs.Scripts.{most_events}
-use Rattle.arj_part_law.specs.Actions.{Action}
 use Rattle.arj_serial_law.specs.Locked.{IsLockedIn, IsWrittenIn, joins_with}
-use Rattle.arj_view_law.specs.Seen.{Seen}
 use Rattle.arj_lock_whole_law.specs.Held.{AfterEach}
-use Rattle.arj_lock_whole_law.specs.Runs.{AreRest}
+use Rattle.arj_joint_law.specs.FitRuns.{AreEventsInForm}
 
 -- Where the call was answered by the lines of this world, and the commit of its unit's last member isn't called yet, the call is locked for by the
 -- journal's table of this node, on its caller's path; and its object's entry is by that of node 1, for its unit.
@@ -34,6 +33,6 @@ pub record HoldsInTables (hd : Header) (es : List Asked) : Type 0 where
   pub includes : AllByRecursion (λ (u : Top). AllByRecursion (λ (i : Placed Inclusion). AfterEach (IsWrittenSo (journal hd es) u i) (format hd) es) (joins_with (journal hd es) u)) (tops (journal hd es))
   pub at_one : OfEachTwo (AreAtOneNode (journal hd es) node) (committed_calls (journal hd es))
 
--- so it is in the run of every script
+-- so it is in the run of every script in form
 abbrev pub RunsHoldInTables : Type 0
-RunsHoldInTables = (hd : Header) (test : ℕ → List Action → Seen → Bool) → AreRest hd test → (es : List Asked) → length es ≤ most_events → HoldsInTables hd es
+RunsHoldInTables = (hd : Header) (es : List Asked) → HeaderInForm hd → length es ≤ most_events → AreEventsInForm es → HoldsInTables hd es

@@ -5,7 +5,7 @@ ghost use Rattle.arj_held_law.specs.Held.{RunsHoldInTables};
 /// restarts: each surviving call of a committed top has a node in whose table an action on the caller's path has the lock, in a mode that the call
 /// needs, from the event of its `ok` line on until the commit of the last member of its unit is called; and in the table of node 1 the root or an
 /// action of it has a lock on the object's entry. For each surviving include it is a write lock. Calls of one object and of different units that
-/// overlap are at one node. What `specs/Rest.antt` of `arj_lock_whole_law` names is still taken. It does nothing when it runs.
+/// overlap are at one node. It takes that the header and the events are in form, and nothing else. It does nothing when it runs.
 pub fn runs_hold_locks_in_tables()
     ensures { RunsHoldInTables }
 {}
