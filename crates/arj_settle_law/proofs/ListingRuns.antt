@@ -13,7 +13,7 @@ use Rattle.arj_protocol.specs.Words.ask
 use Rattle.arj_protocol.specs.Words.body
 use Rattle.arj_protocol.specs.Words.ending
 use Rattle.arj_protocol.specs.Words.role
-use Rattle.arj_protocol.specs.Ask.{Reply, actor, answers, last_end, top_of}
+use Rattle.arj_protocol.specs.Ask.{Reply, answers, last_end, top_of}
 use Rattle.arj_protocol.specs.Asking.{again_all, begin_action, heard, waits_for_call}
 use Rattle.arj_protocol.specs.Call.{At, AtActivate, AtBind, AtInvoke, AtLoad, AtNote, Steps}
 use Rattle.arj_protocol.specs.Confirm.{Grants, Marks}
@@ -28,7 +28,6 @@ use Rattle.arj_protocol.specs.Order.{at_uid, has, put_uid}
 use Rattle.arj_protocol.specs.Server.{Server}
 use Rattle.arj_protocol.specs.Step as input
 use Rattle.arj_protocol.specs.Step.{Input, Node, acts, first_disk, first_entry, first_state, parent_of, parts_in, put_states, refusal_up, restart_outs, tolds_again}
-use Rattle.arj_protocol.specs.Tree.{at_place, is_own}
 use Rattle.arj_protocol.specs.World.{Labelled, format, is_serial_kind, numbered}
 use Rattle.arj_journal.specs.ScriptForm.{HeaderInForm}
 use Rattle.arj_journal.specs.declared.header.ObjectLine.{ObjectLine}
@@ -36,7 +35,6 @@ use Rattle.arj_part_law.specs.Actions.{paths_of}
 use Rattle.arj_part_law.specs.Coords.{IsGoodCoord}
 use Rattle.arj_part_law.specs.Copies.{IsTree}
 use Rattle.arj_part_law.specs.Ends.{told_by}
-use Rattle.arj_part_law.specs.Requests.{IsNumbered}
 use Rattle.arj_part_law.proofs.Begun.{begun_tree}
 use Rattle.arj_part_law.proofs.Keys.{put_same}
 use Rattle.arj_run_law.specs.Worlds.{IsGoodOf, IsUp}
@@ -57,12 +55,12 @@ use Rattle.arj_disk_view_law.proofs.Frames.{node_here}
 use Rattle.arj_line_law.specs.Book.{book, is_decided, new_book}
 use Rattle.arj_line_law.specs.Right.{IsSaid}
 use Rattle.arj_line_law.proofs.Books.{Later, book_more, later_from}
-use Rattle.arj_lock_fact_law.specs.Requests.{AreAsked, IsAskedBy, RequestsAreKnown}
+use Rattle.arj_lock_fact_law.specs.Requests.{AreAsked, RequestsAreKnown}
 use Rattle.arj_lock_fact_law.proofs.Kept.{Place}
 use Rattle.arj_lock_fact_law.proofs.Requests.{requests_keep}
 use Rattle.arj_wait_law.specs.Asked.{IsAnsweredBy}
 use Rattle.arj_wait_law.proofs.AskedRuns.{acked_quiet, acts_quiet, heard_quiet, query_quiet, tick_quiet}
-use Rattle.arj_wait_law.proofs.Known.{binds_own, waits_req}
+use Rattle.arj_wait_law.proofs.Known.{binds_own}
 use Rattle.arj_wait_law.proofs.Named.{by_more}
 use Rattle.arj_wait_law.proofs.WriterNodes.{put_at}
 use Rattle.arj_joint_law.proofs.Mute.{AllSilent, restart_silent}
@@ -75,6 +73,7 @@ use Rattle.arj_settle_law.proofs.StockParts.{moved_keeps, put_keeps, some_keeps}
 use Rattle.arj_settle_law.proofs.StockRuns.{StocksAreKnown, stocks_keep}
 use Rattle.arj_settle_law.proofs.Stocks.{IsIncluded}
 use Rattle.arj_settle_law.proofs.Trails.{Down, FitsSo, UpBy, Went, halt_went, went}
+use Rattle.arj_wait_law.proofs.Stepping.{of_waiting}
 
 -- the node, if it's there, has a committed state of the object
 abbrev pub IsHeldAt : Seen → ℕ → ℕ → Type 0
@@ -297,24 +296,8 @@ module _ (hd : Header) (e k : ℕ) (d : Disk) (t : Parts) (M : Seen) (base : Lis
         h : Head
         h = w.0
 
-        who : actor h.path ≡ a.act
-        who = ap (λ (z : Asked). z.act) w.4.asker
-
-        last : IsAskedBy t.coord w.4.post.to h (ask.Bind w.1 w.2 w.3)
-        last = asked k here t (node_here M k here) refl w.4.post h (ask.Bind w.1 w.2 w.3) w.4.posted w.4.from w.4.asking (ap (λ u. is_own u t.coord.tree) who ∙ own_it (is_own a.act t.coord.tree) refl does)
-          where
-            own_it : (z : Bool) → is_own a.act t.coord.tree ≡ z → cond z (at_place a.act.num t.coord.doings) None ≡ Some q → is_own a.act t.coord.tree ≡ true
-            own_it true mine found = mine
-            own_it false mine found = absurd (cc found)
-
-        its : q ≡ last.doing
-        its = some_is (sym does ∙ ap (λ u. doing_of u t.coord) (sym who) ∙ last.found)
-
-        number_is : s.req ≡ q.req
-        number_is = let u = its_up in subst (IsNumbered q.req) now (u.numbered a.act q does)
-
         of_step : IsOfStep s w.4.post.to h (ask.Bind w.1 w.2 w.3)
-        of_step = last.step s (ap (λ (z : Doing). z.now) (sym its) ∙ now) (ap (λ (z : Asked). z.req) w.4.asker ∙ sym (waits_req from a r s waits) ∙ number_is ∙ ap (λ (z : Doing). z.req) its)
+        of_step = of_waiting k d t M asked from a r q s does now (let u = its_up in u.numbered a.act q does) waits (record { from = from; to = k; message = m }) refl h (ask.Bind w.1 w.2 w.3) w.4
 
         x_is : w.1 ≡ s.x
         x_is = binds_own s.x w.1 w.2 w.3 s.goal s.at of_step.same

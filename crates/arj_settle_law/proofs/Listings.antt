@@ -1,6 +1,6 @@
 -- Stores that lists name: naming's, those of its answers, and those that calls are still to ask. What is claimed of each such store.
-use Rattle.std.proofs.Common.{◌≡◌, ◌≢◌, ◌⊎◌, ◌∙◌, ◌==◌, ◌+◌, ℕ, Bool, true, false, cond, List, [], ◌∷◌, Option, Some, None, refl, sym, ap, subst, inl, inr, ⊎_elim}
-use Rattle.std.specs.Prelude.{⊤, ◌&&◌}
+use Rattle.std.proofs.Common.{◌≡◌, ◌≢◌, ◌⊎◌, ◌∙◌, ◌+◌, ℕ, Bool, true, false, cond, List, [], ◌∷◌, Option, Some, None, refl, sym, ap, subst, inl, inr, ⊎_elim}
+use Rattle.std.specs.Prelude.{⊤}
 use Rattle.std.specs.List.{AllByRecursion}
 use Rattle.arj_protocol.specs.Words.{Ask, Asked, Binding, BoundReply, Head, Header, Kind, Label, ObjectState, Uid}
 use Rattle.arj_protocol.specs.Words.ask
@@ -15,7 +15,7 @@ use Rattle.arj_protocol.specs.Call.{At, AtActivate, AtBind, AtInvoke, AtLoad, At
 use Rattle.arj_protocol.specs.Coord.{Calling, Committing, Coord, Doing, Idle, Now, doing_of, is_free, new_coord, on_doing, on_root}
 use Rattle.arj_protocol.specs.Effect.{Intent, Pair, Served}
 use Rattle.arj_protocol.specs.Ending.{acked}
-use Rattle.arj_protocol.specs.Order.{binding_eq, binding_less}
+use Rattle.arj_protocol.specs.Order.{binding_eq}
 use Rattle.arj_protocol.specs.Step as input
 use Rattle.arj_protocol.specs.Step.{Input, acts, parent_of, refusal_up}
 use Rattle.arj_protocol.specs.Tree.{at_place, root_of}
@@ -29,6 +29,7 @@ use Rattle.arj_lock_fact_law.proofs.Asked.{waiting_acked, waiting_acts, waiting_
 use Rattle.arj_lock_fact_law.proofs.Kept.{Place}
 use Rattle.arj_view_law.specs.Seen.{Post}
 use Rattle.arj_wait_law.specs.Asked.{IsAnsweredBy}
+use Rattle.arj_wait_law.proofs.Stepping.{IsOn, bound_so, inc_so}
 
 -- what is claimed of a store of an object
 abbrev pub Of : Type 1
@@ -112,47 +113,18 @@ module _ (P Q : Of) (more : (x n : ℕ) → P x n → Q x n) where
 
 module _ (P : Of) (x : ℕ) where
   abbrev Is : CallStep → Type 0
-  Is (On n) = AtHas P x n
-  Is (Ended e) = ⊤
-
-  module _ (n : At) (new : AtHas P x n) where
-    inc_so : (i : ℕ) (kept : Known) (o : Option ℕ) → Is (with_inc i kept n o).step
-    inc_so i kept None = new
-    inc_so i kept (Some first) = by (first == i)
-      where
-        by : (b : Bool) → Is (cond b (calls.moves (Some kept) n) (calls.finds (Some kept) (calls.Changed kept.server (calls.two_incs first i)))).step
-        by true = new
-        by false = tt
-
-    same_so : (old k : Known) (o : Option ℕ) → Is (same_binding old k n o).step
-    same_so old k None = new
-    same_so old k (Some i) = inc_so i (calls.named_again old k) old.inc
-
-    other_so : (free : Bool) (old k : Known) → Is (other_binding free old k n).step
-    other_so free old k = by (free && binding_less old.binding k.binding)
-      where
-        by : (b : Bool) → Is (cond b (calls.moves (Some k) n) (calls.finds (Some old) (calls.Changed 1 (calls.two_bindings old.binding k.binding)))).step
-        by true = new
-        by false = tt
-
-    bound_so : (free : Bool) (k : Known) (kept : Option Known) → Is (bound_by free k n kept).step
-    bound_so free k None = new
-    bound_so free k (Some old) = by (binding_eq old.binding k.binding)
-      where
-        by : (b : Bool) → Is (cond b (same_binding old k n k.inc) (other_binding free old k n)).step
-        by true = same_so old k k.inc
-        by false = other_so free old k
+  Is = IsOn (AtHas P x)
 
   made_so : (free : Bool) (k : Known) (kept : Option Known) (stores : List ℕ) → AllByRecursion (P x) stores → Is (made_by free k kept (load_from k stores)).step
   made_so free k kept [] all = tt
-  made_so free k kept (s ∷ ss) all = bound_so (AtLoad k s ss) all free k kept
+  made_so free k kept (s ∷ ss) all = bound_so (AtHas P x) (AtLoad k s ss) all free k kept
 
   active_so : (k : Known) (i : ℕ) (kept : Option Known) → Is (activated_by k i kept).step
   active_so k i None = tt
   active_so k i (Some old) = by (binding_eq old.binding k.binding)
     where
       by : (b : Bool) → Is (cond b (with_inc i old (AtNote k i) old.inc) (calls.moves (Some old) (AtNote k i))).step
-      by true = inc_so (AtNote k i) tt i old old.inc
+      by true = inc_so (AtHas P x) (AtNote k i) tt i old old.inc
       by false = tt
 
   lost_so : (k : Known) (kept : Option Known) (stores : List ℕ) → AllByRecursion (P x) stores → Is (or_lost kept (load_from k stores)).step
@@ -165,7 +137,7 @@ module _ (P : Of) (x : ℕ) where
   Brings at r = ⊤
 
   next_has : (free : Bool) (kept : Option Known) (g : Goal) (at : At) (r : Reply) → Brings at r → AtHas P x at → Is (answered free kept g at r).step
-  next_has free kept g (AtBind avoid) (Reply.Bound (bound.Live b server i n stores)) brings was = bound_so (AtInvoke (live_known b server i n stores) i) tt free (live_known b server i n stores) kept
+  next_has free kept g (AtBind avoid) (Reply.Bound (bound.Live b server i n stores)) brings was = bound_so (AtHas P x) (AtInvoke (live_known b server i n stores) i) tt free (live_known b server i n stores) kept
   next_has free kept g (AtBind avoid) (Reply.Bound (bound.Make b server n stores)) brings was = made_so free (made_known b server n stores) kept stores brings
   next_has free kept g (AtBind avoid) (Reply.Bound (bound.Write n stores)) brings was = lost_so (write_known n stores) kept stores brings
   next_has free kept g (AtBind avoid) (Reply.Bound (bound.Conflict holder m)) brings was = tt

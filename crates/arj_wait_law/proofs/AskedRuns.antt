@@ -6,7 +6,7 @@ use Rattle.arj_base.specs.Uid.{object}
 use Rattle.arj_protocol.specs.Words.{Ask, Asked, Binding, Body, BoundReply, Head, Header, Kind, Label, Message, ObjectState, Path, Uid, asks}
 use Rattle.arj_protocol.specs.Words.ask
 use Rattle.arj_protocol.specs.Words.loaded
-use Rattle.arj_protocol.specs.Ask.{Reply, actor, answers, asked_by, response, top_of}
+use Rattle.arj_protocol.specs.Ask.{Reply, answers, asked_by, response, top_of}
 use Rattle.arj_protocol.specs.Asking.{again_all, begin_action, heard, waits_for_call}
 use Rattle.arj_protocol.specs.Effect.{Abort, Commit, Disk, Do, Effect, Look, Pair, Prepare, PutInc, PutIntent, RemoveIntent, Say, Send, Served, Stop, held_at, stopped, worked}
 use Rattle.arj_protocol.specs.Ending.{acked, answer_query}
@@ -17,7 +17,7 @@ use Rattle.arj_protocol.specs.Node.{Handled, Parts, Took, Void, answer_is_meant,
 use Rattle.arj_protocol.specs.Server.{Server}
 use Rattle.arj_protocol.specs.Step.{Input, Node, acts as acts_of, first_disk, first_node, naming_at, numbers_to, parent_of, parts_in, refusal_up, restart_outs, tolds_again}
 use Rattle.arj_protocol.specs.Step as input
-use Rattle.arj_protocol.specs.Tree.{at_place, is_own}
+use Rattle.arj_protocol.specs.Tree.{at_place}
 use Rattle.arj_protocol.specs.World.{Labelled, format, is_serial_kind, numbered}
 use Rattle.arj_protocol.proofs.CoordSays.{acked_own, acts_own, again_own, heard_own, query_own, tolds_again_own}
 use Rattle.arj_part_law.specs.Actions.{Action, paths_of}
@@ -47,14 +47,13 @@ use Rattle.arj_protocol.specs.Call.{At, AtActivate, AtBind, AtInvoke, AtLoad, At
 use Rattle.arj_address_law.specs.Binds.{BindsAreKnown}
 use Rattle.arj_round_law.specs.Waits.{IsSaid}
 use Rattle.arj_protocol.specs.Coord.{Calling, Coord, Doing, doing_of}
-use Rattle.arj_lock_fact_law.specs.Requests.{AreAsked, IsAskedBy, RequestsAreKnown}
-use Rattle.arj_part_law.specs.Requests.{IsNumbered}
+use Rattle.arj_lock_fact_law.specs.Requests.{AreAsked, RequestsAreKnown}
 use Rattle.arj_call_law.specs.Coords.{IsOfStep}
 use Rattle.arj_lock_fact_law.proofs.Kept.{Place}
 use Rattle.std.proofs.lemmas.Bool.{and_parts}
 use Rattle.arj_address_law.proofs.BindRuns.{answers_fit}
 use Rattle.arj_base.proofs.Uids.{uid_is}
-use Rattle.arj_wait_law.proofs.Known.{binds_own, waits_req}
+use Rattle.arj_wait_law.proofs.Known.{binds_own}
 use Rattle.arj_protocol.specs.Words.bound
 use Rattle.arj_wait_law.proofs.Named.{Brings, acked_named, acts_named, again_named, begins_named, by_more, heard_named, named_more, new_named, sends_named, steps_more}
 use Rattle.arj_wait_law.proofs.Made.{MakeSaid, SaidIn, back_made_said, bind_made_said, confirm_made_said, hello_made_said, line_new, line_stays, made_more, note_made_said, told_made_said}
@@ -67,6 +66,7 @@ use Rattle.arj_lock_fact_law.specs.Uppers.{ObjectsAreHeld}
 use Rattle.arj_protocol.specs.Order.{at_number}
 use Rattle.arj_record_law.proofs.NamingRuns.{inc_stopped, inc_worked}
 use Rattle.arj_record_law.proofs.NamingKept.{rest, rest_quiet}
+use Rattle.arj_wait_law.proofs.Stepping.{of_waiting}
 
 -- ---- what coordinators send answers nobody
 
@@ -475,24 +475,8 @@ module _ (hd : Header) (begun : List Action) (e k : ℕ) (d : Disk) (t : Parts) 
         h : Head
         h = w.0
 
-        who : actor h.path ≡ a.act
-        who = ap (λ (z : Asked). z.act) w.4.asker
-
-        last : IsAskedBy t.coord w.4.post.to h (ask.Bind w.1 w.2 w.3)
-        last = asked k here t (node_here M k here) refl w.4.post h (ask.Bind w.1 w.2 w.3) w.4.posted w.4.from w.4.asking (ap (λ u. is_own u t.coord.tree) who ∙ own_it (is_own a.act t.coord.tree) refl does)
-          where
-            own_it : (z : Bool) → is_own a.act t.coord.tree ≡ z → cond z (at_place a.act.num t.coord.doings) None ≡ Some q → is_own a.act t.coord.tree ≡ true
-            own_it true mine found = mine
-            own_it false mine found = absurd (cc found)
-
-        its : q ≡ last.doing
-        its = some_is (sym does ∙ ap (λ u. doing_of u t.coord) (sym who) ∙ last.found)
-
-        number_is : s.req ≡ q.req
-        number_is = let u = its_up in subst (IsNumbered q.req) now (u.numbered a.act q does)
-
         of_step : IsOfStep s w.4.post.to h (ask.Bind w.1 w.2 w.3)
-        of_step = last.step s (ap (λ (z : Doing). z.now) (sym its) ∙ now) (ap (λ (z : Asked). z.req) w.4.asker ∙ sym (waits_req from a r s waits) ∙ number_is ∙ ap (λ (z : Doing). z.req) its)
+        of_step = of_waiting k d t M asked from a r q s does now (let u = its_up in u.numbered a.act q does) waits (record { from = from; to = k; message = m }) refl h (ask.Bind w.1 w.2 w.3) w.4
 
         x_is : w.1 ≡ s.x
         x_is = binds_own s.x w.1 w.2 w.3 s.goal s.at of_step.same

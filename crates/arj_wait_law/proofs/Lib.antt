@@ -4,6 +4,7 @@ pub mod Serving
 pub mod AskedServers
 pub mod Made
 pub mod Standing
+pub mod Stepping
 pub mod Named
 pub mod Known
 pub mod WriterCoords

@@ -1,5 +1,5 @@
 -- The steps of a call stand on what naming answered.
-use Rattle.std.proofs.Common.{Bool, List, None, Option, Some, [], ap, cond, false, refl, subst, sym, true, ℕ, ⊎_elim, ◌+◌, ◌==◌, ◌∙◌, ◌∷◌, ◌≡◌, ◌≢◌}
+use Rattle.std.proofs.Common.{Bool, List, None, Option, Some, [], ap, cond, false, refl, subst, sym, true, ℕ, ⊎_elim, ◌+◌, ◌∙◌, ◌∷◌, ◌≡◌, ◌≢◌}
 use Rattle.arj_address_law.specs.Binds.{AnswersAt, AnswersWaiting}
 use Rattle.arj_protocol.specs.Words.{Ask, Asked, Binding, BoundReply, Head, Header, Kind, Label, Message, ObjectState, Path, Uid, asks}
 use Rattle.arj_protocol.specs.Call as calls
@@ -17,7 +17,7 @@ use Rattle.arj_protocol.specs.Ask.{Reply, actor}
 use Rattle.arj_protocol.specs.Ending.{acked}
 use Rattle.arj_protocol.specs.Asking.{again_all, begin_action, doomed_by, heard, heard_by, heard_call, heard_doing, heard_none, heard_now, kept_at, root_heard, root_moved, step_call, waits_for_call}
 use Rattle.arj_protocol.specs.Tree.{at_place, root_of}
-use Rattle.arj_protocol.specs.Order.{binding_eq, binding_less}
+use Rattle.arj_protocol.specs.Order.{binding_eq}
 use Rattle.arj_coord_law.proofs.CoordUses.{on_cases}
 use Rattle.arj_part_law.proofs.GoodCoords.{doomed_same}
 use Rattle.arj_address_law.proofs.Lists.{some_is}
@@ -27,8 +27,9 @@ use Rattle.arj_protocol.specs.Words.bound
 use Rattle.arj_protocol.specs.Words.invoked
 use Rattle.arj_protocol.specs.Words.loaded
 use Rattle.arj_protocol.specs.Words.recorded
-use Rattle.std.specs.Prelude.{⊤, ◌&&◌}
+use Rattle.std.specs.Prelude.{⊤}
 use Rattle.arj_wait_law.specs.Asked.{ActivateNamed, Claims, IsAnsweredBy, NamedAt, StepNamed, StepsNamed, WasNamed}
+use Rattle.arj_wait_law.proofs.Stepping.{IsOn, bound_so, inc_so}
 
 -- ---- the step behind an answer
 
@@ -38,47 +39,18 @@ module _ (sent : List Post) (claims : Claims) (p : Path) (x : ℕ) where
 
   module _ (g : Goal) where
     abbrev Is : CallStep → Type 0
-    Is (On n) = NamedAt sent claims g p x n
-    Is (Ended e) = ⊤
-
-    module _ (n : At) (new : NamedAt sent claims g p x n) where
-      inc_so : (i : ℕ) (kept : Known) (o : Option ℕ) → Is (with_inc i kept n o).step
-      inc_so i kept None = new
-      inc_so i kept (Some first) = by (first == i)
-        where
-          by : (b : Bool) → Is (cond b (calls.moves (Some kept) n) (calls.finds (Some kept) (calls.Changed kept.server (calls.two_incs first i)))).step
-          by true = new
-          by false = tt
-
-      same_so : (old k : Known) (o : Option ℕ) → Is (same_binding old k n o).step
-      same_so old k None = new
-      same_so old k (Some i) = inc_so i (calls.named_again old k) old.inc
-
-      other_so : (free : Bool) (old k : Known) → Is (other_binding free old k n).step
-      other_so free old k = by (free && binding_less old.binding k.binding)
-        where
-          by : (b : Bool) → Is (cond b (calls.moves (Some k) n) (calls.finds (Some old) (calls.Changed 1 (calls.two_bindings old.binding k.binding)))).step
-          by true = new
-          by false = tt
-
-      bound_so : (free : Bool) (k : Known) (kept : Option Known) → Is (bound_by free k n kept).step
-      bound_so free k None = new
-      bound_so free k (Some old) = by (binding_eq old.binding k.binding)
-        where
-          by : (b : Bool) → Is (cond b (same_binding old k n k.inc) (other_binding free old k n)).step
-          by true = same_so old k k.inc
-          by false = other_so free old k
+    Is = IsOn (NamedAt sent claims g p x)
 
     made_so : (free : Bool) (k : Known) (kept : Option Known) → Named k → (stores : List ℕ) → Is (made_by free k kept (load_from k stores)).step
     made_so free k kept named [] = tt
-    made_so free k kept named (s ∷ ss) = bound_so (AtLoad k s ss) (λ o is. named) free k kept
+    made_so free k kept named (s ∷ ss) = bound_so (NamedAt sent claims g p x) (AtLoad k s ss) (λ o is. named) free k kept
 
     active_so : (k : Known) (i : ℕ) (kept : Option Known) → Named k → Is (activated_by k i kept).step
     active_so k i None named = named
     active_so k i (Some old) named = by (binding_eq old.binding k.binding)
       where
         by : (b : Bool) → Is (cond b (with_inc i old (AtNote k i) old.inc) (calls.moves (Some old) (AtNote k i))).step
-        by true = inc_so (AtNote k i) named i old old.inc
+        by true = inc_so (NamedAt sent claims g p x) (AtNote k i) named i old old.inc
         by false = named
 
   -- an include has no binding
@@ -97,7 +69,7 @@ module _ (sent : List Post) (claims : Claims) (p : Path) (x : ℕ) where
   Brings at r = ⊤
 
   pub next_named : (free : Bool) (kept : Option Known) (g : Goal) (at : At) (r : Reply) → AnswersAt g at r → Brings at r → NamedAt sent claims g p x at → Is g (answered free kept g at r).step
-  next_named free kept g (AtBind avoid) (Reply.Bound (bound.Live b server i n stores)) fits brings was = bound_so g (AtInvoke (live_known b server i n stores) i) tt free (live_known b server i n stores) kept
+  next_named free kept g (AtBind avoid) (Reply.Bound (bound.Live b server i n stores)) fits brings was = bound_so (NamedAt sent claims g p x) (AtInvoke (live_known b server i n stores) i) tt free (live_known b server i n stores) kept
   next_named free kept g (AtBind avoid) (Reply.Bound (bound.Make b server n stores)) fits brings was = made_so g free (made_known b server n stores) kept brings stores
   next_named free kept (Run o) (AtBind avoid) (Reply.Bound (bound.Write n stores)) fits brings was = absurd fits
   next_named free kept (Include s) (AtBind avoid) (Reply.Bound (bound.Write n stores)) fits brings was = lost_so s (write_known n stores) kept stores
