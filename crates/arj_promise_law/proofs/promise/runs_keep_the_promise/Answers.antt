@@ -1,0 +1,17 @@
+use Rattle.arj_promise_law.proofs.Keeping.{calm_end, fronts_keep, overtaken, rounds_end, runs_keep}
+use Rattle.arj_promise_law.proofs.promise.runs_keep_the_promise.Goals as goal
+
+pub returns-clause-runs : goal.returns-clause-runs
+returns-clause-runs c = runs_keep
+
+pub returns-clause-fronts : goal.returns-clause-fronts
+returns-clause-fronts c = fronts_keep
+
+pub returns-clause-waiting : goal.returns-clause-waiting
+returns-clause-waiting c = overtaken
+
+pub returns-clause-calm : goal.returns-clause-calm
+returns-clause-calm c = calm_end
+
+pub returns-clause-rounds : goal.returns-clause-rounds
+returns-clause-rounds c = rounds_end
