@@ -81,9 +81,11 @@ Base hd x M = (IsCountedJoined M × AreSo (kind_of hd x) M) × HaveEntries x M
 abbrev pub Early : Header → ℕ → World → Seen → Type 0
 Early hd x W M = Base hd x M × IsKnownEarly (OpsFit x) W M
 
+-- what is known of the protocol alone
 abbrev pub Whole : ℕ → List Action → Seen → Type 0
 Whole x begun M = KnowsWhole x begun M × KnowsWhole x begun M
 
+-- with whom the disk machine decided, recorded
 abbrev recorded_of : (hd : Header) (x : ℕ) (tops : Kinds) (A : Office) (M : Seen) → Carried hd x tops A M → SeesRecorded x tops A M
 recorded_of hd x tops A M p = p.0.0.0
 

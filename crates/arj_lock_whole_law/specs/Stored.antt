@@ -1,4 +1,4 @@
--- What a store gives to a call that waits for it, as it gives it.
+-- Calls that wait for what a store has of their object.
 use Rattle.std.specs.Prelude.{◌≡◌, ℕ, List, Some}
 use Rattle.arj_protocol.specs.Words.{Asked, Op}
 use Rattle.arj_protocol.specs.Call.{AtLoad, Known, Run, Steps}
