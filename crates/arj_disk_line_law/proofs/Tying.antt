@@ -25,7 +25,6 @@ use Rattle.arj_disk_view_law.specs.Sees.{IsLater, Kinds, SeesDisks}
 use Rattle.arj_names_view_law.specs.Both.{OnlyFound, SeesBoth}
 use Rattle.arj_names_view_law.specs.Handlers.{Answering, Change, Changes, Deciding, Quietly, change_by}
 use Rattle.arj_binding_law.specs.Scripts.{most_events}
-use Rattle.arj_disk_run_law.specs.Rest.{IsCountedWith, SeesCarried}
 use Rattle.arj_call_law.specs.Runs.{KnowsFew}
 use Rattle.arj_disk_run_law.specs.Part.{Going, HasHeard, KeepsPart, are_recorded, going_of}
 use Rattle.arj_disk_run_law.specs.Kinds.{kinds_of}
@@ -35,7 +34,8 @@ use Rattle.arj_call_law.proofs.Given.{kept_both, keeps_given, while_given}
 use Rattle.arj_disk_run_law.proofs.Scripts.{part_few, part_more, script_holds}
 use Rattle.arj_disk_run_law.proofs.Given.{gives_votes}
 use Rattle.arj_disk_run_law.specs.Entries.{HaveEntries}
-use Rattle.arj_disk_run_law.proofs.BothEach.{counted_with, heard_part, with_entries}
+use Rattle.arj_disk_run_law.proofs.BothEach.{with_entries}
+use Rattle.arj_disk_run_law.proofs.ListedRuns.{IsSeenBegun}
 use Rattle.arj_disk_run_law.proofs.Kept.{IsKeptInRun, all_keep}
 use Rattle.arj_disk_run_law.proofs.RecordWalks.{restart_plain}
 use Rattle.arj_line_law.specs.Book.{book, is_decided, is_top, new_book}
@@ -43,7 +43,7 @@ use Rattle.arj_line_law.specs.Knows.{IsKept, IsWritten, KnowsUp, AreLate, HasBra
 use Rattle.arj_line_law.proofs.Books.{decided_later, Later, book_more, quiet_book}
 use Rattle.arj_line_law.proofs.Models.{decided_in, among}
 use Rattle.arj_line_law.proofs.Runs.{lines_keep, act_turns, message_turns, rest_goes, tick_turns}
-use Rattle.arj_disk_line_law.specs.Said.{AreSaid, HeardRunsAreJournalled, IsJournalled, IsKnownEarly, IsLate, IsTied, RunsAreJournalled, AreDone, IsDoneBy, WasBefore, WithTie}
+use Rattle.arj_disk_line_law.specs.Said.{AreSaid, IsJournalled, IsKnownEarly, IsLate, IsTied, RunsAreJournalled, AreDone, IsDoneBy, WasBefore, WithTie}
 use Rattle.arj_disk_line_law.proofs.IdleKnown.{KnowsIdle, knows_idle}
 use Rattle.arj_disk_line_law.proofs.Owners.{decided_begun, whose_it_is}
 use Rattle.arj_disk_run_law.proofs.Grows.{later_lines}
@@ -261,12 +261,11 @@ one_act (x ∷ xs) apart a b (inl i) (inr j) same = absurd (never (among xs b j)
 one_act (x ∷ xs) apart a b (inr i) (inl j) same = absurd (never (among xs a i) (ap (has_act xs) (same ∙ ap (λ (y : Act). y.uid) (sym j)) ∙ apart.2))
 one_act (x ∷ xs) apart a b (inr i) (inr j) same = one_act xs apart.3 a b i j same
 
--- beside a relation that is kept
--- and it holds of the same state of the machine, where few bindings were made
-abbrev pub IsJournalledBeside : (Kinds → Office → Seen → Type 0) → ℕ → Seen → Type 0
-IsJournalledBeside P x M = (j : IsJournalled x M) × (A : Office) × (A.world ≡ j.machine) × P j.tops A M × KnowsFew M
+-- Beside a relation that is kept, which holds of the same state of the machine, where few bindings were made; with what is known of that state.
+abbrev pub IsJournalledBeside : (Seen → Type 0) → (Kinds → Office → Seen → Type 0) → ℕ → Seen → Type 0
+IsJournalledBeside R P x M = (j : IsJournalled x M) × (A : Office) × (A.world ≡ j.machine) × P j.tops A M × KnowsFew M × IsSeenBegun x j.tops A M × R M
 
-pub journalled_beside : (hd : Header) (x : ℕ) (Fits : List Line → Type 0) → WasBefore Fits → (R : Seen → Type 0) (P : Kinds → Office → Seen → Type 0) → Keeps hd R → KeepsPart hd x (λ W M. R M × IsKnownEarly Fits W M) P → (es : List Asked) → length es ≤ most_events → Fits (run_all es (format hd)).lines → Holds hd (IsJournalledBeside P x) (run_all es (format hd))
+pub journalled_beside : (hd : Header) (x : ℕ) (Fits : List Line → Type 0) → WasBefore Fits → (R : Seen → Type 0) (P : Kinds → Office → Seen → Type 0) → Keeps hd R → KeepsPart hd x (λ W M. R M × IsKnownEarly Fits W M) P → (es : List Asked) → length es ≤ most_events → Fits (run_all es (format hd)).lines → Holds hd (IsJournalledBeside R P x) (run_all es (format hd))
 journalled_beside hd x Fits before R P kept parts es short fits =
     let Idle : List Line → Uid → Type 0 = λ ls u. IsIdle (book ls) u in
     let idles = knows_idle R in
@@ -296,9 +295,11 @@ journalled_beside hd x Fits before R P kept parts es short fits =
           done = λ a there top is. its_own lines right a there is (is_sound lines right) top s.0.world (s.2.1.1 a.uid (sym (let b = (is_sound lines right).reads in b.decided a there) ∙ is));
         },
         s.0,
-        refl,
+        refl {a = s.0.world},
         s.2.0,
         r.holds.0,
+        record { begun = h.0; agree = kinds_agree h.0 g.0.begun g.1; good = g.0; recorded = g.2; placed = g.3; both = s.1; numbers = (let z = r.stands in z.numbers) },
+        g.4.0.0,
       );
     }
   where
@@ -316,6 +317,3 @@ journalled hd x R P kept parts es short = let h = journalled_beside hd x (λ ls.
 
 pub runs_are_journalled : RunsAreJournalled
 runs_are_journalled hd x part parts es short = journalled hd x IsGood (λ tops A M. part tops A M ≡ true) (parts_good hd) (part_few hd x IsGood (λ tops A M. part tops A M ≡ true) parts) es short
-
-pub heard_runs_are_journalled : HeardRunsAreJournalled
-heard_runs_are_journalled hd x test has rest es short = journalled hd x (IsCountedWith test) (SeesCarried x) (counted_with hd x test rest) (heard_part hd x test has rest) es short

@@ -14,10 +14,8 @@ use Rattle.arj_disk_view_law.specs.Sees.{Kinds, SeesDisks}
 use Rattle.arj_call_law.specs.Runs.{KnowsFew}
 use Rattle.arj_binding_law.specs.Scripts.{most_events}
 use Rattle.arj_disk_law.specs.Names.{Office}
-use Rattle.arj_disk_view_law.specs.Formats.{HasObject}
 use Rattle.arj_disk_run_law.specs.Bindings.{KnowsScript}
 use Rattle.arj_disk_run_law.specs.Part.{KeepsPart}
-use Rattle.arj_disk_run_law.specs.Rest.{KeepsHeard}
 use Rattle.arj_line_law.specs.Book.{book, is_decided, is_top}
 use Rattle.arj_line_law.specs.Idle.{HasNothing}
 use Rattle.arj_line_law.specs.Laws.{IsCommittedIn, IsDone}
@@ -87,7 +85,3 @@ pub record IsJournalled (x : ℕ) (M : Seen) : Type 0 where
 abbrev pub RunsAreJournalled : Type 0
 RunsAreJournalled = (hd : Header) (x : ℕ) (part : Kinds → Office → Seen → Bool) → KeepsPart hd x (λ W M. IsGood M × KnowsFew M) (λ tops A M. part tops A M ≡ true)
     → (es : List Asked) → length es ≤ most_events → Holds hd (IsJournalled x) (run_all es (format hd))
-
--- So it is with what is still taken of the relation that is built of it, for an object of the header.
-abbrev pub HeardRunsAreJournalled : Type 0
-HeardRunsAreJournalled = (hd : Header) (x : ℕ) (test : Seen → Bool) → HasObject hd x → KeepsHeard hd x test → (es : List Asked) → length es ≤ most_events → Holds hd (IsJournalled x) (run_all es (format hd))

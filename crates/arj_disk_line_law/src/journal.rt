@@ -1,5 +1,5 @@
 // The decisions of an object's machine, and those of the journal.
-ghost use Rattle.arj_disk_line_law.specs.Said.{HeardRunsAreJournalled, RunsAreJournalled};
+ghost use Rattle.arj_disk_line_law.specs.Said.{RunsAreJournalled};
 
 /// Take a relation that is kept beside the machine's state of what coordinators have of naming's answers and what messages claim of
 /// them. Then after the run of each script of at most 1,000,000 events, with all frames that came in any order, again or never, all
@@ -7,9 +7,8 @@ ghost use Rattle.arj_disk_line_law.specs.Said.{HeardRunsAreJournalled, RunsAreJo
 /// action of the journal, and, where its node is there, committed by the journal so far: where a stop falls on a step, whoever the machine
 /// has decided had been decided before. And each top that the journal has as committed is decided, or needed no record, or no call of it and no include
 /// survives in the journal. So clean disks, exclusion in time and one outcome, which the machine has by its decisions, are about the
-/// journal's committed tops. So it is too with the relation that is built of it, of each object of the header, where it is kept by
-/// messages and by inputs about actions. It does nothing when it runs.
+/// journal's committed tops. Such a relation is kept in the run of every script in form: `decisions_come_behind_calls` of `arj_joint_law`
+/// has this with nothing taken. It does nothing when it runs.
 pub fn decisions_are_said()
-    ensures beside { RunsAreJournalled }
-    ensures heard { HeardRunsAreJournalled }
+    ensures { RunsAreJournalled }
 {}

@@ -42,19 +42,13 @@ use Rattle.arj_call_law.specs.Runs.{KnowsFew}
 use Rattle.arj_disk_run_law.specs.Entries.{HaveEntries, IsInStep, KnowsEntries}
 use Rattle.arj_disk_run_law.specs.Kinds.{Agrees, AreOfTops, kinds_of}
 use Rattle.arj_disk_run_law.specs.Part.{HoldsAgain, HoldsFrom, IsCarried, KeepsPart, are_recorded}
-use Rattle.arj_disk_run_law.specs.Runs.{CopiesAgree, HeardRunsAgree, RunsAgree}
-use Rattle.arj_disk_view_law.specs.Formats.{HasObject}
-use Rattle.arj_disk_run_law.specs.Bindings.{AreGoodCounted, KnowsScript}
-use Rattle.arj_line_law.specs.Knows.{IsKept}
-use Rattle.arj_line_law.proofs.Runs.{lines_keep}
-use Rattle.arj_disk_run_law.specs.Rest.{IsCountedWith, IsKnownWith, KeepsHeard, KeepsHeardBeside, SeesCarried}
+use Rattle.arj_disk_run_law.specs.Runs.{CopiesAgree, RunsAgree}
+use Rattle.arj_disk_run_law.specs.Bindings.{KnowsScript}
 use Rattle.arj_disk_run_law.proofs.Begun.{kinds_agree}
-use Rattle.arj_disk_run_law.proofs.Bindings.{good_counted, names_own, records_free_in}
 use Rattle.arj_disk_run_law.proofs.Copies.{copies_agree}
 use Rattle.arj_disk_run_law.proofs.EntryKeeps.{keeps_entries}
 use Rattle.arj_disk_run_law.proofs.EntryWalks.{mine_of}
 use Rattle.arj_disk_run_law.proofs.Given.{gives_votes}
-use Rattle.arj_disk_run_law.proofs.HeardKept.{heard_kept}
 use Rattle.arj_disk_run_law.proofs.HeardMessage.{of_top}
 use Rattle.arj_disk_run_law.proofs.Scripts.{part_few, script_holds}
 use Rattle.arj_disk_run_law.proofs.Kept.{IsKeptInRun, KeepsEach, all_keep}
@@ -157,20 +151,3 @@ agree_beside hd x R P kept parts = runs_beside hd x R P kept parts (CopiesAgree 
 
 pub runs_agree : RunsAgree
 runs_agree hd x part parts es short = agree_beside hd x IsGood (λ tops A M. part tops A M ≡ true) (parts_good hd) (part_few hd x IsGood (λ tops A M. part tops A M ≡ true) parts) es short
-
--- what is kept beside, where naming's bindings are its own
-pub heard_beside : (hd : Header) (x : ℕ) (test : Seen → Bool) (Z : World → Seen → Type 0) → HasObject hd x → KeepsHeardBeside hd x test Z → KeepsPart hd x (λ W M. IsKnownWith test M × Z W M) (SeesCarried x)
-heard_beside hd x test Z has rest = heard_kept hd x (λ W M. IsKnownWith test M × Z W M) (λ W M q. let r = q.0 in ((let g = r.0.0.0 in g.0.0.0), (let s = r.1 in s.0))) (λ W M q. let r = q.0 in let g = r.0.0.0 in let s = r.1 in (names_own M g s.0, g.0.0.1, records_free_in M g s.0, r.0.0.1, s.1)) has rest.naming
-
-pub heard_part : (hd : Header) (x : ℕ) (test : Seen → Bool) → HasObject hd x → KeepsHeard hd x test → KeepsPart hd x (λ W M. IsKnownWith test M) (SeesCarried x)
-heard_part hd x test has rest = heard_kept hd x (λ W M. IsKnownWith test M) (λ W M r. ((let g = r.0.0.0 in g.0.0.0), (let s = r.1 in s.0))) (λ W M r. let g = r.0.0.0 in let s = r.1 in (names_own M g s.0, g.0.0.1, records_free_in M g s.0, r.0.0.1, s.1)) has rest.naming
-
--- with a test that is kept nodes are good and bindings counted
-pub counted_by : (hd : Header) (test : Seen → Bool) → Keeps hd (λ M. test M ≡ true) → Keeps hd (IsCountedWith test)
-counted_by hd test kept = kept_both hd (λ M. AreGoodCounted M × IsKept M) (λ M. test M ≡ true) (kept_both hd AreGoodCounted IsKept (good_counted hd) (keeps_given hd AreGoodCounted IsKept (lines_keep hd))) (keeps_given hd (λ M. AreGoodCounted M × IsKept M) (λ M. test M ≡ true) kept)
-
-pub counted_with : (hd : Header) (x : ℕ) (test : Seen → Bool) → KeepsHeard hd x test → Keeps hd (IsCountedWith test)
-counted_with hd x test rest = counted_by hd test rest.kept
-
-pub heard_runs_agree : HeardRunsAgree
-heard_runs_agree hd x test has rest es short = agree_beside hd x (IsCountedWith test) (SeesCarried x) (counted_with hd x test rest) (heard_part hd x test has rest) es short

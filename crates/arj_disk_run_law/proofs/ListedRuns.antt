@@ -12,7 +12,7 @@ use Rattle.arj_protocol.specs.Order.{binding_number, has, uid_number}
 use Rattle.arj_protocol.specs.Step.{Node}
 use Rattle.arj_protocol.specs.Tree.{root_of}
 use Rattle.arj_part_law.specs.Actions.{Action}
-use Rattle.arj_run_law.specs.Worlds.{IsGoodOf}
+use Rattle.arj_run_law.specs.Worlds.{IsGood, IsGoodOf}
 use Rattle.arj_disk_law.specs.Names.{Office}
 use Rattle.arj_disk_law.specs.State.{Hold, is_gone, is_idle, last}
 use Rattle.arj_disk_law.proofs.Base.{some_is, test_same}
@@ -34,16 +34,16 @@ use Rattle.arj_record_law.specs.Claims.{AreFitting}
 use Rattle.arj_record_law.specs.Coords.{KnowsRecords, StepStands}
 use Rattle.arj_record_law.specs.Runs.{KnowsOfRecords, RecordsKnown}
 use Rattle.arj_record_law.specs.Tests.{Tests}
-use Rattle.arj_disk_run_law.specs.Bindings.{KnowsScript}
+use Rattle.arj_disk_run_law.specs.Bindings.{AreGoodCounted, KnowsScript}
+use Rattle.arj_disk_run_law.proofs.Bindings.{good_counted}
 use Rattle.arj_disk_run_law.specs.Entries.{HaveEntries}
-use Rattle.arj_disk_run_law.specs.Rest.{IsCountedWith, IsKnownWith, SeesCarried}
 use Rattle.arj_disk_run_law.specs.Kinds.{Agrees, kinds_of}
-use Rattle.arj_disk_run_law.specs.Listed.{AnswersList, HeardRunsLoad, IsCurrent, IsLoading, LoadsAgree, LoadsListed, PassesListed, PassesLists, TellsLists}
+use Rattle.arj_disk_run_law.specs.Listed.{AnswersList, IsCurrent, IsLoading, LoadsAgree, LoadsListed, PassesListed, PassesLists, RunsLoad, TellsLists}
 use Rattle.arj_disk_run_law.specs.Part.{IsCarried, KeepsPart}
 use Rattle.arj_disk_run_law.specs.Places.{ArePlaced}
 use Rattle.arj_disk_run_law.specs.Records.{AreRecorded}
 use Rattle.arj_disk_run_law.specs.Runs.{HasState}
-use Rattle.arj_disk_run_law.proofs.BothEach.{counted_with, heard_part, kinds_there, runs_beside, with_entries}
+use Rattle.arj_disk_run_law.proofs.BothEach.{kinds_there, runs_beside, with_entries}
 use Rattle.arj_disk_run_law.proofs.Copies.{agrees_on, has_state}
 use Rattle.arj_disk_run_law.proofs.HeardPlaces.{StandsIn}
 use Rattle.arj_disk_run_law.proofs.HeardStarts.{step_idle, step_rooted, step_stands}
@@ -161,20 +161,36 @@ loads_agree x tops A M both listed = (last A.world.disk, agrees_on x tops A.worl
         free None is = is
         free (Some h) is = let w = listed l in let q = w.holds in absurd (write_clears A both.named (uid_number (top_of (let z = l.steps in z.path))) q.0 q.1 q.2 h is)
 
-pub heard_runs_load : HeardRunsLoad
-heard_runs_load hd x test has_it rest = runs_beside hd x Base (WithLists x (SeesCarried x)) base_everywhere listed (LoadsAgree x)
+-- Both halves of the object are seen in this state, by kinds that agree with the actions that were begun, of which so much is known.
+pub record IsSeenBegun (x : ℕ) (tops : Kinds) (A : Office) (M : Seen) : Type 0 where
+  pub begun : List Action
+  pub agree : Agrees tops begun
+  pub good : IsGoodOf begun M
+  pub recorded : AreRecorded begun M
+  pub placed : ArePlaced begun M
+  pub both : SeesBoth x tops A M
+  pub numbers : (k : ℕ) (n : Node) → M.nodes k ≡ Some n → n.number ≡ k
+
+-- so it is where bindings are counted, and few were made
+pub loads_there : (x : ℕ) (tops : Kinds) (A : Office) (M : Seen) → IsSeenBegun x tops A M → AreGoodCounted M → KnowsFew M → AnswersList x tops A M → LoadsAgree x M
+loads_there x tops A M s good few answers = loads_agree x tops A M s.both (λ l. loading_listed x tops s.begun A M s.agree s.good s.recorded s.placed few s.both s.numbers l answers (let z = good.0.1 in z.1 (let f = few in f.0)).1)
+
+pub runs_load : RunsLoad
+runs_load hd x part parts = runs_beside hd x Base (WithLists x P) base_everywhere listed (LoadsAgree x)
     (λ M numbers few h.
     let g = h.1 in
-    let agree = kinds_there (λ N. Base N × HaveEntries x N) (IsCarried (WithLists x (SeesCarried x)) x) M h in
+    let agree = kinds_there (λ N. Base N × HaveEntries x N) (IsCarried (WithLists x P) x) M h in
     let s = g.5 (kinds_of h.0) agree in
-    let known = (let b = g.4.0.0.0.0 in let z = b.0.1 in z.1 (let f = few in f.0)).1 in
-    loads_agree x (kinds_of h.0) s.0 M s.1 (λ l. loading_listed x (kinds_of h.0) h.0 s.0 M agree g.0 g.2 g.3 few s.1 numbers l s.2.1 known))
+    loads_there x (kinds_of h.0) s.0 M (record { begun = h.0; agree = agree; good = g.0; recorded = g.2; placed = g.3; both = s.1; numbers = numbers }) (let k = g.4 in k.0.0) few (let l = s.2 in l.1))
   where
+    P : Kinds → Office → Seen → Type 0
+    P tops A M = part tops A M ≡ true
+
     Base : Seen → Type 0
-    Base M = IsCountedWith test M × HaveEntries x M
+    Base M = AreGoodCounted M × HaveEntries x M
 
     base_everywhere : Keeps hd Base
-    base_everywhere = with_entries hd x (IsCountedWith test) (λ W M. IsKnownWith test M) (SeesCarried x) (heard_part hd x test has_it rest) (counted_with hd x test rest)
+    base_everywhere = with_entries hd x AreGoodCounted (λ W M. IsGood M × KnowsFew M) P parts (good_counted hd)
 
-    listed : KeepsPart hd x (λ W M. Base M × KnowsScript M) (WithLists x (SeesCarried x))
-    listed = listed_part hd x (λ W M. IsKnownWith test M) (λ W M. Base M × KnowsScript M) (λ W M r. (r.0.0, r.1)) (λ W M r. ((r.0.0.0.0, r.0.1), (let s = r.1 in s.0))) (SeesCarried x) (heard_part hd x test has_it rest)
+    listed : KeepsPart hd x (λ W M. Base M × KnowsScript M) (WithLists x P)
+    listed = listed_part hd x (λ W M. IsGood M × KnowsFew M) (λ W M. Base M × KnowsScript M) (λ W M r. ((let b = r.0 in b.0.0.0.0), (let s = r.1 in s.0))) (λ W M r. (r.0, (let s = r.1 in s.0))) P parts

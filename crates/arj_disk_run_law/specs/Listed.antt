@@ -17,12 +17,13 @@ use Rattle.arj_disk_law.specs.State.{Packed, State, is_gone, is_idle}
 use Rattle.arj_disk_law.specs.Words as list
 use Rattle.arj_view_law.specs.Keeps.{Holds}
 use Rattle.arj_view_law.specs.Seen.{Seen}
-use Rattle.arj_disk_view_law.specs.Formats.{HasObject}
+use Rattle.arj_run_law.specs.Worlds.{IsGood}
+use Rattle.arj_call_law.specs.Runs.{KnowsFew}
 use Rattle.arj_disk_view_law.specs.Sees.{Kinds}
 use Rattle.arj_binding_law.specs.Scripts.{most_events}
 use Rattle.arj_record_law.specs.Claims.{AreAnswered}
 use Rattle.arj_record_law.specs.Tests.{Tests}
-use Rattle.arj_disk_run_law.specs.Rest.{KeepsHeard}
+use Rattle.arj_disk_run_law.specs.Part.{KeepsPart}
 use Rattle.arj_disk_run_law.specs.Runs.{AgreesOn, HasState}
 
 -- A binding is current for a top at naming: it is the one that was made last for it, and isn't recorded yet, while the top works and its
@@ -102,6 +103,7 @@ pub record LoadsListed (x : ℕ) (A : Office) (M : Seen) (l : IsLoading x M) : T
 abbrev pub LoadsAgree : ℕ → Seen → Type 0
 LoadsAgree x M = (last : Packed) × AgreesOn x last M × ((l : IsLoading x M) (s : ℕ) (m : Node) → has (l.store ∷ l.rest) s ≡ true → M.nodes s ≡ Some m → holder_of (object x) m.disk.store ≡ None → HasState x last m)
 
--- So it is in the run of every script, of an object of the header, with what is still taken of what coordinators have of naming's answers.
-abbrev pub HeardRunsLoad : Type 0
-HeardRunsLoad = (hd : Header) (x : ℕ) (test : Seen → Bool) → HasObject hd x → KeepsHeard hd x test → (es : List Asked) → length es ≤ most_events → Holds hd (LoadsAgree x) (run_all es (format hd))
+-- So it is in the run of every script, with what is kept beside the machine's state of what coordinators have and messages claim.
+abbrev pub RunsLoad : Type 0
+RunsLoad = (hd : Header) (x : ℕ) (part : Kinds → Office → Seen → Bool) → KeepsPart hd x (λ W M. IsGood M × KnowsFew M) (λ tops A M. part tops A M ≡ true)
+    → (es : List Asked) → length es ≤ most_events → Holds hd (LoadsAgree x) (run_all es (format hd))

@@ -1,6 +1,7 @@
--- What is still taken of what coordinators have of naming's answers: what naming and servers count on beside what messages claim.
-use Rattle.std.specs.Prelude.{◌≡◌, ℕ, Bool, true, Some, None}
-use Rattle.arj_protocol.specs.Words.{Asked, Head, Header, Message, asks}
+-- What coordinators have of naming's answers and what messages claim counts on: of new Confirms, what servers' locks give. Where both
+-- machines of the object stand in one run that is given.
+use Rattle.std.specs.Prelude.{◌≡◌, ℕ, Bool, Some, None}
+use Rattle.arj_protocol.specs.Words.{Asked, Head, Message, asks}
 use Rattle.arj_protocol.specs.Words.ask
 use Rattle.arj_protocol.specs.Ask.{top_of}
 use Rattle.arj_protocol.specs.Coord.{Coord, doing_of}
@@ -13,14 +14,11 @@ use Rattle.arj_protocol.specs.Step.{is_committing}
 use Rattle.arj_disk_law.specs.Effects.{World}
 use Rattle.arj_disk_law.specs.Guards.{IsNext}
 use Rattle.arj_disk_law.specs.Names.{Office}
-use Rattle.arj_line_law.specs.Knows.{IsKept}
-use Rattle.arj_view_law.specs.Keeps.{Keeps}
 use Rattle.arj_view_law.specs.Seen.{In, Seen, up}
 use Rattle.arj_disk_view_law.specs.Confirming.{IsNewConfirm}
 use Rattle.arj_disk_view_law.specs.Coordinating.{KnowsNode}
 use Rattle.arj_disk_view_law.specs.Sees.{Kinds}
 use Rattle.arj_names_view_law.specs.Both.{SeesBoth}
-use Rattle.arj_disk_run_law.specs.Bindings.{AreGoodCounted, KnowsScript}
 use Rattle.arj_disk_run_law.specs.Decided.{SeesDecided}
 use Rattle.arj_disk_run_law.specs.Heard.{SeesHeard}
 
@@ -45,21 +43,3 @@ pub record GivesNaming (x : ℕ) (R : World → Seen → Type 0) : Type 0 where
 -- the answer is to one whose commit is under way
 abbrev pub answers_commit : Asked → Coord → Bool
 answers_commit a c = is_committing (doing_of a.act c)
-
--- what is kept everywhere, with such a test; and what is known in every run of a script
-abbrev pub IsCountedWith : (Seen → Bool) → Seen → Type 0
-IsCountedWith test M = (AreGoodCounted M × IsKept M) × (test M ≡ true)
-
--- and what is known in every run of a script
-abbrev pub IsKnownWith : (Seen → Bool) → Seen → Type 0
-IsKnownWith test M = IsCountedWith test M × KnowsScript M
-
--- A test that each handler keeps; and where it holds beside what is known in every run, what naming counts on is given.
-pub record KeepsHeard (hd : Header) (x : ℕ) (test : Seen → Bool) : Type 0 where
-  pub kept : Keeps hd (λ M. test M ≡ true)
-  pub naming : GivesNaming x (λ W M. IsKnownWith test M)
-
--- The same, where more is known beside the machine's world.
-pub record KeepsHeardBeside (hd : Header) (x : ℕ) (test : Seen → Bool) (Z : World → Seen → Type 0) : Type 0 where
-  pub kept : Keeps hd (λ M. test M ≡ true)
-  pub naming : GivesNaming x (λ W M. IsKnownWith test M × Z W M)

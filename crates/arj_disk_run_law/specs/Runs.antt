@@ -15,9 +15,7 @@ use Rattle.arj_run_law.specs.Worlds.{IsGood}
 use Rattle.arj_call_law.specs.Runs.{KnowsFew}
 use Rattle.arj_binding_law.specs.Scripts.{most_events}
 use Rattle.arj_disk_law.specs.Names.{Office}
-use Rattle.arj_disk_view_law.specs.Formats.{HasObject}
 use Rattle.arj_disk_run_law.specs.Part.{KeepsPart}
-use Rattle.arj_disk_run_law.specs.Rest.{KeepsHeard}
 
 -- a store that the entry lists, where the object isn't in doubt, holds this state
 abbrev pub HasState : ℕ → Packed → Node → Type 0
@@ -54,7 +52,3 @@ CopiesAgree x M = (last : Packed) × AgreesOn x last M
 abbrev pub RunsAgree : Type 0
 RunsAgree = (hd : Header) (x : ℕ) (part : Kinds → Office → Seen → Bool) → KeepsPart hd x (λ W M. IsGood M × KnowsFew M) (λ tops A M. part tops A M ≡ true)
     → (es : List Asked) → length es ≤ most_events → Holds hd (CopiesAgree x) (run_all es (format hd))
-
--- So it is with what is still taken of the relation that is built of it, for an object of the header.
-abbrev pub HeardRunsAgree : Type 0
-HeardRunsAgree = (hd : Header) (x : ℕ) (test : Seen → Bool) → HasObject hd x → KeepsHeard hd x test → (es : List Asked) → length es ≤ most_events → Holds hd (CopiesAgree x) (run_all es (format hd))

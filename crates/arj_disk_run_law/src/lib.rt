@@ -8,8 +8,9 @@
 //! made, as in the run of every script (`arj_binding_law`); that bindings are of naming's incarnation `arj_lock_fact_law` gives
 //! (`specs/Bindings.antt`). A relation is kept beside the machine's state (`specs/Part.antt`), of
 //! what coordinators have of naming's answers and what messages claim of them (`specs/Heard.antt`), and that each decided top had its
-//! commit called once (`specs/Decided.antt`), by which commits begin and Confirms are booked, and versions stay short; what naming
-//! counts on beside it is still taken as known (`specs/Rest.antt`). It gives upward `runs_keep_the_disk_half`.
+//! commit called once (`specs/Decided.antt`), by which commits begin and Confirms are booked, and versions stay short. It is kept where
+//! new Confirms are of the next version (`GivesNaming` in `specs/Rest.antt`), which `arj_joint_law` gives by the lock machine in the same
+//! run. It gives upward `runs_keep_the_disk_half`, of any relation that is kept so.
 #![tactic(auto)]
 
 mod runs;

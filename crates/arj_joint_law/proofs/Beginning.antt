@@ -1,6 +1,6 @@
 -- The machine's first state and entry are kept, and so they are those of the header after each run.
-use Rattle.std.proofs.Common.{◌≡◌, ℕ, ◌+◌, true, List, [], None, Some, sym, ◌∙◌, subst, is_some, length, map, arith}
-use Rattle.std.specs.Prelude.{⊤, ◌≤◌, ◌&&◌, nat_le}
+use Rattle.std.proofs.Common.{◌≡◌, ℕ, ◌+◌, true, List, [], None, Some, sym, ◌∙◌, subst, is_some, map, arith}
+use Rattle.std.specs.Prelude.{◌&&◌, nat_le}
 use Rattle.std.proofs.lemmas.Bool.Decides.{nat_tests}
 use Rattle.arj_journal.specs.ScriptForm.{HeaderInForm}
 use Rattle.arj_model.specs.Last.{object_line}
@@ -11,30 +11,22 @@ use Rattle.arj_protocol.specs.Node.{Parts, with_coord}
 use Rattle.arj_protocol.specs.Step.{acts, first_node, numbers_to, parent_of, parts_in, restart_outs}
 use Rattle.arj_protocol.specs.Tree.{at_place}
 use Rattle.arj_protocol.specs.Words.{Header}
-use Rattle.arj_protocol.specs.World.{Asked, format, is_serial_kind, run_all}
+use Rattle.arj_protocol.specs.World.{format, is_serial_kind}
 use Rattle.arj_disk_law.specs.Effects as machine
 use Rattle.arj_disk_law.specs.Names.{Office}
-use Rattle.arj_view_law.specs.Keeps.{Holds, Keeps}
 use Rattle.arj_view_law.specs.Seen.{Seen, given, see}
 use Rattle.arj_view_law.specs.Walks.{Up, Walks}
 use Rattle.arj_view_law.proofs.Happens.{runs_hold}
 use Rattle.arj_view_law.proofs.Together.{walks_to}
-use Rattle.arj_binding_law.specs.Scripts.{most_events}
-use Rattle.arj_disk_run_law.proofs.Scripts.{part_few, part_more}
 use Rattle.arj_run_law.specs.Worlds.{IsGood}
 use Rattle.arj_run_law.proofs.AllRuns.{all_keep as parts_good}
 use Rattle.arj_disk_view_law.specs.Sees.{IsLater, Kinds}
 use Rattle.arj_names_view_law.specs.Both.{OnlyFound, SeesBoth}
 use Rattle.arj_names_view_law.specs.Handlers.{Change, Changes, Quietly, change_by}
-use Rattle.arj_disk_run_law.specs.Rest.{IsCountedWith, SeesCarried}
 use Rattle.arj_disk_run_law.specs.Part.{Going, HasHeard, KeepsPart, are_recorded, going_of}
-use Rattle.arj_disk_run_law.specs.Bindings.{KnowsScript}
-use Rattle.arj_disk_run_law.proofs.BothEach.{counted_with, heard_part}
-use Rattle.arj_disk_line_law.specs.Said.{IsKnownEarly}
-use Rattle.arj_disk_line_law.proofs.Tying.{goes_by, journalled_beside}
+use Rattle.arj_disk_line_law.proofs.Tying.{goes_by}
 use Rattle.arj_disk_run_law.proofs.Decisions.{goes_along}
 use Rattle.arj_serial_law.specs.Cleaned.{BeginsSo}
-use Rattle.arj_joint_law.specs.Begun.{IsBegunSo, RunsBeginSo, RunsBeginSoBeside}
 use Rattle.arj_joint_law.proofs.Firsts.{begins_so, line_there}
 
 -- with what is carried beside the machine's state
@@ -102,15 +94,3 @@ first_begins hd x form there tops A walk both none =
 
     one : (nat_le 1 1 && nat_le 1 hd.nodes) ≡ true
     one = let n = (let f = form.nodes in f.0) in grind (arith, nat_tests, n)
-
-begun_beside : (hd : Header) (x : ℕ) (R : Seen → Type 0) (P : Kinds → Office → Seen → Type 0) → HeaderInForm hd → is_some (object_line hd x) ≡ true → Keeps hd R → KeepsPart hd x (λ W M. R M × KnowsScript M) P → (es : List Asked) → length es ≤ most_events → Holds hd (IsBegunSo hd x) (run_all es (format hd))
-begun_beside hd x R P form there kept parts es short =
-    let h = journalled_beside hd x (λ ls. ⊤) (λ ls more f. tt) R (WithFirst hd x P) kept (first_part hd x (λ W M. R M × IsKnownEarly (λ ls. ⊤) W M) P (part_more hd x (λ W M. R M × KnowsScript M) (λ W M. R M × IsKnownEarly (λ ls. ⊤) W M) P (λ W M q. (q.0, q.1.0.0)) parts) (first_begins hd x form there)) es short tt in
-    let b = h.holds in
-    record { sent = h.sent; stands = h.stands; holds = record { journalled = b.0; begins = subst (λ (W : machine.World). BeginsSo hd x W.disk) b.2 (let z = b.3 in z.1) } }
-
-pub runs_begin_so : RunsBeginSo
-runs_begin_so hd x test form there rest es short = begun_beside hd x (IsCountedWith test) (SeesCarried x) form there (counted_with hd x test rest) (heard_part hd x test (line_there hd x form there).0 rest) es short
-
-pub runs_begin_beside : RunsBeginSoBeside
-runs_begin_beside hd x part form there parts es short = begun_beside hd x IsGood (λ tops A M. part tops A M ≡ true) form there (parts_good hd) (part_few hd x IsGood (λ tops A M. part tops A M ≡ true) parts) es short

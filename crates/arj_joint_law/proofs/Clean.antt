@@ -34,10 +34,9 @@ use Rattle.arj_protocol.proofs.Numbers.{number_tells}
 use Rattle.arj_protocol.specs.Order.{uid_number}
 use Rattle.arj_serial_law.proofs.Order.{IsTopOf, top_item}
 use Rattle.arj_view_law.specs.Keeps.{Holds}
-use Rattle.arj_view_law.specs.Seen.{Seen, see}
+use Rattle.arj_view_law.specs.Seen.{see}
 use Rattle.arj_view_law.proofs.Happens.{runs_hold}
 use Rattle.arj_binding_law.specs.Scripts.{most_events}
-use Rattle.arj_disk_run_law.specs.Rest.{KeepsHeard}
 use Rattle.arj_serial_law.specs.Cleaned.{HaveForm, IsCleanIn}
 use Rattle.arj_serial_law.specs.Decided.{AreDecided, AreDecisions, AreNewestFirst, DecideChanges, Joined, Wrote, WroteSo}
 use Rattle.arj_lock_fact_law.specs.Entries.{HasObject}
@@ -47,7 +46,8 @@ use Rattle.arj_serial_law.proofs.Cleaning.{is_clean}
 use Rattle.arj_serial_law.proofs.Including.{are_decided, changers_turn}
 use Rattle.arj_serial_law.proofs.Shown.{files_clean}
 use Rattle.arj_serial_law.proofs.Ties.{Ties, ties_of}
-use Rattle.arj_joint_law.specs.Cleaned.{AreLockTied, AreNamed, RunsAreClean, WholeRunsAreClean, disk_of, is_one_of, number_of}
+use Rattle.arj_joint_law.specs.Cleaned.{RunsAreClean}
+use Rattle.arj_joint_law.proofs.NamedTops.{AreLockTied, AreNamed, disk_of, is_one_of, number_of}
 use Rattle.arj_joint_law.specs.FitRuns.{AreEventsInForm}
 use Rattle.arj_joint_law.specs.Includers.{IncludersTakeTurns, JoinersAreNewestFirst, TakesTurnsSo}
 use Rattle.arj_joint_law.specs.Ordered.{AreSpared, AreTurnsOf, IsOrderedSo}
@@ -56,11 +56,10 @@ use Rattle.arj_joint_law.specs.Writers.{WritersAreNewestFirst}
 use Rattle.arj_joint_law.proofs.Called.{decided_writers_stand, decision_of, number_is, one_number, those_of, wrote_something}
 use Rattle.arj_joint_law.proofs.FormRuns.{runs_have_form}
 use Rattle.arj_joint_law.proofs.IdlePlaces.{added, all_idle, all_those, none_among, serial_there}
-use Rattle.arj_joint_law.specs.Joined.{AreBareSo, AreWritten, IsJoinedSo, JoinedRunsAreSerial}
+use Rattle.arj_joint_law.specs.Joined.{AreBareSo, AreWritten, IsJoinedSo, JoinedRunsAreSerial, JoinedRunsAreTied}
 use Rattle.arj_joint_law.proofs.JoinedRuns.{runs_are_joined}
 use Rattle.arj_joint_law.proofs.JoinOrder.{decided_joiners_stand}
 use Rattle.arj_joint_law.proofs.Naming.{decided_named}
-use Rattle.arj_joint_law.proofs.OrderedRuns.{runs_take_turns}
 use Rattle.arj_joint_law.proofs.Showing.{files_show_disks}
 use Rattle.arj_lock_law.specs.State.{State}
 use Rattle.arj_serial_law.specs.Seen.{IsSerialRun}
@@ -433,14 +432,7 @@ module _ (hd : Header) (es : List Asked) (disks : Disks) (form : HeaderInForm hd
       (λ x there. let c = clean_of hd es form tied held decide x there in record { names = c.names; stores = c.stores })
       (files_show_disks hd r.sent (run_all es (format hd)) disks form r.stands (includes_there hd es) (record { stores = files.stores; names = files.names }))
 
--- with the state that the disk half gives
-pub ordered_held : (hd : Header) (es : List Asked) (test : ℕ → Seen → Bool) → HeaderInForm hd → length es ≤ most_events → ((x : ℕ) → is_some (object_line hd x) ≡ true → KeepsHeard hd x (test x)) → Held hd es
-ordered_held hd es test form short heard x there = runs_take_turns hd x (test x) form there (heard x there) es short
-
-pub runs_are_clean : RunsAreClean
-runs_are_clean hd es disks test form short heard tied decide files = let held = ordered_held hd es test form short heard in are_clean hd es disks form tied held (λ x there. decide x there (ordered_of hd es x (held x there))) files
-
--- ---- with the lock half
+-- ---- with both machines
 
 -- with both machines at once
 pub joined_at : (hd : Header) (es : List Asked) → HeaderInForm hd → length es ≤ most_events → AreEventsInForm es → (x : ℕ) → is_some (object_line hd x) ≡ true → Holds hd (IsJoinedSo hd x) (run_all es (format hd))
@@ -465,10 +457,13 @@ decides_in hd es joined x there =
     let j = (let h = joined x there in h.holds) in
     (j.wrote, j.bare)
 
-pub whole_runs_are_clean : WholeRunsAreClean
-whole_runs_are_clean hd es disks form short fit files =
+pub runs_are_clean : RunsAreClean
+runs_are_clean hd es disks form short fit files =
     let joined = joined_at hd es form short fit in
     are_clean hd es disks form (lock_tied hd es joined) (held_in hd es joined) (decides_in hd es joined) files
 
 pub joined_runs_are_serial : JoinedRunsAreSerial
 joined_runs_are_serial hd es form fit short = serial hd es (joined_at hd es form short fit)
+
+pub joined_runs_are_tied : JoinedRunsAreTied
+joined_runs_are_tied hd es form fit short = let t = lock_tied hd es (joined_at hd es form short fit) in t.called

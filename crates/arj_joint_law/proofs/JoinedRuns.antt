@@ -2,7 +2,10 @@
 use Rattle.std.proofs.Common.{List, subst}
 use Rattle.arj_joint_law.specs.Joined.{IsJoinedSo, RunsAreJoined, world_of}
 use Rattle.arj_joint_law.proofs.NextGiven.{one_requests}
-use Rattle.arj_joint_law.specs.Includers.{IncludersTakeTurns}
+use Rattle.arj_joint_law.specs.Begun.{RunsBeginSo}
+use Rattle.arj_joint_law.specs.Includers.{IncludersTakeTurns, RunsTakeTurns}
+use Rattle.arj_joint_law.specs.Ordered.{RunsAreOrdered}
+use Rattle.arj_disk_run_law.proofs.ListedRuns.{loads_there}
 use Rattle.arj_joint_law.proofs.JoinKeeps.{WithTurns, turns_part}
 use Rattle.arj_joint_law.proofs.LightKeeps.{WithLights, lights_part}
 use Rattle.arj_joint_law.proofs.Joining.{HasLocks, WithLocks}
@@ -51,8 +54,8 @@ runs_are_joined hd x form there es fit short =
     part = lights_part hd x (Early hd x) (WithTurns x (WithLocks (first_values hd) x (Whole x) Nothing (Carried hd x))) (λ W M q. q.0.0.0.0.1) (λ tops A M p. p.0.0.0.0.0.0.0.0) (λ tops A M p. p.1)
         (turns_part hd x (Early hd x) (WithLocks (first_values hd) x (Whole x) Nothing (Carried hd x)) (λ W M q. q.0.0.0.0.1) (λ tops A M p. p.0.0.0.0.0.0.0) (λ tops A M p. p.0.0.0.0.0.0.1) paired)
 
-    joined : (sent : List Post) → IsOrderedBeside Joined hd x (see sent (run_all es (format hd))) → IsJoinedSo hd x (see sent (run_all es (format hd)))
-    joined sent (o, tops, A, same, p, few) = record {
+    joined : (sent : List Post) → IsOrderedBeside (Base hd x) Joined hd x (see sent (run_all es (format hd))) → IsJoinedSo hd x (see sent (run_all es (format hd)))
+    joined sent (o, tops, A, same, p, few, seen, kept) = record {
       ordered = o;
       includers = subst (λ (W : World). IncludersTakeTurns M.lines W.disk.tops) same (let k = p.0.1 in k.turns);
       lights = lights_split hd x es sent o A same p.1;
@@ -62,6 +65,7 @@ runs_are_joined hd x form there es fit short =
       requests = requests;
       wrote = (let b = o.begun in let j = b.journalled in wrote hd es x right sent j.tops j.machine j.sees locks.0 locks.1 (λ f a. let z = locks.3 f a in (z.0, z.1, z.2, z.4)) requests);
       agree = (let b = o.begun in let j = b.journalled in copies_agree x j.tops j.machine M j.sees);
+      loads = loads_there x tops A M seen (let z = kept.0.0 in z.0.0) few (let z = p.0.0.0 in z.1);
       bare = (let b = o.begun in let j = b.journalled in bare hd es x right sent j.tops j.machine j.sees locks.0 locks.1 (λ f a. let z = locks.3 f a in (z.0, z.1, z.2, z.4)) requests);
     }
       where
@@ -76,3 +80,14 @@ runs_are_joined hd x form there es fit short =
 
         requests : RequestsAreOne M
         requests = one_requests x locks.0 M few locks.2.0
+
+-- ---- what follows of the disk machine alone
+
+pub runs_begin_so : RunsBeginSo
+runs_begin_so hd x form there es fit short = let h = runs_are_joined hd x form there es fit short in record { sent = h.sent; stands = h.stands; holds = (let j = h.holds in let o = j.ordered in o.begun) }
+
+pub runs_are_ordered : RunsAreOrdered
+runs_are_ordered hd x form there es fit short = let h = runs_are_joined hd x form there es fit short in record { sent = h.sent; stands = h.stands; holds = (let j = h.holds in j.ordered) }
+
+pub runs_take_turns : RunsTakeTurns
+runs_take_turns hd x form there es fit short = let h = runs_are_joined hd x form there es fit short in record { sent = h.sent; stands = h.stands; holds = (let j = h.holds in record { ordered = j.ordered; includers = j.includers; lights = j.lights }) }

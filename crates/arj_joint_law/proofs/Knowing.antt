@@ -26,7 +26,7 @@ use Rattle.arj_serial_law.specs.Decided.{AreDecided, AreDecisions, AreNewestFirs
 use Rattle.arj_serial_law.proofs.Order.{IsTopOf, listed, place_of_top, top_item}
 use Rattle.arj_serial_law.proofs.Tying.{all_at}
 use Rattle.arj_view_law.specs.Keeps.{Holds}
-use Rattle.arj_joint_law.specs.Cleaned.{disk_of}
+use Rattle.arj_joint_law.proofs.NamedTops.{disk_of}
 use Rattle.arj_joint_law.specs.Excluded.{CommitsBeginIt, IsNew, lines_before}
 use Rattle.arj_joint_law.specs.SaidFirst.{IncluderKnows, IncludersKnow, IsSaidFirst}
 use Rattle.arj_joint_law.specs.Ordered.{IsOrderedSo}

@@ -92,6 +92,7 @@ pub mod BasedOthers
 pub mod BasedPlans
 pub mod BasedLaws
 pub mod BasedRuns
+pub mod NamedTops
 pub mod Naming
 pub mod LastWriters
 pub mod NodesThere

@@ -25,7 +25,7 @@ use Rattle.arj_serial_law.proofs.Order.{IsTopOf}
 use Rattle.arj_serial_law.proofs.Turning.{Rise, counting, from_reverse, in_call_order, rises_kept, tops_rise}
 use Rattle.arj_serial_law.proofs.Tying.{all_at}
 use Rattle.arj_serial_law.proofs.Values.{to_filter}
-use Rattle.arj_joint_law.specs.Cleaned.{is_one_of}
+use Rattle.arj_joint_law.proofs.NamedTops.{is_one_of}
 use Rattle.arj_joint_law.specs.Lights.{AddsNone, IsSplit}
 use Rattle.arj_joint_law.specs.Ordered.{IsCalledBefore}
 use Rattle.arj_joint_law.proofs.Called.{IsOf, called_in_turn, its_top_of, one_number, there_before}

@@ -26,7 +26,7 @@ use Rattle.arj_serial_law.proofs.Order.{same_number, top_for, top_item}
 use Rattle.arj_view_law.specs.Keeps.{Holds}
 use Rattle.arj_view_law.specs.Seen.{Post, see}
 use Rattle.arj_view_law.proofs.Happens.{runs_hold}
-use Rattle.arj_joint_law.specs.Cleaned.{AreNamed, IsNamed, disk_of}
+use Rattle.arj_joint_law.proofs.NamedTops.{AreNamed, IsNamed, disk_of}
 use Rattle.arj_joint_law.specs.Ordered.{IsOrderedSo}
 use Rattle.arj_joint_law.proofs.Called.{there_before}
 use Rattle.arj_joint_law.proofs.NewWriters.{its_uid}

@@ -1,6 +1,6 @@
 -- The order in which an object's machine decides tops, in every run.
 use Rattle.std.proofs.Common.{◌≡◌, ◌⊎◌, ℕ, List, [], ◌∷◌, true, ◌∙◌, ap, subst, inl, inr, is_some, length, not, sym, ◌&&◌, ◌||◌, Bool, false, filter, None, Some}
-use Rattle.std.specs.Prelude.{⊤, ◌≤◌, Contains}
+use Rattle.std.specs.Prelude.{◌≤◌, Contains}
 use Rattle.arj_journal.specs.ScriptForm.{HeaderInForm}
 use Rattle.arj_lock.proofs.Members.{In, in_from, in_to}
 use Rattle.arj_model.specs.Actions.{Act, acts as acts_of, path, uids}
@@ -18,14 +18,9 @@ use Rattle.arj_view_law.specs.Seen.{Seen, Post, see}
 use Rattle.arj_view_law.proofs.Happens.{runs_hold}
 use Rattle.arj_binding_law.specs.Scripts.{most_events}
 use Rattle.arj_call_law.specs.Runs.{KnowsFew}
-use Rattle.arj_disk_run_law.proofs.Scripts.{part_few, part_more}
-use Rattle.arj_run_law.specs.Worlds.{IsGood}
-use Rattle.arj_run_law.proofs.AllRuns.{all_keep as parts_good}
+use Rattle.arj_disk_run_law.proofs.ListedRuns.{IsSeenBegun}
 use Rattle.arj_disk_view_law.specs.Sees.{Kinds}
-use Rattle.arj_disk_run_law.specs.Bindings.{KnowsScript}
-use Rattle.arj_disk_run_law.specs.Rest.{IsCountedWith, IsKnownWith, SeesCarried}
 use Rattle.arj_disk_run_law.specs.Part.{KeepsPart}
-use Rattle.arj_disk_run_law.proofs.BothEach.{counted_with, heard_part}
 use Rattle.arj_line_law.specs.Book.{book, is_decided, is_top, new_book}
 use Rattle.arj_line_law.specs.Idle.{IsIdle, HasNothing}
 use Rattle.arj_line_law.specs.Knows.{IsKept}
@@ -39,10 +34,8 @@ use Rattle.arj_disk_line_law.proofs.IdleKnown.{KnowsIdle}
 use Rattle.arj_disk_line_law.proofs.Tying.{both_too, journalled_beside, one_act, tied_part}
 use Rattle.arj_serial_law.specs.Cleaned.{BeginsSo}
 use Rattle.arj_disk_run_law.specs.Decided.{AreCalled, AreOnce}
-use Rattle.arj_joint_law.specs.Includers.{IncludersTakeTurns, RunsTakeTurns, TakesTurnsSo}
-use Rattle.arj_joint_law.specs.Ordered.{AreCountedOf, AreDim, AreIncludedOf, AreJoinedOf, AreLeftOf, AreRootedSo, AreSpared, AreStill, AreTurns, AreTurnsOf, AreUntouched, IsCalledFirst, IsOrdered, IsOrderedSo, RunsAreOrdered, RunsAreOrderedBeside}
+use Rattle.arj_joint_law.specs.Ordered.{AreCountedOf, AreDim, AreIncludedOf, AreJoinedOf, AreLeftOf, AreRootedSo, AreSpared, AreStill, AreTurns, AreTurnsOf, AreUntouched, IsCalledFirst, IsOrdered, IsOrderedSo}
 use Rattle.arj_joint_law.proofs.Beginning.{WithFirst, first_begins, first_part}
-use Rattle.arj_joint_law.proofs.Firsts.{line_there}
 use Rattle.arj_joint_law.proofs.Ordering.{ordered_part}
 use Rattle.arj_joint_law.proofs.Turns.{IdleThere}
 use Rattle.arj_joint_law.specs.Joined.{world_of}
@@ -58,12 +51,10 @@ use Rattle.arj_protocol.specs.Order.{uid_number}
 use Rattle.arj_line_law.proofs.Owners.{have_nodes}
 use Rattle.arj_joint_law.proofs.JoinLists.{filtered_same, has_is}
 use Rattle.arj_joint_law.proofs.JoinModel.{joined}
-use Rattle.arj_joint_law.proofs.JoinKeeps.{WithTurns, turns_part}
 use Rattle.arj_joint_law.proofs.KnowKeeps.{WithKnown, known_part}
 use Rattle.arj_joint_law.proofs.KnowStep.{AllKnow}
 use Rattle.arj_protocol.proofs.Numbers.{number_tells}
 use Rattle.arj_joint_law.specs.SaidFirst.{IncludersKnow}
-use Rattle.arj_joint_law.proofs.LightKeeps.{WithLights, lights_part}
 use Rattle.arj_joint_law.proofs.LightStates.{IsPassed, KeepLights}
 use Rattle.arj_joint_law.specs.Lights.{IsSplit, LightsAreSplit}
 use Rattle.arj_joint_law.proofs.Leaving.{left}
@@ -109,9 +100,9 @@ spared_of x lines right W done a there top is = by (done a.uid (sym (let r = sou
     by (inr (inr (inl idle))) = inr (inr (idle_has_nothing lines right a there is idle.0, leaves idle.1))
     by (inr (inr (inr (p, began, uid, plain)))) = absurd (never (ap (λ (y : Act). is_top y.kind) (its p (subst (In p) (let r = sound.reads in r.begun) (in_from p (let B = book lines in B.acts) began)) uid) ∙ top) plain)
 
--- beside a relation that holds of the same state of the machine, where few bindings were made
-abbrev pub IsOrderedBeside : (Kinds → Office → Seen → Type 0) → Header → ℕ → Seen → Type 0
-IsOrderedBeside P hd x M = (o : IsOrderedSo hd x M) × (tops : Kinds) × (A : Office) × (A.world ≡ world_of o) × P tops A M × KnowsFew M
+-- Beside a relation that holds of the same state of the machine, where few bindings were made; with what is known of that state.
+abbrev pub IsOrderedBeside : (Seen → Type 0) → (Kinds → Office → Seen → Type 0) → Header → ℕ → Seen → Type 0
+IsOrderedBeside R P hd x M = (o : IsOrderedSo hd x M) × (tops : Kinds) × (A : Office) × (A.world ≡ world_of o) × P tops A M × KnowsFew M × IsSeenBegun x tops A M × R M
 
 -- what decided tops excluded and included, in the words of the model
 module _ (hd : Header) (x : ℕ) (es : List Asked) (sent : List Post) (W : machine.World) (right : AreRight new_book (run_all es (format hd)).lines) (whole : machine.Whole W) (marks : AreMarkedSo x W (see sent (run_all es (format hd)))) where
@@ -204,10 +195,6 @@ all_know hd es sent (d ∷ ds) whose know = (
   all_know hd es sent ds (λ e i. whose e (inr i)) know.1,
 )
 
--- where nobody is late, too
-pub early : (hd : Header) (x : ℕ) (Fits : List Line → Type 0) (R : Seen → Type 0) (P : Kinds → Office → Seen → Type 0) → KeepsPart hd x (λ W M. R M × KnowsScript M) P → KeepsPart hd x (λ W M. R M × IsKnownEarly Fits W M) P
-early hd x Fits R P parts = part_more hd x (λ W M. R M × KnowsScript M) (λ W M. R M × IsKnownEarly Fits W M) P (λ W M q. (q.0, q.1.0.0)) parts
-
 -- what commits under way include is known beside the journal
 abbrev Including : Seen → Type 0
 Including M = IsBased M × IncludesAreSaid M
@@ -220,7 +207,7 @@ Saying M = Including M × MarksAreSaid M
 abbrev Marking : (Seen → Type 0) → Seen → Type 0
 Marking R M = R M × (Saying M × (MarksAreAsked M × ArePartedNow M))
 
-pub ordered_beside : (hd : Header) (x : ℕ) (Fits : List Line → Type 0) → WasBefore Fits → (R : Seen → Type 0) (P : Kinds → Office → Seen → Type 0) → HeaderInForm hd → is_some (object_line hd x) ≡ true → Keeps hd R → KeepsPart hd x (λ W M. R M × IsKnownEarly Fits W M) P → (es : List Asked) → length es ≤ most_events → Fits (run_all es (format hd)).lines → Holds hd (IsOrderedBeside P hd x) (run_all es (format hd))
+pub ordered_beside : (hd : Header) (x : ℕ) (Fits : List Line → Type 0) → WasBefore Fits → (R : Seen → Type 0) (P : Kinds → Office → Seen → Type 0) → HeaderInForm hd → is_some (object_line hd x) ≡ true → Keeps hd R → KeepsPart hd x (λ W M. R M × IsKnownEarly Fits W M) P → (es : List Asked) → length es ≤ most_events → Fits (run_all es (format hd)).lines → Holds hd (IsOrderedBeside R P hd x) (run_all es (format hd))
 ordered_beside hd x Fits before R P form there kept parts es short fits =
     let first : KeepsPart hd x (λ W M. Marking R M × IsKnownEarly Fits W M) (WithFirst hd x (WithMarks x P)) = first_part hd x (λ W M. Marking R M × IsKnownEarly Fits W M) (WithMarks x P) marks (first_begins hd x form there) in
     let idles : KnowsIdle (Marking R) Idle = knows_spared (Marking R) (λ M r. r.1.1) in
@@ -258,6 +245,8 @@ ordered_beside hd x Fits before R P form there kept parts es short fits =
         b.2,
         more.0,
         b.4,
+        b.5,
+        (let r = b.6 in r.0.0),
       );
     }
   where
@@ -273,15 +262,6 @@ ordered_beside hd x Fits before R P form there kept parts es short fits =
 
     marks : KeepsPart hd x (λ W M. Marking R M × IsKnownEarly Fits W M) (WithMarks x P)
     marks = marks_part hd x (λ W M. R M × IsKnownEarly Fits W M) (λ W M. Marking R M × IsKnownEarly Fits W M) P (λ W M r. (r.0.0, r.1)) (λ W M r. let z = r.0.1.0 in (z.0.0.0, z.1, z.0.1)) parts
-
-ordered : (hd : Header) (x : ℕ) (P : Kinds → Office → Seen → Type 0) (es : List Asked) → Holds hd (IsOrderedBeside P hd x) (run_all es (format hd)) → Holds hd (IsOrderedSo hd x) (run_all es (format hd))
-ordered hd x P es h = record { sent = h.sent; stands = h.stands; holds = (let z = h.holds in z.0) }
-
-pub runs_are_ordered : RunsAreOrdered
-runs_are_ordered hd x test form there rest es short = ordered hd x (SeesCarried x) es (ordered_beside hd x (λ ls. ⊤) (λ ls more f. tt) (IsCountedWith test) (SeesCarried x) form there (counted_with hd x test rest) (early hd x (λ ls. ⊤) (IsCountedWith test) (SeesCarried x) (heard_part hd x test (line_there hd x form there).0 rest)) es short tt)
-
-pub runs_are_ordered_beside : RunsAreOrderedBeside
-runs_are_ordered_beside hd x part form there parts es short = ordered hd x (λ tops A M. part tops A M ≡ true) es (ordered_beside hd x (λ ls. ⊤) (λ ls more f. tt) IsGood (λ tops A M. part tops A M ≡ true) form there (parts_good hd) (early hd x (λ ls. ⊤) IsGood (λ tops A M. part tops A M ≡ true) (part_few hd x IsGood (λ tops A M. part tops A M ≡ true) parts)) es short tt)
 
 -- ---- where one includes a store
 
@@ -310,18 +290,3 @@ lights_split hd x es sent o A same lights = subst (λ (W : machine.World). Light
           joins = ap (λ (p : Plan). disk_list.has s p.joins) plan ∙ on;
           stands = inr (ap (decided_in A.world.disk.tops) number ∙ in_decided A.world.disk.tops d i);
         }
-
-pub runs_take_turns : RunsTakeTurns
-runs_take_turns hd x test form there rest es short =
-    let h = ordered_beside hd x (λ ls. ⊤) (λ ls more f. tt) (IsCountedWith test) Kept form there (counted_with hd x test rest) (early hd x (λ ls. ⊤) (IsCountedWith test) Kept part) es short tt in
-    record { sent = h.sent; stands = h.stands; holds = turned h.sent h.holds }
-  where
-    Kept : Kinds → Office → Seen → Type 0
-    Kept tops A M = WithLights x (WithTurns x (SeesCarried x)) tops A M
-
-    part : KeepsPart hd x (λ W M. IsKnownWith test M) Kept
-    part = lights_part hd x (λ W M. IsKnownWith test M) (WithTurns x (SeesCarried x)) (λ W M q. q.0.0.1) (λ tops A M p. p.0.0) (λ tops A M p. p.1)
-        (turns_part hd x (λ W M. IsKnownWith test M) (SeesCarried x) (λ W M q. q.0.0.1) (λ tops A M p. p.0) (λ tops A M p. p.1) (heard_part hd x test (line_there hd x form there).0 rest))
-
-    turned : (sent : List Post) → IsOrderedBeside Kept hd x (see sent (run_all es (format hd))) → TakesTurnsSo hd x (see sent (run_all es (format hd)))
-    turned sent (o, tops, A, same, p, few) = record { ordered = o; includers = subst (λ (W : machine.World). IncludersTakeTurns (run_all es (format hd)).lines W.disk.tops) same (let k = p.0.1 in k.turns); lights = lights_split hd x es sent o A same p.1 }

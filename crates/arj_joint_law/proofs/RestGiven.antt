@@ -15,9 +15,10 @@ use Rattle.arj_lock_run_law.specs.Answers.{GivesLast}
 use Rattle.arj_lock_run_law.specs.Beside.{Spot, world_at}
 use Rattle.arj_lock_run_law.specs.Fixed.{BeginsAs, Fixed}
 use Rattle.arj_lock_run_law.specs.Kept.{case_of}
+use Rattle.arj_call_law.specs.Runs.{KnowsFew}
+use Rattle.arj_lock_whole_law.specs.Whole.{KnowsWhole}
 use Rattle.arj_lock_whole_law.specs.Rest.{GivesRest}
 use Rattle.arj_lock_whole_law.specs.Stored.{AwaitsLoad}
-use Rattle.arj_lock_whole_law.specs.Runs.{Known}
 use Rattle.arj_joint_law.specs.Joined.{IsPaired, SeesRecorded}
 use Rattle.arj_joint_law.specs.Loads.{AreLoadsLast}
 use Rattle.arj_joint_law.proofs.DecidedTops.{machine_decided}
@@ -51,6 +52,10 @@ module _ (f : Fixed) (x : ℕ) (begun : List Action) (S : State) (s : Spot) (las
         waits = at ∙ ap (λ (z : ℕ). AtLoad k z rest) store;
         request = eqb-true w.req a.req parts.0;
       }
+
+-- what is known of the protocol alone, with what is kept beside it
+abbrev Known : ℕ → (List Action → Seen → Type 0) → List Action → Seen → Type 0
+Known x E begun M = KnowsFew M × (KnowsWhole x begun M × E begun M)
 
 -- so nothing is still taken, beside what is carried with the disk machine's state
 pub rest_beside : (values : Values) (x : ℕ) (E : List Action → Seen → Type 0) (P : Kinds → Office → Seen → Type 0) → ((tops : Kinds) (A : Office) (M : Seen) → P tops A M → SeesRecorded x tops A M) → (f : Fixed) → BeginsAs values x f → GivesRest f x (λ begun S M. Known x E begun M × IsPaired x P f begun S M)

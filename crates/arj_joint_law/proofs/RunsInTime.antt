@@ -5,10 +5,10 @@ use Rattle.arj_model.specs.Last.{object_line}
 use Rattle.arj_protocol.specs.Words.{Header}
 use Rattle.arj_protocol.specs.World.{Asked, World, format, journal, run_all}
 use Rattle.arj_view_law.specs.Seen.{see}
-use Rattle.arj_joint_law.specs.Cleaned.{AreLockTied}
+use Rattle.arj_joint_law.proofs.NamedTops.{AreLockTied}
 use Rattle.arj_joint_law.specs.Excluded.{AreExcludedInTime, IsSeenSo}
-use Rattle.arj_joint_law.specs.InTime.{RunsExcludeInTime, WholeRunsExcludeInTime}
-use Rattle.arj_joint_law.proofs.Clean.{Decides, Held, decided, decides_in, formed, held_in, joined_at, lock_tied, ordered_held, ordered_of, right, ties}
+use Rattle.arj_joint_law.specs.InTime.{RunsExcludeInTime}
+use Rattle.arj_joint_law.proofs.Clean.{Decides, Held, decided, decides_in, formed, held_in, joined_at, lock_tied, ordered_of, right, ties}
 use Rattle.arj_joint_law.proofs.CommitCalls.{commits_begin}
 use Rattle.arj_joint_law.proofs.Excluding.{is_in_time, newest_by_calls, nodes_have_form}
 use Rattle.arj_joint_law.proofs.Knowing.{none_last}
@@ -38,9 +38,6 @@ module _ (hd : Header) (es : List Asked) (form : HeaderInForm hd) (tied : AreLoc
       is_in_time hd w.event (see h.sent w) r (ties hd es form tied held decide) x i t new wrote newest s n m st at_naming at_store held_there has_it
 
 pub runs_exclude : RunsExcludeInTime
-runs_exclude hd es test form short heard tied decide = let held = ordered_held hd es test form short heard in in_time hd es form tied held (λ x there. decide x there (ordered_of hd es x (held x there)))
-
-pub whole_runs_exclude : WholeRunsExcludeInTime
-whole_runs_exclude hd es form short fit =
+runs_exclude hd es form short fit =
     let joined = joined_at hd es form short fit in
     in_time hd es form (lock_tied hd es joined) (held_in hd es joined) (decides_in hd es joined)

@@ -29,7 +29,7 @@ use Rattle.arj_serial_law.proofs.Paths.{own_there}
 use Rattle.arj_view_law.specs.Keeps.{Holds}
 use Rattle.arj_view_law.specs.Seen.{Post, see}
 use Rattle.arj_view_law.proofs.Happens.{runs_hold}
-use Rattle.arj_joint_law.specs.Cleaned.{disk_of}
+use Rattle.arj_joint_law.proofs.NamedTops.{disk_of}
 use Rattle.arj_joint_law.specs.Excluded.{IsNew, TakersAreCommitted, uid_of}
 use Rattle.arj_joint_law.specs.Ordered.{IsOrderedSo}
 use Rattle.arj_joint_law.proofs.NewWriters.{its_uid}

@@ -12,7 +12,7 @@ use Rattle.arj_protocol.specs.Commit.{Confirming, Plan, Used, changed_of}
 use Rattle.arj_protocol.specs.Effect.{Intent}
 use Rattle.arj_protocol.specs.Order.{uid_number}
 use Rattle.arj_protocol.specs.Step.{Node}
-use Rattle.arj_protocol.specs.World.{Asked, format, run_all}
+use Rattle.arj_protocol.specs.World.{Asked, format, journal, run_all}
 use Rattle.arj_part_law.specs.Actions.{Action}
 use Rattle.arj_disk_law.specs.Effects.{World}
 use Rattle.arj_disk_law.specs.Names.{Office}
@@ -38,7 +38,7 @@ use Rattle.arj_lock_run_law.specs.Fixed.{Fixed}
 use Rattle.arj_lock_run_law.specs.Sees.{SeesLocks}
 use Rattle.arj_lock_run_law.specs.Tied.{AreTied}
 use Rattle.arj_lock_run_law.specs.Votes.{AreVotedAt}
-use Rattle.arj_serial_law.specs.Tied.{AreApart}
+use Rattle.arj_serial_law.specs.Tied.{AreApart, AreTied as AreJournalTied}
 use Rattle.arj_joint_law.specs.Apt.{AgreesApart}
 use Rattle.arj_joint_law.specs.Based.{IsVotedOver}
 use Rattle.arj_joint_law.specs.BasedSteps.{AreBasedSo}
@@ -52,6 +52,7 @@ use Rattle.arj_joint_law.specs.Recorded.{WereRecorded}
 use Rattle.arj_serial_law.specs.Decided.{Wrote, WroteSo}
 use Rattle.arj_serial_law.specs.Seen.{IsSerialRun, RequestsAreOne}
 use Rattle.arj_disk_run_law.specs.Bindings.{AreGoodCounted, KnowsScript}
+use Rattle.arj_disk_run_law.specs.Listed.{LoadsAgree}
 use Rattle.arj_disk_run_law.specs.Rest.{SeesCarried}
 use Rattle.arj_disk_run_law.specs.Runs.{CopiesAgree}
 use Rattle.arj_binding_law.specs.Scripts.{most_events}
@@ -140,7 +141,8 @@ AreBareSo lines x S = (u : Top) → Contains (tops lines) u → S.bare (uid_numb
 -- Both machines of the object at once: the disk machine, whose decisions are those of the journal in their order, also of those that only include
 -- a store, and of which those that don't count changed nothing in their places; and for all that may be fixed and agrees with what was begun the lock machine, to which the journal is tied, in which commits under
 -- way have the votes that came, by which decided tops had planned, and in which it is known over which states copies and votes lie. So
--- decided tops wrote what their plans have, and those without a record nothing; and the copies of the object agree.
+-- decided tops wrote what their plans have, and those without a record nothing; the copies of the object agree, and who waits to load it for a
+-- binding that is current asks stores that hold what they agree on.
 pub record IsJoinedSo (hd : Header) (x : ℕ) (M : Seen) : Type 0 where
   pub ordered : IsOrderedSo hd x M
   pub includers : IncludersTakeTurns M.lines (let W = world_of ordered in W.disk.tops)
@@ -152,6 +154,7 @@ pub record IsJoinedSo (hd : Header) (x : ℕ) (M : Seen) : Type 0 where
   pub wrote : AreWritten (first_values hd) M.lines x (let W = world_of ordered in W.disk.tops)
   pub bare : AreBareSo M.lines x (let W = world_of ordered in W.disk)
   pub agree : CopiesAgree x M
+  pub loads : LoadsAgree x M
 
 -- So it is in the run of every script in form, of each object of the header.
 abbrev pub RunsAreJoined : Type 0
@@ -160,3 +163,7 @@ RunsAreJoined = (hd : Header) (x : ℕ) → HeaderInForm hd → is_some (object_
 -- So the run of every script in form is serial.
 abbrev pub JoinedRunsAreSerial : Type 0
 JoinedRunsAreSerial = (hd : Header) (es : List Asked) → HeaderInForm hd → AreEventsInForm es → length es ≤ most_events → IsSerialRun hd es
+
+-- And its journal is tied to the lock machine of each object of which a call was answered.
+abbrev pub JoinedRunsAreTied : Type 0
+JoinedRunsAreTied = (hd : Header) (es : List Asked) → HeaderInForm hd → AreEventsInForm es → length es ≤ most_events → AreJournalTied (first_values hd) (journal hd es)

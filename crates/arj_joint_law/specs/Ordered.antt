@@ -8,24 +8,19 @@ use Rattle.arj_protocol.specs.Words.{Header, Line, Uid, first_uid}
 use Rattle.arj_protocol.specs.Order.{uid_number}
 use Rattle.arj_protocol.specs.World.{Asked, format, run_all}
 use Rattle.arj_disk_law.specs.Effects.{World}
-use Rattle.arj_disk_law.specs.Names.{Office}
 use Rattle.arj_disk_law.specs.State.{Done, State, decided, target}
 use Rattle.arj_disk_law.specs.Words.{In, has}
 use Rattle.arj_view_law.specs.Keeps.{Holds}
 use Rattle.arj_view_law.specs.Seen.{Seen}
 use Rattle.arj_binding_law.specs.Scripts.{most_events}
-use Rattle.arj_call_law.specs.Runs.{KnowsFew}
-use Rattle.arj_disk_view_law.specs.Sees.{Kinds}
 use Rattle.arj_disk_run_law.specs.Decided.{AreCalled, AreOnce}
-use Rattle.arj_disk_run_law.specs.Part.{KeepsPart}
-use Rattle.arj_disk_run_law.specs.Rest.{KeepsHeard}
 use Rattle.arj_disk_line_law.specs.Said.{IsPlain}
 use Rattle.arj_line_law.specs.Book.{book, is_decided, is_top}
 use Rattle.arj_line_law.specs.Idle.{HasNothing}
 use Rattle.arj_line_law.specs.Laws.{IsDone}
-use Rattle.arj_run_law.specs.Worlds.{IsGood}
 use Rattle.arj_joint_law.specs.SaidFirst.{IncludersKnow}
 use Rattle.arj_joint_law.specs.Begun.{IsBegunSo}
+use Rattle.arj_joint_law.specs.FitRuns.{AreEventsInForm}
 
 -- ---- against the journal
 
@@ -117,12 +112,6 @@ pub record IsOrderedSo (hd : Header) (x : ℕ) (M : Seen) : Type 0 where
   pub spared : AreSpared M.lines x (let j = (let b = begun in b.journalled) in let W = j.machine in W.disk)
   pub know : IncludersKnow M.lines (let j = (let b = begun in b.journalled) in let W = j.machine in let S = W.disk in S.tops)
 
--- So it is in the run of every script, of each object of the header, with what is still taken of what coordinators have of naming's
--- answers; and beside any relation that is kept with the machine's state.
+-- So it is in the run of every script in form, of each object of the header.
 abbrev pub RunsAreOrdered : Type 0
-RunsAreOrdered = (hd : Header) (x : ℕ) (test : Seen → Bool) → HeaderInForm hd → is_some (object_line hd x) ≡ true → KeepsHeard hd x test → (es : List Asked) → length es ≤ most_events → Holds hd (IsOrderedSo hd x) (run_all es (format hd))
-
--- so it is beside any relation that is kept with the machine's state
-abbrev pub RunsAreOrderedBeside : Type 0
-RunsAreOrderedBeside = (hd : Header) (x : ℕ) (part : Kinds → Office → Seen → Bool) → HeaderInForm hd → is_some (object_line hd x) ≡ true → KeepsPart hd x (λ W M. IsGood M × KnowsFew M) (λ tops A M. part tops A M ≡ true)
-    → (es : List Asked) → length es ≤ most_events → Holds hd (IsOrderedSo hd x) (run_all es (format hd))
+RunsAreOrdered = (hd : Header) (x : ℕ) → HeaderInForm hd → is_some (object_line hd x) ≡ true → (es : List Asked) → AreEventsInForm es → length es ≤ most_events → Holds hd (IsOrderedSo hd x) (run_all es (format hd))

@@ -1,7 +1,7 @@
 // One outcome of each top, and that stores are excluded in time, by a journal.
 ghost use Rattle.std.specs.Prelude.{◌≡◌, false};
 ghost use Rattle.arj_joint_law.specs.Excluded.{IsInTime, IsNew, NewWritersAreLast, NodesHaveForm, RunsBeginWithCalls, RunsExcludeInTimeByCalls, SeenRunsExcludeInTime};
-ghost use Rattle.arj_joint_law.specs.InTime.{RunsExcludeInTime, WholeRunsExcludeInTime};
+ghost use Rattle.arj_joint_law.specs.InTime.{RunsExcludeInTime};
 ghost use Rattle.arj_joint_law.specs.Outcome.{CommitsAreBehind, ShowsOneOutcome, aborts_have_cause, commits_are_behind};
 ghost use Rattle.arj_joint_law.specs.Samples.{decided_lines, found_commit, halted_abort, header, its_top, naming_late, naming_node, right_end, store_three, store_two, wrong_abort, wrong_commit, wrong_names_abort};
 
@@ -48,12 +48,11 @@ pub fn seen_runs_exclude_in_time()
     ensures forms { NodesHaveForm }
 {}
 
-/// After the run of each script whose header is in form, of at most 1,000,000 events, stores are excluded in time, on what makes its files
-/// clean (`runs_are_clean`) and nothing more. That decided tops which count for an object and only include a store of it had their commits called
-/// when whoever wrote the object before them had been said is given (`decisions_come_behind_calls`); that who has an entry prepared beside a
-/// new top, of its root, is committed is given here. So it is where the script's events are in form, in place of a tied journal; and after each event,
-/// since the front of a script is one. It does nothing when it runs.
+/// After the run of each script whose header and events are in form, of at most 1,000,000 events, stores are excluded in time, on what makes
+/// its files clean (`runs_are_clean`), with no premise. That decided tops which count for an object and only include a store of it had their
+/// commits called when whoever wrote the object before them had been said is given (`decisions_come_behind_calls`); that who has an entry
+/// prepared beside a new top, of its root, is committed is given here. So it is after each event too, since the front of a script is one. It
+/// does nothing when it runs.
 pub fn runs_exclude_in_time()
-    ensures runs { RunsExcludeInTime }
-    ensures whole { WholeRunsExcludeInTime }
+    ensures { RunsExcludeInTime }
 {}

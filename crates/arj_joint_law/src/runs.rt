@@ -1,22 +1,20 @@
 // What an object's machine begins with and how it decides, in whole runs, and that files are clean after them.
 ghost use Rattle.arj_joint_law.specs.Alone.{RunsCallAlone};
-ghost use Rattle.arj_joint_law.specs.Begun.{ObjectsAreThere, RunsBeginSo, RunsBeginSoBeside};
-ghost use Rattle.arj_joint_law.specs.Cleaned.{RunsAreClean, WholeRunsAreClean};
+ghost use Rattle.arj_joint_law.specs.Begun.{ObjectsAreThere, RunsBeginSo};
+ghost use Rattle.arj_joint_law.specs.Cleaned.{RunsAreClean};
 ghost use Rattle.arj_joint_law.specs.Includers.{RunsTakeTurns};
-ghost use Rattle.arj_joint_law.specs.Joined.{JoinedRunsAreSerial, RunsAreJoined};
+ghost use Rattle.arj_joint_law.specs.Joined.{JoinedRunsAreSerial, JoinedRunsAreTied, RunsAreJoined};
 ghost use Rattle.arj_joint_law.specs.Joins.{RunsSayIncludes};
 ghost use Rattle.arj_joint_law.specs.Marked.{RunsAskMarks, RunsSayMarks};
-ghost use Rattle.arj_joint_law.specs.Ordered.{RunsAreOrdered, RunsAreOrderedBeside};
+ghost use Rattle.arj_joint_law.specs.Ordered.{RunsAreOrdered};
 ghost use Rattle.arj_joint_law.specs.Shown.{FilesShowDisks, IncludesAreListed};
 
-/// After the run of each script whose header is in form, of at most 1,000,000 events, with all frames that came in any order, again or
-/// never, all stops, crashes and restarts, there is for each object of the header a state of its disk machine in which it is seen, whose
-/// decisions are those of the journal, and whose first state and entry are the header's: no step changes them. What `KeepsHeard` of
-/// `arj_disk_run_law` names is still taken (`heard`), or a relation that is kept with the machine's state (`beside`); where the lock machine
-/// stands in the same run it isn't (`runs_have_both_machines`). It does nothing when it runs.
+/// After the run of each script whose header and events are in form, of at most 1,000,000 events, with all frames that came in any order,
+/// again or never, all stops, crashes and restarts, there is for each object of the header a state of its disk machine in which it is seen,
+/// whose decisions are those of the journal, and whose first state and entry are the header's: no step changes them. A header in form has
+/// each of its objects by one line, with a store. It does nothing when it runs.
 pub fn runs_begin_as_the_header_says()
-    ensures heard { RunsBeginSo }
-    ensures beside { RunsBeginSoBeside }
+    ensures begun { RunsBeginSo }
     ensures objects { ObjectsAreThere }
 {}
 
@@ -31,24 +29,20 @@ pub fn runs_begin_as_the_header_says()
 /// includes a store those that count and were decided before naming confirmed it had their commits called before, and left none of its stores listed;
 /// those that were decided behind had theirs called later, or include no store (`LightsAreSplit`). And whoever wrote the
 /// object before one that counts and only includes a store was said before that one's commit was called (`IncludersKnow`): what its commit loaded
-/// was known then by decisions that had been said, and is the last state as it is decided. It takes the same as `runs_begin_as_the_header_says`.
-/// It does nothing when it runs.
+/// was known then by decisions that had been said, and is the last state as it is decided. It does nothing when it runs.
 pub fn decisions_come_behind_calls()
-    ensures heard { RunsAreOrdered }
-    ensures beside { RunsAreOrderedBeside }
+    ensures ordered { RunsAreOrdered }
     ensures includers { RunsTakeTurns }
 {}
 
-/// After the run of each script whose header is in form, of at most 1,000,000 events, files that are those of its nodes' pairs are clean:
-/// with what the disk machine's half takes alone, where the journal is tied to the lock machines, and decided tops wrote what they gave to the
-/// stores, and those without a record nothing; or where the script's events are in form too (`whole`), where that is given and nothing
-/// taken of either half (`runs_have_both_machines`). That decided tops are the journal's, that machines began as the header
-/// says, that all states are of their class, that decided writers stand as their commits were called, that decided tops take those stores out
-/// of the list that their commits excluded and add those that they included, that who counts for nothing excludes no store that is listed in its
-/// place, and that each include names a node of the header, is given here. It does nothing when it runs.
+/// After the run of each script whose header and events are in form, of at most 1,000,000 events, files that are those of its nodes' pairs are
+/// clean, with no premise: of both machines of each object nothing is taken (`runs_have_both_machines`). That decided tops are the journal's,
+/// that machines began as the header says, that all states are of their class, that decided writers stand as their commits were called, that
+/// decided tops take those stores out of the list that their commits excluded and add those that they included, that who counts for nothing
+/// excludes no store that is listed in its place, and that each include names a node of the header (`listed`), is given here. Which files are
+/// those of the pairs `shown` says. It does nothing when it runs.
 pub fn runs_are_clean()
     ensures clean { RunsAreClean }
-    ensures whole { WholeRunsAreClean }
     ensures shown { FilesShowDisks }
     ensures listed { IncludesAreListed }
 {}
@@ -59,13 +53,15 @@ pub fn runs_are_clean()
 /// waited for naming in an earlier state of the lock machine: what it changes the object to is what the server voted that was called, over a state that
 /// was the last one once; and so it is known of copies and votes, and of committed tops with surviving writes (`AreBasedSo`). So each
 /// decided top of the journal gave to the stores what it wrote, and one whose commit ended without a record wrote nothing; the object's
-/// copies agree; and the run is serial. Of the disk half nothing is taken: by which version naming takes a top's Confirm the lock half gives,
-/// and so the premise of the laws above is no premise here. Nor is anything taken of the lock half: that commits of tops with surviving writes were
-/// recorded is given here, and so is that what a store gives to a call that waits for it, under a binding that is current, is the last committed
+/// copies agree, and who waits to load it for a binding that naming made last and didn't record yet asks stores that hold what they agree on;
+/// and so the journal is tied to the lock machine of each object of which a call was answered, and the run is serial. Of the disk half nothing is
+/// taken: by which version naming takes a top's Confirm the lock half gives. Nor is anything taken of the lock half: that commits of tops with
+/// surviving writes were recorded is given here, and so is that what a store gives to a call that waits for it, under a binding that is current, is the last committed
 /// state: it is the last one of the disk machine, which the newest surviving write left, and that is read back, since operations are in form. It
 /// does nothing when it runs.
 pub fn runs_have_both_machines()
     ensures joined { RunsAreJoined }
+    ensures tied { JoinedRunsAreTied }
     ensures serial { JoinedRunsAreSerial }
 {}
 

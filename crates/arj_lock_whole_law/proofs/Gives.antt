@@ -1,6 +1,6 @@
 -- What is known of the protocol in every run gives what the handlers count on, with what is still to be given.
 use Rattle.std.proofs.Common.{◌≡◌, ◌≢◌, ◌⊎◌, ◌∙◌, ◌<◌, ◌≤◌, ◌+◌, ◌&&◌, ℕ, Bool, true, false, cond, List, [], ◌∷◌, Option, Some, None, refl, sym, ap, subst, inl, inr, ⊎_elim, Contains, arith}
-use Rattle.std.specs.Prelude.{⊤, is_some}
+use Rattle.std.specs.Prelude.{is_some}
 use Rattle.std.specs.Ordering.{is_eq}
 use Rattle.std.proofs.lemmas.Bool.{or_left}
 use Rattle.arj_base.specs.Order.{uid_order}
@@ -88,7 +88,6 @@ use Rattle.arj_lock_whole_law.proofs.AvoidWalks.{avoids_to}
 use Rattle.arj_lock_whole_law.proofs.Losing.{whose_loss}
 use Rattle.arj_lock_whole_law.proofs.Of.{walk_end}
 use Rattle.arj_lock_whole_law.proofs.Whole.{whole_of}
-use Rattle.arj_lock_run_law.proofs.KeptSteps.{gives_by}
 
 -- ---- lists of records
 
@@ -432,8 +431,3 @@ module _ (hd : Header) (x : ℕ) (has : HasObject hd x) (E : List Action → See
     where
       entry_at : (k : ℕ) (d : Disk) (M : Seen) → HoldsEntry x (down k d M) → k ≡ 1 → is_some (held_at (entry x) d.names) ≡ true
       entry_at k d M holds_it is = holds_it (record { number = k; disk = d; live = None }) (subst (λ (j : ℕ). (let W = down k d M in W.nodes j) ≡ Some (record { number = k; disk = d; live = None })) is (λ i. cond (same_number k i) (Some (record { number = k; disk = d; live = None })) (M.nodes k)))
-
-  -- where no more is known of the machine's state
-  pub gives_alone : ((values : Values) × BeginsAs values x f) → GivesRest f x (λ b T N. Known_all b N) → GivesLocks hd f x (λ b T N. Known_all b N)
-  gives_alone begins rest = gives_by hd f x (λ b T N. Known_all b N × ⊤) (λ b T N. Known_all b N) (λ b T N q. (q, tt))
-      (gives_locks (λ b T N. ⊤) begins (record { recorded = λ b T N t k n j i q. rest.recorded b T N t k n j i q.0; loads = record { last = λ b T s from m a q. let l = rest.loads in l.last b T s from m a q.0 } }))

@@ -23,9 +23,6 @@ pub mod Whole
 pub mod Losing
 pub mod Gives
 pub mod WholeRuns
-pub mod VotedRuns
-pub mod OnSteps
 pub mod Fronts
 pub mod RowsSeen
 pub mod HeldBy
-pub mod Holding

@@ -1,5 +1,5 @@
 -- Locks that are held, in the run of every script: by what nodes have in memory after each event.
-use Rattle.std.specs.Prelude.{◌<◌, ◌≤◌, ℕ, Bool, List, [], ◌∷◌, length, Option, Some, None}
+use Rattle.std.specs.Prelude.{◌<◌, ◌≤◌, ℕ, List, [], ◌∷◌, length, Option, Some, None}
 use Rattle.std.specs.List.{AllByRecursion}
 use Rattle.arj_protocol.specs.Words.{Header, Line, Row}
 use Rattle.arj_protocol.specs.Laws.{naming_rows, server_rows}
@@ -14,11 +14,7 @@ use Rattle.arj_model.specs.Last.{Inclusion}
 use Rattle.arj_model.specs.Serial.{unit_place}
 use Rattle.arj_law.specs.Book.{OfEachTwo}
 use Rattle.arj_law.specs.Held.{AreAtOneNode, unit_end}
-use Rattle.arj_binding_law.specs.Scripts.{most_events}
 use Rattle.arj_serial_law.specs.Locked.{IsLockedIn, IsWrittenIn, joins_with}
-use Rattle.arj_view_law.specs.Seen.{Seen}
-use Rattle.arj_part_law.specs.Actions.{Action}
-use Rattle.arj_lock_whole_law.specs.Runs.{AreRest}
 
 -- ---- locks of nodes
 
@@ -73,7 +69,3 @@ pub record HoldsLocks (hd : Header) (es : List Asked) : Type 0 where
   pub calls : AllByRecursion (λ (c : Call). AfterEach (IsHeldNow (journal hd es) c (node c)) (format hd) es) (committed_calls (journal hd es))
   pub includes : AllByRecursion (λ (u : Top). AllByRecursion (λ (i : Placed Inclusion). AfterEach (IsWrittenNow (journal hd es) u i) (format hd) es) (joins_with (journal hd es) u)) (tops (journal hd es))
   pub at_one : OfEachTwo (AreAtOneNode (journal hd es) node) (committed_calls (journal hd es))
-
--- so it is in the run of every script
-abbrev pub RunsHoldLocks : Type 0
-RunsHoldLocks = (hd : Header) (test : ℕ → List Action → Seen → Bool) → AreRest hd test → (es : List Asked) → length es ≤ most_events → HoldsLocks hd es

@@ -1,4 +1,5 @@
--- What a run's relation still has to give beside what is known of the protocol, so that the object is seen by its lock machine.
+-- What a relation has to give beside what is known of the protocol, so that the object is seen by its lock machine: the disk machine beside
+-- it gives that in each state that is carried.
 use Rattle.std.specs.Prelude.{◌≡◌, ℕ, true, List, Some}
 use Rattle.arj_protocol.specs.Words.{Asked, Message, Uid}
 use Rattle.arj_protocol.specs.Ask.{Reply, answers}
@@ -19,8 +20,8 @@ use Rattle.arj_lock_whole_law.specs.Acks.{IsVoter, WasRecorded, records_in}
 pub record GivesLoads (f : Fixed) (x : ℕ) (R : List Action → State → Seen → Type 0) : Type 0 where
   pub last : (begun : List Action) (S : State) (s : Spot) (from : ℕ) (m : Message) (a : Asked × Reply) → R begun S (world_at s) → IsSeenIn (case_of f x begun S) (world_at s) → In (record { from = from; to = s.node; message = m }) (let M = s.seen in M.sent) → answers m ≡ Some a → GivesLast (case_of f x begun S) s from a.0 a.1
 
--- Where the lock machine stands alone also this: the commit of a top with a surviving write, for which somebody was asked to vote, has a record at
--- its node, or was told to be acknowledged.
+-- And by it too: the commit of a top with a surviving write, for which somebody was asked to vote, has a record at its node, or was told to be
+-- acknowledged.
 pub record GivesRest (f : Fixed) (x : ℕ) (R : List Action → State → Seen → Type 0) : Type 0 where
   pub recorded : (begun : List Action) (S : State) (M : Seen) (t : Uid) (k : Call) (n : Node) (j i : ℕ) → R begun S M → IsSeenIn (case_of f x begun S) M → M.nodes t.node ≡ Some n → IsVoter M.sent t j i → (let a = S.action (f.act t) in a.stage) ≡ 3 → machine.In k S.calls → k.write ≡ true → Survives S k.act → top k.act ≡ f.act t → WasRecorded (records_in M.nodes) M.sent t
   pub loads : GivesLoads f x R

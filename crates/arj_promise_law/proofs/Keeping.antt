@@ -7,8 +7,8 @@ use Rattle.arj_protocol.specs.Step.{first_reason}
 use Rattle.arj_protocol.specs.World.{Asked, World, format, journal, reasons, run_all, run_event, run_unless}
 use Rattle.arj_view_law.specs.Keeps.{Holds}
 use Rattle.arj_view_law.proofs.Happens.{runs_asked}
-use Rattle.arj_joint_law.proofs.Clean.{joined_runs_are_serial, whole_runs_are_clean}
-use Rattle.arj_joint_law.proofs.RunsInTime.{whole_runs_exclude}
+use Rattle.arj_joint_law.proofs.Clean.{joined_runs_are_serial, runs_are_clean}
+use Rattle.arj_joint_law.proofs.RunsInTime.{runs_exclude}
 use Rattle.arj_held_law.proofs.Holding.{runs_hold}
 use Rattle.arj_round_law.specs.Quiet.{AreGivenUp, NobodyWaits}
 use Rattle.arj_round_law.specs.Rounds.{AreUp}
@@ -28,8 +28,8 @@ pub runs_keep : RunsKeepThePromise
 runs_keep hd es f = record {
   serial = joined_runs_are_serial hd es f.header f.events f.few;
   held = runs_hold hd es f.header f.few f.events;
-  clean = λ disks are. whole_runs_are_clean hd es disks f.header f.few f.events are;
-  in_time = whole_runs_exclude hd es f.header f.few f.events;
+  clean = λ disks are. runs_are_clean hd es disks f.header f.few f.events are;
+  in_time = runs_exclude hd es f.header f.few f.events;
   outcome = runs_show hd es;
 }
 
@@ -67,7 +67,7 @@ over_front (e ∷ es) w last = over_before e w (over_front es (run_event e w) la
 at_rest : (hd : Header) (es : List Asked) → IsInForm hd es → EndsQuiet (world_of hd es) → EndsAtRest hd es
 at_rest hd es f quiet = record {
   quiet = quiet;
-  last = λ disks are. idle_files_hold hd (journal hd es) h.sent (run_all es (format hd)) disks f.header h.stands quiet.idle are (whole_runs_are_clean hd es disks f.header f.few f.events are);
+  last = λ disks are. idle_files_hold hd (journal hd es) h.sent (run_all es (format hd)) disks f.header h.stands quiet.idle are (runs_are_clean hd es disks f.header f.few f.events are);
 }
   where
     h : Holds hd (KnowsPrepared hd) (run_all es (format hd))

@@ -1,4 +1,4 @@
-use Rattle.arj_joint_law.proofs.Clean.{runs_are_clean, whole_runs_are_clean}
+use Rattle.arj_joint_law.proofs.Clean.{runs_are_clean}
 use Rattle.arj_joint_law.proofs.Listing.{all_there}
 use Rattle.arj_joint_law.proofs.Showing.{files_show_disks}
 use Rattle.arj_joint_law.proofs.runs.runs_are_clean.Goals as goal
@@ -11,6 +11,3 @@ returns-clause-shown c = files_show_disks
 
 pub returns-clause-listed : goal.returns-clause-listed
 returns-clause-listed c hd lines form includes x s among = all_there hd lines form includes x s among
-
-pub returns-clause-whole : goal.returns-clause-whole
-returns-clause-whole c = whole_runs_are_clean
