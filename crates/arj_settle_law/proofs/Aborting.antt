@@ -14,18 +14,24 @@ use Rattle.arj_journal.specs.declared.body.Role.{Role}
 use Rattle.arj_journal.specs.declared.body.Role.TheVariants as role
 use Rattle.arj_lock.proofs.Members.{In, in_to}
 use Rattle.arj_model.specs.Actions.{Act, acts, committed, is_committed, recovered}
-use Rattle.arj_protocol.specs.World.{journal}
+use Rattle.arj_journal.specs.declared.header.Header.{Header}
+use Rattle.arj_protocol.specs.World.{Asked, World, format, run_all}
+use Rattle.arj_view_law.specs.Keeps.{Holds}
+use Rattle.arj_view_law.proofs.Happens.{runs_hold}
 use Rattle.arj_line_law.specs.Book.{book, is_decided, new_book}
 use Rattle.arj_line_law.specs.Right.{AreRight}
 use Rattle.arj_line_law.proofs.Tops.{is_sound}
-use Rattle.arj_line_law.proofs.Runs.{run_written}
-use Rattle.arj_joint_law.specs.Outcome.{has_cause_to_abort, is_said, may_abort}
-use Rattle.arj_joint_law.proofs.Behind.{commits_behind, each_from}
+use Rattle.arj_line_law.specs.Knows.{IsKept}
+use Rattle.arj_line_law.proofs.Runs.{lines_keep}
+use Rattle.arj_joint_law.specs.Outcome.{ShowsOneOutcome, has_cause_to_abort, is_said, may_abort}
+use Rattle.arj_joint_law.proofs.Behind.{each_from, right_commits}
 use Rattle.arj_joint_law.proofs.Called.{right_front}
-use Rattle.arj_settle_law.specs.Outcomes.{NamingAbortsNoneDecided, RunsShowOneOutcome, StoresAbortByCauses}
+use Rattle.arj_settle_law.specs.Outcomes.{AbortsNoneDecided, NamingAbortsNoneDecided, RunsShowOneOutcome, StoresAbortByCauses, StoresHaveCauses}
 use Rattle.arj_settle_law.proofs.Causes.{cause_may}
 use Rattle.arj_settle_law.proofs.ConfirmRuns.{naming_run}
 use Rattle.arj_settle_law.proofs.Rights.{right_run}
+use Rattle.arj_settle_law.proofs.ConfirmKnown.{IsNaming}
+use Rattle.arj_settle_law.proofs.Stills.{IsRight}
 
 -- an action of these that the test finds
 found_in : (p : Act → Bool) (xs : List Act) → list_any p xs ≡ true → (a : Act) × In a xs × (p a ≡ true)
@@ -43,26 +49,6 @@ said_decided lines right u is =
     let p = and_parts (uid_eq (let a = r.0 in a.uid) u) (is_committed (committed lines) (recovered lines) r.0) r.2 in
     ap (is_decided (book lines)) (sym (uid_is (let a = r.0 in a.uid) u p.0)) ∙ sym (let s = is_sound lines right in let b = s.reads in b.decided r.0 (in_to r.0 (acts lines) r.1)) ∙ p.1
 
-pub stores_abort : StoresAbortByCauses
-stores_abort hd es before line behind n u is says said =
-    let h = right_run hd es in
-    let core = (let z = h.holds in z.1) in
-    let right : AreRight new_book (journal hd es) = (let w = (run_written hd es).1 in w.right) in
-    let front = right_front new_book before (line ∷ behind) (subst (AreRight new_book) is right) in
-    cause_may before n u (core.lines before line behind n u is says (said_decided before front u said))
-
-pub naming_aborts_none : NamingAbortsNoneDecided
-naming_aborts_none hd es before line behind n u is says = by (is_said before u) refl
-  where
-    by : (b : Bool) → is_said before u ≡ b → b ≡ false
-    by false none = refl
-    by true said =
-        let h = naming_run hd es in
-        let core = (let z = h.holds in z.1) in
-        let right : AreRight new_book (journal hd es) = (let w = (run_written hd es).1 in w.right) in
-        let front = right_front new_book before (line ∷ behind) (subst (AreRight new_book) is right) in
-        absurd (core.lines before line behind n u is says (said_decided before front u said))
-
 -- as the rest says, where it is said
 where_said : (a b : Bool) → (a ≡ true → b ≡ true) → (not a || b) ≡ true
 where_said false b its = refl
@@ -76,12 +62,48 @@ caused before (body.Done n u r e) each = by e each
     by ending.Commit its = refl
 caused before b each = refl
 
+-- a world in which so much is kept
+module _ (hd : Header) (w : World) (rights : Holds hd IsRight w) (namings : Holds hd IsNaming w) (kept : Holds hd IsKept w) where
+  right : AreRight new_book w.lines
+  right = (let k = kept.holds in let written = k.1 in written.right)
+
+  right_before : (before : List Line) (line : Line) (behind : List Line) → w.lines ≡ before ++ line ∷ behind → AreRight new_book before
+  right_before before line behind is = right_front new_book before (line ∷ behind) (subst (AreRight new_book) is right)
+
+  pub stores_have_causes : StoresHaveCauses w.lines
+  stores_have_causes before line behind n u is says said =
+      let core = (let z = rights.holds in z.1) in
+      cause_may before n u (core.lines before line behind n u is says (said_decided before (right_before before line behind is) u said))
+
+  pub aborts_none_decided : AbortsNoneDecided w.lines
+  aborts_none_decided before line behind n u is says = by (is_said before u) refl
+    where
+      by : (b : Bool) → is_said before u ≡ b → b ≡ false
+      by false none = refl
+      by true said =
+          let core = (let z = namings.holds in z.1) in
+          absurd (core.lines before line behind n u is says (said_decided before (right_before before line behind is) u said))
+
+  pub shows : ShowsOneOutcome w.lines
+  shows = record {
+    commits = right_commits w.lines (is_sound w.lines right);
+    aborts = each_from has_cause_to_abort w.lines (λ before line behind is. caused before line.body (λ r n u says said. by before line behind is r n u says said)) [] w.lines refl;
+  }
+    where
+      by : (before : List Line) (line : Line) (behind : List Line) → w.lines ≡ before ++ line ∷ behind → (r : Role) (n : ℕ) (u : Uid) → line.body ≡ body.Done n u r ending.Abort → is_said before u ≡ true → may_abort before r n u ≡ true
+      by before line behind is role.Store n u says said = stores_have_causes before line behind n u is says said
+      by before line behind is role.Names n u says said = let no_way : true ≡ false = sym said ∙ aborts_none_decided before line behind n u is says in cc no_way
+
+-- ---- runs
+
+lines_run : (hd : Header) (es : List Asked) → Holds hd IsKept (run_all es (format hd))
+lines_run hd es = runs_hold hd IsKept (lines_keep hd) es
+
+pub stores_abort : StoresAbortByCauses
+stores_abort hd es = stores_have_causes hd (run_all es (format hd)) (right_run hd es) (naming_run hd es) (lines_run hd es)
+
+pub naming_aborts_none : NamingAbortsNoneDecided
+naming_aborts_none hd es = aborts_none_decided hd (run_all es (format hd)) (right_run hd es) (naming_run hd es) (lines_run hd es)
+
 pub runs_show : RunsShowOneOutcome
-runs_show hd es = record {
-  commits = commits_behind hd es;
-  aborts = each_from has_cause_to_abort (journal hd es) (λ before line behind is. caused before line.body (λ r n u says said. by before line behind is r n u says said)) [] (journal hd es) refl;
-}
-  where
-    by : (before : List Line) (line : Line) (behind : List Line) → journal hd es ≡ before ++ line ∷ behind → (r : Role) (n : ℕ) (u : Uid) → line.body ≡ body.Done n u r ending.Abort → is_said before u ≡ true → may_abort before r n u ≡ true
-    by before line behind is role.Store n u says said = stores_abort hd es before line behind n u is says said
-    by before line behind is role.Names n u says said = let no_way : true ≡ false = sym said ∙ naming_aborts_none hd es before line behind n u is says in cc no_way
+runs_show hd es = shows hd (run_all es (format hd)) (right_run hd es) (naming_run hd es) (lines_run hd es)

@@ -219,7 +219,7 @@ first_confirms hd = record {
 
 -- ---- all handlers
 
-naming_keep : (hd : Header) → Keeps hd IsNaming
+pub naming_keep : (hd : Header) → Keeps hd IsNaming
 naming_keep hd = record {
   quiet = λ e bs M quiet right. (its.quiet e bs M quiet right.0, quiet_confirms e bs M quiet right.1);
   stop = λ e k d live M right. (its.stop e k d live M right.0, stop_confirms k d live M right.1 e);
