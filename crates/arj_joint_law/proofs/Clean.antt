@@ -418,7 +418,7 @@ object_some hd x (o, there, same) = by (object_line hd x) refl
     by None none = absurd (never (eq-eqb o.x x same) (in_find_none (λ (p : ObjectLine). p.x == x) o hd.objects none (in_from o hd.objects there)))
 
 -- they are of objects and nodes of the header in each run
-includes_there : (hd : Header) (es : List Asked) → IncludesAreThere hd (journal hd es)
+pub includes_there : (hd : Header) (es : List Asked) → IncludesAreThere hd (journal hd es)
 includes_there hd es i there = let of = runs_include_objects hd es i there in (of.1, object_some hd (let k = i.it in k.x) of.0)
 
 -- ---- the law

@@ -112,3 +112,4 @@ pub mod Fits
 pub mod FitCoords
 pub mod FitSteps
 pub mod FitRuns
+pub mod BookRuns

@@ -27,3 +27,4 @@ pub mod Nodes
 pub mod Fit
 pub mod Held
 pub mod FitRuns
+pub mod Booked
