@@ -1,0 +1,87 @@
+-- Both machines of each object at once, in a world that is reached.
+use Rattle.arj_disk_law.specs.Effects as machine
+use Rattle.std.proofs.Common.{List, subst}
+use Rattle.arj_joint_law.specs.Joined.{IsJoinedSo, world_of}
+use Rattle.arj_joint_law.proofs.NextGiven.{one_requests}
+use Rattle.arj_joint_law.specs.Includers.{IncludersTakeTurns}
+use Rattle.arj_joint_law.proofs.JoinKeeps.{WithTurns, turns_part}
+use Rattle.arj_joint_law.proofs.LightKeeps.{WithLights, lights_part}
+use Rattle.arj_joint_law.proofs.Joining.{HasLocks, WithLocks}
+use Rattle.arj_joint_law.proofs.OrderedRuns.{IsOrderedBeside}
+use Rattle.arj_disk_run_law.proofs.Copies.{copies_agree}
+use Rattle.arj_disk_run_law.specs.Part.{KeepsPart}
+use Rattle.arj_disk_view_law.specs.Sees.{Kinds}
+use Rattle.arj_disk_law.specs.Names.{Office}
+use Rattle.arj_view_law.specs.Seen.{Post, Seen, see}
+use Rattle.arj_model.specs.Last.{first_values, object_line}
+use Rattle.arj_protocol.specs.World.{World}
+use Rattle.arj_line_law.specs.Book.{new_book}
+use Rattle.arj_line_law.specs.Right.{AreRight}
+use Rattle.arj_line_law.proofs.Runs.{lines_keep}
+use Rattle.arj_serial_law.specs.Seen.{RequestsAreOne}
+use Rattle.arj_disk_run_law.proofs.Scripts.{part_more}
+use Rattle.std.specs.Prelude.{⊤, ℕ, true, ◌≡◌, is_some}
+use Rattle.arj_lock_law.specs.State.{State}
+use Rattle.arj_lock_run_law.specs.Fixed.{Fixed}
+use Rattle.arj_joint_law.proofs.JoinedParts.{Base, Carried, Early, Whole, base, locked}
+use Rattle.arj_joint_law.specs.Fit.{OpsFit}
+use Rattle.arj_joint_law.proofs.Fits.{fits_before}
+use Rattle.arj_nodes_law.specs.Reached.{IsReached}
+use Rattle.arj_nodes_law.proofs.Reaching.{reached_holds}
+use Rattle.arj_journal.specs.ScriptForm.{HeaderInForm}
+use Rattle.arj_view_law.specs.Keeps.{Holds}
+use Rattle.arj_protocol.specs.Words.{Header}
+use Rattle.arj_line_law.specs.Knows.{IsKept}
+use Rattle.arj_nodes_law.proofs.Owners.{have_nodes}
+use Rattle.arj_disk_run_law.proofs.ListedRuns.{loads_there}
+use Rattle.arj_nodes_law.proofs.Written.{bare, wrote}
+use Rattle.arj_nodes_law.proofs.Ordered.{lights_split, ordered_beside}
+
+-- ---- the law
+
+pub is_joined : (hd : Header) (x : ℕ) → HeaderInForm hd → is_some (object_line hd x) ≡ true → (w : World) → IsReached hd w → OpsFit x w.lines → Holds hd (IsJoinedSo hd x) w
+is_joined hd x form there w reached fit =
+    let h = ordered_beside hd x (OpsFit x) (fits_before x) (Base hd x) Joined form there (base hd x form there (λ M. ⊤) Nothing (λ M N l f S T run past. tt) (λ f S. tt)) part w reached fit in
+    record { sent = h.sent; stands = h.stands; holds = joined h.sent h.holds }
+  where
+    -- of the lock machine's state nothing more
+    Nothing : Fixed → State → Seen → Type 0
+    Nothing f S M = ⊤
+
+    Joined : Kinds → Office → Seen → Type 0
+    Joined tops A M = WithLights x (WithTurns x (WithLocks (first_values hd) x (Whole x) Nothing (Carried hd x))) tops A M
+
+    paired : KeepsPart hd x (Early hd x) (WithLocks (first_values hd) x (Whole x) Nothing (Carried hd x))
+    paired = part_more hd x (λ W M. Early hd x W M × ⊤) (Early hd x) (WithLocks (first_values hd) x (Whole x) Nothing (Carried hd x)) (λ W M q. (q, tt)) (locked hd x form there (λ M. ⊤) Nothing (λ M N l f S T run past. tt) (λ f S. tt))
+
+    -- and each two of which one includes a store took turns; and so did those that change nothing
+    part : KeepsPart hd x (Early hd x) Joined
+    part = lights_part hd x (Early hd x) (WithTurns x (WithLocks (first_values hd) x (Whole x) Nothing (Carried hd x))) (λ W M q. q.0.0.0.0.1) (λ tops A M p. p.0.0.0.0.0.0.0.0) (λ tops A M p. p.1)
+        (turns_part hd x (Early hd x) (WithLocks (first_values hd) x (Whole x) Nothing (Carried hd x)) (λ W M q. q.0.0.0.0.1) (λ tops A M p. p.0.0.0.0.0.0.0) (λ tops A M p. p.0.0.0.0.0.0.1) paired)
+
+    joined : (sent : List Post) → IsOrderedBeside (Base hd x) Joined hd x (see sent w) → IsJoinedSo hd x (see sent w)
+    joined sent (o, tops, A, same, p, few, seen, kept) = record {
+      loads = loads_there x tops A M seen (let z = kept.0.0 in z.0.0) few (let z = p.0.0.0 in z.1);
+      ordered = o;
+      includers = subst (λ (W : machine.World). IncludersTakeTurns M.lines W.disk.tops) same (let k = p.0.1 in k.turns);
+      lights = lights_split hd x w (have_nodes hd w reached) sent o A same p.1;
+      begun = locks.0;
+      alike = locks.1;
+      seen = (λ f a. let z = locks.3 f a in (z.0, z.1, z.2, z.3, z.4, z.6));
+      requests = requests;
+      wrote = (let b = o.begun in let j = b.journalled in wrote hd w x right sent j.tops j.machine j.sees locks.0 locks.1 (λ f a. let z = locks.3 f a in (z.0, z.1, z.2, z.4)) requests);
+      agree = (let b = o.begun in let j = b.journalled in copies_agree x j.tops j.machine M j.sees);
+      bare = (let b = o.begun in let j = b.journalled in bare hd w x right sent j.tops j.machine j.sees locks.0 locks.1 (λ f a. let z = locks.3 f a in (z.0, z.1, z.2, z.4)) requests);
+    }
+      where
+        M : Seen
+        M = see sent w
+
+        locks : HasLocks (first_values hd) x (Whole x) Nothing (world_of o) M
+        locks = subst (λ W. HasLocks (first_values hd) x (Whole x) Nothing W M) same p.0.0.1
+
+        right : AreRight new_book w.lines
+        right = let r = reached_holds hd w reached IsKept (lines_keep hd) in let k = r.holds in let z = k.1 in z.right
+
+        requests : RequestsAreOne M
+        requests = one_requests x locks.0 M few locks.2.0

@@ -1,0 +1,61 @@
+-- Each action has its node in a world that is reached.
+use Rattle.std.proofs.Common.{◌≡◌, ◌≤◌, arith, ℕ, List, [], ◌∷◌, Bool, true, false, cond, length, Option, Some, None, is_some, refl, sym, subst, inl, inr, ⊎_elim}
+use Rattle.std.specs.List.{AllByRecursion}
+use Rattle.std.specs.BTreeMap.{is_at}
+use Rattle.arj_lock.proofs.Members.{In, in_from}
+use Rattle.arj_model.specs.Actions.{Act, acts}
+use Rattle.arj_part_law.specs.Actions.{IsCounted}
+use Rattle.arj_protocol.specs.Node.{Parts}
+use Rattle.arj_protocol.specs.Tree.{at_place}
+use Rattle.arj_protocol.specs.Words.{Header, Label, label_cmp}
+use Rattle.arj_protocol.specs.World.{Labelled, World}
+use Rattle.arj_view_law.specs.Keeps.{label_at}
+use Rattle.arj_view_law.specs.Seen.{see}
+use Rattle.arj_line_law.specs.Book.{Book, book}
+use Rattle.arj_line_law.specs.Knows.{IsGiven, IsKept, IsWritten, Remembers}
+use Rattle.arj_line_law.specs.Whose.{HaveNodes}
+use Rattle.arj_line_law.proofs.Models.{its_acts}
+use Rattle.arj_line_law.proofs.Runs.{lines_keep}
+use Rattle.arj_nodes_law.specs.Reached.{IsReached}
+use Rattle.arj_nodes_law.proofs.Reaching.{reached_holds}
+
+all_in : {A : Type 0} (P : A → Type 0) (xs : List A) → AllByRecursion P xs → (x : A) → In x xs → P x
+all_in P [] all x i = absurd i
+all_in P (y ∷ ys) all x (inl same) = subst P same all.0
+all_in P (y ∷ ys) all x (inr i) = all_in P ys all.1 x i
+
+-- what a label stands for is given
+given_in : (l : Label) (labels : List (Label × Labelled)) (g : Labelled) → label_at l labels ≡ Some g → (q : Label) × In (q, g) labels
+given_in l [] g is = absurd (cc is)
+given_in l (x ∷ labels) g is = by (is_at (label_cmp l) x.0) is (given_in l labels g)
+  where
+    by : (b : Bool) → cond b (Some x.1) (label_at l labels) ≡ Some g → (label_at l labels ≡ Some g → (q : Label) × In (q, g) labels) → (q : Label) × In (q, g) (x ∷ labels)
+    by true e ih = (x.0, inl (let k : ◌≡◌ {A = Option Labelled} (Some x.1) (Some g) = e in λ i. (x.0, (let s : x.1 ≡ g = cc in s) i)))
+    by false e ih = let r = ih e in (r.0, inr r.1)
+
+there_is : {A : Type 0} (o : Option A) → is_some o ≡ true → (x : A) × (o ≡ Some x)
+there_is None is = absurd (cc is)
+there_is (Some x) is = (x, refl)
+
+pub have_nodes : (hd : Header) (w : World) → IsReached hd w → HaveNodes w
+have_nodes hd w reached a there =
+    let h = reached_holds hd w reached IsKept (lines_keep hd) in
+    let k = h.holds in
+    let written : IsWritten (see h.sent w) = k.1 in
+    let world = h.stands in
+    let B = book w.lines in
+    let i : In a B.acts = subst (In a) (sym (its_acts w.lines written.right)) (in_from a (acts w.lines) there) in
+    let g = all_in (IsGiven w.labels) B.acts written.labels a i in
+    let q = given_in g.0 w.labels g.1 g.3 in
+    let some = all_in (λ (x : Label × Labelled). is_some (at_place (let y = x.1 in y.node) w.nodes) ≡ true) w.labels world.labels (q.0, g.1) q.1 in
+    let n = there_is (at_place (let y = g.1 in y.node) w.nodes) some in
+    let at : at_place (let u = a.uid in u.node) w.nodes ≡ Some n.0 = subst (λ j. at_place j w.nodes ≡ Some n.0) g.4 n.1 in
+    let o = written.nodes (let u = a.uid in u.node) n.0 at in
+    record { node = n.0; there = at; present = by B (let u = a.uid in u.node) (let d = (let m = n.0 in m.disk) in d.inc) (let m = n.0 in m.live) i o.counts refl }
+  where
+    counted : (k inc count : ℕ) (xs : List Act) → AllByRecursion (λ (x : Act). IsCounted k inc count x.uid) xs → In a xs → (let u = a.uid in u.node) ≡ k → (let u = a.uid in u.inc) ≤ inc
+    counted k inc count xs all i at = ⊎_elim (λ lower. omega (arith, lower)) (λ here. omega (arith, here.0)) (all_in (λ (x : Act). IsCounted k inc count x.uid) xs all a i at)
+
+    by : (B : Book) (k inc : ℕ) (o : Option Parts) → In a B.acts → Remembers B k inc o → k ≡ (let u = a.uid in u.node) → (let u = a.uid in u.inc) ≤ inc
+    by B k inc None i c at = counted k inc c.0 B.acts c.1 i (sym at)
+    by B k inc (Some t) i c at = counted k inc (length t.coord.tree.branches) B.acts c i (sym at)
