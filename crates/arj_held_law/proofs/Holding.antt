@@ -36,7 +36,7 @@ any_on test o (r ∷ rs) is = by (uid_eq r.object o) (any_on test o rs) is
     by false ih h = or_right (test r) (list_any test rs) (ih h)
 
 -- so it is of what nodes hold, where tables show it
-any_shown : (test : Row → Bool) (o : Uid) (rows shown : List Row) → rows_on o rows ≡ shown → list_any test shown ≡ true → list_any test rows ≡ true
+pub any_shown : (test : Row → Bool) (o : Uid) (rows shown : List Row) → rows_on o rows ≡ shown → list_any test shown ≡ true → list_any test rows ≡ true
 any_shown test o rows shown same is = any_on test o rows (ap (list_any test) same ∙ is)
 
 module _ (hd : Header) (es : List Asked) where

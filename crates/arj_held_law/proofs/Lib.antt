@@ -10,3 +10,14 @@ pub mod Telling
 pub mod Starts
 pub mod Events
 pub mod Holding
+pub mod Machine
+pub mod Prefixes
+pub mod Calling
+pub mod Marks
+pub mod Places
+pub mod Fronts
+pub mod Traces
+pub mod Points
+pub mod OnLines
+pub mod AlongSteps
+pub mod AlongMessages

@@ -1,5 +1,5 @@
 -- A message is handled: tables go on showing locks.
-use Rattle.std.proofs.Common.{◌≡◌, ◌∙◌, ◌==◌, ℕ, List, [], ◌∷◌, true, false, Option, Some, None, refl, sym, ap, subst, inl, inr, ⊎_elim, eqb-true, Contains}
+use Rattle.std.proofs.Common.{◌≡◌, ◌⊎◌, ◌∙◌, ◌==◌, ℕ, List, [], ◌∷◌, true, false, Option, Some, None, refl, sym, ap, subst, inl, inr, ⊎_elim, eqb-true, Contains}
 use Rattle.std.specs.Prelude.{is_some}
 use Rattle.std.specs.List.{AllByRecursion}
 use Rattle.std.proofs.lemmas.Bool.{and_parts}
@@ -164,6 +164,11 @@ module _ (k : ℕ) (d : Disk) (t v : Parts) (place : HasNaming k t) (from : ℕ)
   own_lines = ⊎_elim {C = All (is_of k) outs} (λ coord. kind_says (is_of k) is_coord_effect is_coord_line (λ b. refl) (coord_of k) outs (subst (λ (z : Handled). AreAll is_coord_effect (outs_of z)) is coord)) (λ all. subst (λ (z : Handled). All (is_of k) (outs_of z)) is all)
       (handle_says (is_of k) k ((k == 1) ≡ true) (server_of k) (naming_of k) (λ u r. refl) (λ u r e. refl) d t from m naming_there)
 
+  -- they are the coordinator's, or none begins an action
+  pub coord_or_steady : AreAll is_coord_effect outs ⊎ All is_steady outs
+  coord_or_steady = ⊎_elim {C = AreAll is_coord_effect outs ⊎ All is_steady outs} (λ coord. inl (subst (λ (z : Handled). AreAll is_coord_effect (outs_of z)) is coord)) (λ all. inr (subst (λ (z : Handled). All is_steady (outs_of z)) is all))
+      (handle_says is_steady k (Unit {0}) (server_steady k) (λ may. naming_steady) (λ u r. refl) (λ u r e. refl) d t from m (λ o there. tt))
+
   -- and do to rows what the protocol's laws say
   pub along_after : (begun : List Act) (p : Part) (o : Uid) (rows : List Row) → rows_along begun k p o outs rows ≡ rows_after (holders_in false begun) k p o outs rows
   along_after begun p o rows = ⊎_elim {C = rows_along begun k p o outs rows ≡ rows_after (holders_in false begun) k p o outs rows}
@@ -179,8 +184,9 @@ module _ (first event e k : ℕ) (d : Disk) (t v : Parts) (M : Seen) (begun : Li
   named_follows x outs (Some a) None there f = absurd f
   named_follows x outs (Some a) (Some b) there f = f
 
-  pub message_shown : (from : ℕ) (m : Message) (outs : List Effect) (lives : ℕ → Option Parts) → FitsMessage begun m → SaysPast begun lives (record { from = from; to = k; message = m }) → handle k d t from m ≡ Took v outs → Shown first event (up k d t M) → Walks (Shown first event) e k outs (Up (Shown first event) k v) d M
-  message_shown from m outs lives fits says is h = shown_walk first event e k v outs d M (own_lines k d t v place from m outs is) (others_of first event e k d (Some t) M h) own
+  -- what the protocol's laws say of a message's lines
+  pub message_follows : (from : ℕ) (m : Message) (outs : List Effect) (lives : ℕ → Option Parts) → FitsMessage begun m → SaysPast begun lives (record { from = from; to = k; message = m }) → handle k d t from m ≡ Took v outs → (x : ℕ) → TablesFollow (holders_in false (acts M.lines)) k x t outs v
+  message_follows from m outs lives fits says is x = subst (follows_as x) is (handle_follows H k x d t from m (message_fits begun all numbers (acts M.lines) alike lives (record { from = from; to = k; message = m }) fits says))
     where
       H : Holders
       H = holders_in false (acts M.lines)
@@ -189,8 +195,14 @@ module _ (first event e k : ℕ) (d : Disk) (t v : Parts) (M : Seen) (begun : Li
       follows_as x (Void es) = (p : Part) (n : ℕ) (o : Uid) (rows : List Row) → rows_after H n p o es rows ≡ rows
       follows_as x (Took w es) = TablesFollow H k x t es w
 
+  pub message_shown : (from : ℕ) (m : Message) (outs : List Effect) (lives : ℕ → Option Parts) → FitsMessage begun m → SaysPast begun lives (record { from = from; to = k; message = m }) → handle k d t from m ≡ Took v outs → Shown first event (up k d t M) → Walks (Shown first event) e k outs (Up (Shown first event) k v) d M
+  message_shown from m outs lives fits says is h = shown_walk first event e k v outs d M (own_lines k d t v place from m outs is) (others_of first event e k d (Some t) M h) own
+    where
+      H : Holders
+      H = holders_in false (acts M.lines)
+
       follows : (x : ℕ) → TablesFollow H k x t outs v
-      follows x = subst (follows_as x) is (handle_follows H k x d t from m (message_fits begun all numbers (acts M.lines) alike lives (record { from = from; to = k; message = m }) fits says))
+      follows = message_follows from m outs lives fits says is
 
       own : Own first event e k v outs M.lines
       own since off =

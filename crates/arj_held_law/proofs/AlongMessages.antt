@@ -1,0 +1,166 @@
+-- A message leaves the object's machine seen at each place of the journal: behind some of the ends that it brings, or behind all of it.
+use Rattle.std.proofs.Common.{◌≡◌, ◌∙◌, ◌==◌, ◌++◌, ◌||◌, ℕ, List, [], ◌∷◌, Bool, true, false, Option, Some, None, refl, sym, ap, subst, inl, inr, ⊎_elim, Contains}
+use Rattle.std.specs.Prelude.{if◌then◌else◌, is_some}
+use Rattle.std.specs.List.{AllByRecursion}
+use Rattle.std.proofs.lemmas.Bool.{or_parts}
+use Rattle.arj_base.specs.Rows.{Row}
+use Rattle.arj_base.specs.Uid.{object}
+use Rattle.arj_journal.specs.declared.body.Part.TheVariants as part
+use Rattle.arj_model.specs.Actions.{acts}
+use Rattle.arj_model.specs.Serial.{Values}
+use Rattle.arj_model.specs.Table.{table}
+use Rattle.arj_protocol.specs.Words.{Ask, Asked, Body, End, Head, Message, Uid, asks}
+use Rattle.arj_protocol.specs.Words.message
+use Rattle.arj_protocol.specs.Ask.{Reply, answers}
+use Rattle.arj_protocol.specs.Asking.{heard}
+use Rattle.arj_protocol.specs.Effect.{Disk, Do, Effect, Say, Send}
+use Rattle.arj_protocol.specs.Ending.{acked, answer_query}
+use Rattle.arj_protocol.specs.Follow as follow
+use Rattle.arj_protocol.specs.Follow.{TablesFollow}
+use Rattle.arj_protocol.specs.Laws.{AreOfActions, Holders, server_rows}
+use Rattle.arj_protocol.specs.Node.{Parts, Took, handle}
+use Rattle.arj_protocol.specs.Server.{apply_ends}
+use Rattle.arj_part_law.specs.Actions.{Action, AreBegun}
+use Rattle.arj_part_law.specs.Messages.{FitsMessage}
+use Rattle.arj_view_law.specs.Seen.{Seen, is_quiet_line, up}
+use Rattle.arj_view_law.specs.Walks.{Up, Walks}
+use Rattle.arj_line_law.specs.Paths.{AreAlike}
+use Rattle.arj_past_law.specs.Told.{SaysPast}
+use Rattle.arj_disk_run_law.specs.Places.{HasNaming}
+use Rattle.arj_lock_run_law.specs.Fixed.{AgreesAs, Fixed, view_of}
+use Rattle.arj_lock_run_law.specs.World.{is_for_parts}
+use Rattle.arj_lock_run_law.proofs.KeptSteps.{handled_answer, is_answer, response_is, took_heard}
+use Rattle.arj_lock_whole_law.specs.Called.{SayOf}
+use Rattle.arj_lock_whole_law.specs.Held.{locks_in, memory_of}
+use Rattle.arj_lock_whole_law.proofs.CalledSays.{calls_commit}
+use Rattle.arj_table_law.specs.Tables.{holders_in, rows_on}
+use Rattle.arj_held_law.proofs.AlongSteps.{together}
+use Rattle.arj_held_law.proofs.Calling.{answers_call, message_answers, message_commits}
+use Rattle.arj_held_law.proofs.Facts.{HaveNumbers}
+use Rattle.arj_held_law.proofs.Keeping.{Shown}
+use Rattle.arj_held_law.proofs.Lines.{itself}
+use Rattle.arj_held_law.proofs.Marks.{Guard}
+use Rattle.arj_held_law.proofs.Messages.{coord_or_steady, message_fits, message_follows, own_lines}
+use Rattle.arj_held_law.proofs.OnLines.{From, IsFrontOrEnd, LocksAlong, Stop, Trace, end_along, end_fronts, stop_along}
+use Rattle.arj_held_law.proofs.Points.{AtFront, quiet_answers, quiet_commits}
+use Rattle.arj_held_law.proofs.Prefixes.{Along, ends_by, message_runs}
+use Rattle.arj_held_law.proofs.Traces.{Rem, rem_along, rem_coord, trace_walk, traces_first}
+
+-- the line calls a commit, or answers a call
+abbrev is_marked : Body → Bool
+is_marked b = calls_commit b || answers_call b
+
+quiet_marks : (b : Body) → is_quiet_line b ≡ true → is_marked b ≡ false
+quiet_marks b is = λ i. quiet_commits b is i || quiet_answers b is i
+
+all_marked : (outs : List Effect) → AllByRecursion (SayOf (λ (b : Body). calls_commit b ≡ false)) outs → AllByRecursion (SayOf (λ (b : Body). answers_call b ≡ false)) outs → AllByRecursion (SayOf (λ (b : Body). is_marked b ≡ false)) outs
+all_marked [] a b = tt
+all_marked (Say l ∷ es) a b = ((λ i. a.0 i || b.0 i), all_marked es a.1 b.1)
+all_marked (Send to m ∷ es) a b = (tt, all_marked es a.1 b.1)
+all_marked (Do w ∷ es) a b = (tt, all_marked es a.1 b.1)
+
+-- the ends that a message brings are of actions
+fits_ends : (h : Holders) (m : Message) (o : Option (Head × Ask)) → follow.FitsAsked h m o → AreOfActions (ends_by m o)
+fits_ends h (message.Told m) None f = f
+fits_ends h m None f = tt
+fits_ends h m (Some a) f = f.1
+
+-- what is for the coordinator brings none
+no_ends : (m : Message) → is_for_parts m ≡ false → ends_by m (asks m) ≡ []
+no_ends (message.Told m) off = absurd (cc off)
+no_ends (message.Invoke m) off = absurd (cc off)
+no_ends (message.Vote m) off = absurd (cc off)
+no_ends m off = refl
+
+none_front : {A : Type 0} (pre post : List A) → [] ≡ pre ++ post → pre ≡ []
+none_front [] post are = refl
+none_front (a ∷ pre) post are = absurd (cc are)
+
+-- and leaves the server as it was
+coord_same : (k : ℕ) (d : Disk) (t v : Parts) (from : ℕ) (m : Message) (outs : List Effect) → is_for_parts m ≡ false → handle k d t from m ≡ Took v outs → v.server ≡ t.server
+coord_same k d t v from (message.Acked m) outs off is = let q = took_heard t v (acked from m.act d.intents t.coord) outs is in ap (λ (z : Parts). z.server) (sym q.0)
+coord_same k d t v from (message.Query m) outs off is =
+    let taken : Took t (answer_query from m.act d.intents t.coord) ≡ Took v outs = is in
+    let same : t ≡ v = cc taken in
+    ap (λ (z : Parts). z.server) (sym same)
+coord_same k d t v from m outs off is = by (answers m) refl (is_answer m refl off)
+  where
+    by : (o : Option (Asked × Reply)) → answers m ≡ o → is_some o ≡ true → v.server ≡ t.server
+    by None of some = cc some
+    by (Some a) of some =
+        let n = subst (λ w. handle k d t from w ≡ Took v outs) (response_is m a of) is in
+        let q = took_heard t v (heard from a.0 a.1 d.intents t.coord) outs (sym (handled_answer k d t from a.0 a.1) ∙ n) in
+        ap (λ (z : Parts). z.server) (sym q.0)
+
+module _ (values : Values) (x : ℕ) (R : List Action → Seen → Type 0) (first event : ℕ) (M : Seen) (e k : ℕ) (d : Disk) (t v : Parts) (from : ℕ) (m : Message) (outs : List Effect) (showing : Shown first event (up k d t M)) (z : LocksAlong values x R first event (up k d t M))
+    (begun : List Action) (all : AreBegun begun) (numbers : HaveNumbers begun) (alike : AreAlike begun (acts M.lines)) (place : HasNaming k t) (lives : ℕ → Option Parts) (fits : FitsMessage begun m) (says : SaysPast begun lives (record { from = from; to = k; message = m })) (is : handle k d t from m ≡ Took v outs) where
+  abbrev Here : Seen
+  Here = up k d t M
+
+  abbrev H : Holders
+  H = holders_in false (acts M.lines)
+
+  abbrev ends : List (Uid × End)
+  ends = ends_by m (asks m)
+
+  abbrev Ok : List Row → Type 0
+  Ok rows = IsFrontOrEnd values x R first event k t.server v.server ends rows
+
+  follows : TablesFollow H k x t outs v
+  follows = message_follows first event e k d t v M begun all numbers alike place from m outs lives fits says is x
+
+  of_actions : AreOfActions ends
+  of_actions = fits_ends H m (asks m) (message_fits begun all numbers (acts M.lines) alike lives (record { from = from; to = k; message = m }) fits says)
+
+  at_first : Ok (server_rows x t.server)
+  at_first = inl ([], ends, refl, refl)
+
+  runs : Along H k part.Server (object x) Ok outs (server_rows x t.server)
+  runs = message_runs H k x d t Ok at_first from m of_actions (λ pre post are. inl (pre, post, are, refl)) v outs is (inr (let f = follows in sym f.server))
+
+  now : Guard event first M.lines → rows_on (object x) (table k M.lines) ≡ server_rows x t.server
+  now g = (let s = showing.shown g.0 k (g.1 k) in s.server x) ∙ ap (λ b. locks_in x (memory_of (if b then Some (record { number = k; disk = d; live = Some t }) else M.nodes k))) (itself k)
+
+  rem : Rem first event e k x Ok outs M.lines
+  rem = ⊎_elim {C = Rem first event e k x Ok outs M.lines} (λ coord. rem_coord first event e k x Ok outs M.lines (server_rows x t.server) coord now showing.long at_first) (λ steady. rem_along first event e k x Ok (acts M.lines) outs M.lines (server_rows x t.server) steady now refl showing.long runs) (coord_or_steady k d t v place from m outs is)
+
+  others_first : (n : ℕ) → (n == k) ≡ false → memory_of (M.nodes n) ≡ memory_of (Here.nodes n)
+  others_first n off = ap (λ b. memory_of (if b then Some (record { number = k; disk = d; live = Some t }) else M.nodes n)) (sym off)
+
+  abbrev same_wider : (a : Action) → Contains z.0 a → Contains z.0 a
+  same_wider a i = i
+
+  abbrev same_less : (f : Fixed) → AgreesAs values f x z.0 M.sent → AgreesAs values f x z.0 M.sent
+  same_less f a = a
+
+  abbrev FromHere : Seen → Type 0
+  FromHere N = From values x R first event Here showing z z.0 same_wider same_less e N
+
+  module _ (fronts : (f : Fixed) (a : AgreesAs values f x z.0 M.sent) → is_for_parts m ≡ true → (pre post : List (Uid × End)) → ends ≡ pre ++ post → AtFront (view_of f x z.0 k) t.server (let g = z.3 f a in g.0) pre) where
+    for_coord : is_for_parts m ≡ false → Walks FromHere e k outs (Up FromHere k v) d M → Walks (LocksAlong values x R first event) e k outs (Up (LocksAlong values x R first event) k v) d M
+    for_coord off walk = together FromHere (Stop values x R first event Here showing z z.0 same_wider same_less e k calls_commit quiet_commits refl Ok) (LocksAlong values x R first event) (Trace values x R first event Here showing z z.0 same_wider same_less e k calls_commit quiet_commits refl Ok) e k outs v d M
+        (stop_along values x R first event Here showing z z.0 same_wider same_less e k calls_commit quiet_commits refl Ok (λ b none. none))
+        (λ c L y tr. end_along values x R first event Here showing z z.0 same_wider same_less e k calls_commit quiet_commits refl Ok v c L tr (λ b none. none) same y)
+        walk
+        (trace_walk first event e k x M.lines Here.nodes calls_commit quiet_commits refl Ok showing.long outs d M (own_lines k d t v place from m outs is) (message_commits k d t v from m outs is) rem
+        (traces_first first event e k x M.lines Here.nodes calls_commit quiet_commits refl Ok showing.long M refl others_first (λ g. inl ([], ends, refl, now g))))
+      where
+        same : (rows : List Row) → Ok rows → rows ≡ server_rows x v.server
+        same rows (inr end) = end
+        same rows (inl front) = front.3 ∙ ap (λ (pre : List (Uid × End)). server_rows x (let q = apply_ends k pre t.server in q.part)) (none_front front.0 front.1 (sym (no_ends m off) ∙ front.2)) ∙ ap (server_rows x) (sym (coord_same k d t v from m outs off is))
+
+    for_parts : is_for_parts m ≡ true → Walks FromHere e k outs (Up FromHere k v) d M → Walks (LocksAlong values x R first event) e k outs (Up (LocksAlong values x R first event) k v) d M
+    for_parts mine walk = together FromHere (Stop values x R first event Here showing z z.0 same_wider same_less e k is_marked quiet_marks refl Ok) (LocksAlong values x R first event) (Trace values x R first event Here showing z z.0 same_wider same_less e k is_marked quiet_marks refl Ok) e k outs v d M
+        (stop_along values x R first event Here showing z z.0 same_wider same_less e k is_marked quiet_marks refl Ok (λ b none. (or_parts (calls_commit b) (answers_call b) none).0))
+        (λ c L y tr. end_fronts values x R first event Here showing z e k is_marked quiet_marks refl (λ b none. (or_parts (calls_commit b) (answers_call b) none).1) t.server ends (λ f a. fronts f a mine) (λ b none. (or_parts (calls_commit b) (answers_call b) none).0) v c L tr y)
+        walk
+        (trace_walk first event e k x M.lines Here.nodes is_marked quiet_marks refl Ok showing.long outs d M (own_lines k d t v place from m outs is) (all_marked outs (message_commits k d t v from m outs is) (message_answers k d t v from m outs mine is)) rem
+        (traces_first first event e k x M.lines Here.nodes is_marked quiet_marks refl Ok showing.long M refl others_first (λ g. inl ([], ends, refl, now g))))
+
+    -- a message
+    pub message_along : Walks FromHere e k outs (Up FromHere k v) d M → Walks (LocksAlong values x R first event) e k outs (Up (LocksAlong values x R first event) k v) d M
+    message_along walk = by (is_for_parts m) refl
+      where
+        by : (b : Bool) → is_for_parts m ≡ b → Walks (LocksAlong values x R first event) e k outs (Up (LocksAlong values x R first event) k v) d M
+        by true mine = for_parts mine walk
+        by false off = for_coord off walk
