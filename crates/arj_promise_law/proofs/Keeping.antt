@@ -2,17 +2,20 @@
 use Rattle.std.proofs.Common.{◌≡◌, ◌∙◌, ◌++◌, Bool, true, false, cond, List, [], ◌∷◌, length-append, arith, refl, sym, ap, subst, ◌⊎◌, inl, inr, ⊎_elim}
 use Rattle.std.specs.List.{AllByRecursion}
 use Rattle.arj_journal.specs.ScriptForm.{EventInForm}
+use Rattle.arj_model.specs.Clean.{Disks}
 use Rattle.arj_protocol.specs.Words.{Header}
 use Rattle.arj_protocol.specs.Step.{first_reason}
 use Rattle.arj_protocol.specs.World.{Asked, World, format, journal, reasons, run_all, run_event, run_unless}
 use Rattle.arj_view_law.specs.Keeps.{Holds}
 use Rattle.arj_view_law.proofs.Happens.{runs_asked}
+use Rattle.arj_joint_law.proofs.BookRuns.{runs_keep_the_book, runs_list_nodes}
 use Rattle.arj_joint_law.proofs.Clean.{joined_runs_are_serial, runs_are_clean}
 use Rattle.arj_joint_law.proofs.RunsInTime.{runs_exclude}
 use Rattle.arj_held_law.proofs.Holding.{runs_hold}
 use Rattle.arj_round_law.specs.Quiet.{AreGivenUp, NobodyWaits}
 use Rattle.arj_round_law.specs.Rounds.{AreUp}
 use Rattle.arj_round_law.proofs.GiveUps.{one_more, runs_on}
+use Rattle.arj_settle_law.specs.Last.{HoldTheLast}
 use Rattle.arj_settle_law.specs.Overtaken.{OnlyOvertakenWait}
 use Rattle.arj_settle_law.specs.Settled.{EndsQuiet, KnowsPrepared}
 use Rattle.arj_settle_law.proofs.Aborting.{runs_show}
@@ -20,13 +23,14 @@ use Rattle.arj_settle_law.proofs.Idle.{quiesces_idle, rounds_idle}
 use Rattle.arj_settle_law.proofs.Last.{idle_files_hold}
 use Rattle.arj_settle_law.proofs.Settled.{handlers_settle}
 use Rattle.arj_settle_law.proofs.Waiting.{runs_leave_overtaken}
-use Rattle.arj_promise_law.specs.Promise.{CalmQuiescesEndAtRest, EndsAtRest, EndsInQuiesce, EndsInRound, IsInForm, KeptAfterEveryEvent, QuiescesLeaveOvertaken, RoundsEndAtRest, RunsKeepThePromise, world_of}
+use Rattle.arj_promise_law.specs.Promise.{CalmQuiescesEndAtRest, EndsAtRest, EndsInQuiesce, EndsInRound, HasFiles, IsInForm, KeptAfterEveryEvent, QuiescesLeaveOvertaken, RoundsEndAtRest, RunsKeepThePromise, world_of}
 
 -- ---- the promise
 
 pub runs_keep : RunsKeepThePromise
 runs_keep hd es f = record {
   serial = joined_runs_are_serial hd es f.header f.events f.few;
+  book = runs_keep_the_book hd es f.header f.events f.few;
   held = runs_hold hd es f.header f.few f.events;
   clean = λ disks are. runs_are_clean hd es disks f.header f.few f.events are;
   in_time = runs_exclude hd es f.header f.few f.events;
@@ -67,11 +71,14 @@ over_front (e ∷ es) w last = over_before e w (over_front es (run_event e w) la
 at_rest : (hd : Header) (es : List Asked) → IsInForm hd es → EndsQuiet (world_of hd es) → EndsAtRest hd es
 at_rest hd es f quiet = record {
   quiet = quiet;
-  last = λ disks are. idle_files_hold hd (journal hd es) h.sent (run_all es (format hd)) disks f.header h.stands quiet.idle are (runs_are_clean hd es disks f.header f.few f.events are);
+  last = λ disks are. let l = held disks are in record { entries = l.entries; stores = λ x s listed. l.stores x s listed (runs_list_nodes hd es f.header x s listed).0 };
 }
   where
     h : Holds hd (KnowsPrepared hd) (run_all es (format hd))
     h = runs_asked hd (KnowsPrepared hd) (handlers_settle hd f.header).0 es
+
+    held : (disks : Disks) → HasFiles hd es disks → HoldTheLast hd (journal hd es) disks
+    held disks are = idle_files_hold hd (journal hd es) h.sent (run_all es (format hd)) disks f.header h.stands quiet.idle are (runs_are_clean hd es disks f.header f.few f.events are)
 
 module _ (hd : Header) (es before : List Asked) (q : EndsInQuiesce hd es before) where
   -- the world at the end of the quiesce

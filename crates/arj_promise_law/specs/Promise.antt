@@ -3,12 +3,14 @@ use Rattle.std.specs.Prelude.{◌≡◌, ◌≤◌, ◌⊎◌, false, List, [], 
 use Rattle.std.specs.List.{AllByRecursion}
 use Rattle.arj_journal.specs.ScriptForm.{HeaderInForm}
 use Rattle.arj_model.specs.Clean.{Clean, Disks}
+use Rattle.arj_model.specs.Last.{first_values}
 use Rattle.arj_protocol.specs.Words.{Header}
 use Rattle.arj_protocol.specs.Words.event
 use Rattle.arj_protocol.specs.World.{Asked, World, format, journal, lowest_from, run_all}
 use Rattle.arj_view_law.specs.Seen.{see}
 use Rattle.arj_binding_law.specs.Scripts.{most_events}
 use Rattle.arj_serial_law.specs.Seen.{IsSerialRun}
+use Rattle.arj_joint_law.specs.Booked.{KeepsTheBook}
 use Rattle.arj_joint_law.specs.Excluded.{AreExcludedInTime}
 use Rattle.arj_joint_law.specs.FitRuns.{AreEventsInForm}
 use Rattle.arj_joint_law.specs.Outcome.{ShowsOneOutcome}
@@ -16,9 +18,9 @@ use Rattle.arj_joint_law.specs.Shown.{FilesAre}
 use Rattle.arj_held_law.specs.Held.{HoldsInTables}
 use Rattle.arj_round_law.specs.Quiet.{AreGivenUp, IsGiveUp, NobodyWaits}
 use Rattle.arj_round_law.specs.Rounds.{AreUp}
-use Rattle.arj_settle_law.specs.Last.{HoldTheLast}
 use Rattle.arj_settle_law.specs.Overtaken.{OnlyOvertakenWait}
 use Rattle.arj_settle_law.specs.Settled.{EndsQuiet}
+use Rattle.arj_promise_law.specs.Resting.{HoldAllStates}
 
 -- ---- scripts
 
@@ -39,12 +41,15 @@ HasFiles hd es disks = FilesAre (see [] (world_of hd es)) disks
 -- ---- the promise
 
 -- The run keeps the promise. Committed tops got the answers of running them alone, one after another, and so did nested actions, each whole at its
--- commit. Until the commit of its unit's last member is called, each surviving call of a committed top is locked for by the journal's tables at the
--- end of each event, and so is its object's entry, which for a surviving include is locked for writing. The disks' files are clean. Of each object
--- that a top wrote which the last event committed, each store that the entry on naming's disk lists holds the last state, has it prepared for
--- that top, or is about to be taken out. And what is done as committed was decided before, while an abort of what was decided has a cause.
+-- commit; and the lock book is kept: calls that conflict stand in that order, each behind the call of the commit of the earlier one's top, or, within
+-- one top, behind the commits of the earlier one's actions; and each is answered by the writes before it. Until the commit of its unit's last member
+-- is called, each surviving call of a committed top is locked for by the journal's tables at the end of each event, and so is its object's entry,
+-- which for a surviving include is locked for writing. The disks' files are clean. Of each object that a top wrote which the last event committed,
+-- each store that the entry on naming's disk lists holds the last state, has it prepared for that top, or is about to be taken out. And what is done
+-- as committed was decided before, while an abort of what was decided has a cause.
 pub record KeepsThePromise (hd : Header) (es : List Asked) : Type 0 where
   pub serial : IsSerialRun hd es
+  pub book : KeepsTheBook (first_values hd) (journal hd es)
   pub held : HoldsInTables hd es
   pub clean : (disks : Disks) → HasFiles hd es disks → Clean hd (journal hd es) disks
   pub in_time : AreExcludedInTime hd (let w = world_of hd es in w.event) (see [] (world_of hd es))
@@ -73,10 +78,10 @@ abbrev pub QuiescesLeaveOvertaken : Type 0
 QuiescesLeaveOvertaken = (hd : Header) (es before : List Asked) → IsInForm hd es → EndsInQuiesce hd es before → OnlyOvertakenWait (world_of hd es)
 
 -- There is nothing left to do: every node is idle, with no record and nothing prepared, and the journal's last line says so; files hold every entry
--- and every last state, with no exception.
+-- and, at each listed store, every last state, with no exception.
 pub record EndsAtRest (hd : Header) (es : List Asked) : Type 0 where
   pub quiet : EndsQuiet (world_of hd es)
-  pub last : (disks : Disks) → HasFiles hd es disks → HoldTheLast hd (journal hd es) disks
+  pub last : (disks : Disks) → HasFiles hd es disks → HoldAllStates hd (journal hd es) disks
 
 -- nobody waits, and no frame is open
 abbrev pub IsCalm : World → Type 0
