@@ -1,4 +1,4 @@
--- What coordinators have of naming's answers is kept, and of what is decided, with what is still taken of them.
+-- What coordinators have of naming's answers is kept, and of what is decided, where what naming counts on is given.
 use Rattle.std.proofs.Common.{◌≡◌, ◌==◌, ◌+◌, ℕ, Bool, true, List, [], ◌∷◌, ◌++◌, Some, refl, sym, ap, subst, ◌∙◌}
 use Rattle.arj_base.specs.Rows.{is_on}
 use Rattle.arj_protocol.specs.Words.{Header, Line, Uid}

@@ -1,4 +1,4 @@
--- What coordinators have of naming's answers is kept where a message is taken, with what is still taken of answers.
+-- What coordinators have of naming's answers is kept where a message is taken, where what naming counts on is given.
 use Rattle.std.proofs.Common.{◌≡◌, ℕ, true, List, [], ◌∷◌, inl, inr, ⊎_elim, Option, Some, None, refl, sym, ◌∙◌, ap, subst, Bool, false}
 use Rattle.std.specs.Prelude.{is_some}
 use Rattle.arj_lock.proofs.Members as list

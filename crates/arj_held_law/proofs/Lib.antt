@@ -15,6 +15,7 @@ pub mod Prefixes
 pub mod Calling
 pub mod Marks
 pub mod Places
+pub mod Placing
 pub mod Fronts
 pub mod Traces
 pub mod Points

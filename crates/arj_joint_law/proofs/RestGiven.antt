@@ -57,7 +57,7 @@ module _ (f : Fixed) (x : ℕ) (begun : List Action) (S : State) (s : Spot) (las
 abbrev Known : ℕ → (List Action → Seen → Type 0) → List Action → Seen → Type 0
 Known x E begun M = KnowsFew M × (KnowsWhole x begun M × E begun M)
 
--- so nothing is still taken, beside what is carried with the disk machine's state
+-- so nothing is left to take, beside what is carried with the disk machine's state
 pub rest_beside : (values : Values) (x : ℕ) (E : List Action → Seen → Type 0) (P : Kinds → Office → Seen → Type 0) → ((tops : Kinds) (A : Office) (M : Seen) → P tops A M → SeesRecorded x tops A M) → (f : Fixed) → BeginsAs values x f → GivesRest f x (λ begun S M. Known x E begun M × IsPaired x P f begun S M)
 rest_beside values x E P carries f begins = record {
   recorded = λ begun S M t k n j i q seen here voter three there write survives of.

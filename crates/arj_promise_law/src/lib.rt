@@ -3,7 +3,7 @@
 //! A script is in form where its header and its events are, and it has at most 1,000,000 events (`IsInForm` in `specs/Promise.antt`). Its run keeps
 //! the promise (`KeepsThePromise` there): the journal is serial, its answered calls keep the lock book, calls and entries are locked for by the
 //! journal's tables until their unit commits, files are clean, stores are excluded in time, and each top has one outcome. What was run before an
-//! event is a script in form too, so all of it holds after every event, with frames in any order, again or never, all stops, crashes and restarts.
+//! event is a script in form too, so all of it holds after every event, with frames in any order, again or never, all stops that it arms, crashes and restarts.
 //! And a quiesce that begins where there is nothing to do for anybody, and the stated round, leave nothing to do, and files that hold every entry
 //! and last state with no exception (`specs/Resting.antt`).
 //!

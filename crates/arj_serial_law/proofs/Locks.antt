@@ -1,5 +1,5 @@
 -- Each surviving call is locked for, at each place to the last commit call of its unit at which the machine was seen.
-use Rattle.std.proofs.Common.{◌≡◌, ◌≢◌, ◌⊎◌, ◌<◌, ◌≤◌, ℕ, ◌+◌, ◌==◌, ◌&&◌, ◌||◌, List, [], ◌∷◌, length, take, Bool, true, false, cond, max, zero, suc, Option, Some, None, refl, sym, ◌∙◌, ap, subst, inl, inr, ⊎_elim, arith, eqb-true, eq-eqb}
+use Rattle.std.proofs.Common.{◌≡◌, ◌≢◌, ◌⊎◌, ◌<◌, ◌≤◌, ℕ, ◌+◌, ◌==◌, ◌&&◌, ◌||◌, List, [], ◌∷◌, length, take, Bool, true, false, cond, max, zero, suc, Option, Some, None, refl, sym, ◌∙◌, ap, subst, inl, inr, ⊎_elim, arith, eqb-true, eq-eqb, Contains}
 use Rattle.std.specs.List.{AllByRecursion, list_any}
 use Rattle.std.proofs.Math.Bool.{Bool-set}
 use Rattle.std.proofs.lemmas.Bool.{and_parts}
@@ -42,10 +42,10 @@ use Rattle.arj_lock_law.proofs.Ordered.{is_at_one_node, is_held}
 use Rattle.arj_lock_law.proofs.Paths.{on_root, same_is}
 use Rattle.arj_lock_law.proofs.Roots.{roots_low, start_low}
 use Rattle.arj_lock_view_law.specs.Acts.{Acts}
-use Rattle.arj_lock_view_law.specs.Rows.{held_in, strength}
+use Rattle.arj_lock_view_law.specs.Rows.{SeesRows, held_in, strength}
 use Rattle.arj_lock_line_law.specs.Lines.{IsCallOf, said_on}
 use Rattle.arj_serial_law.specs.Locked.{AreLockedAlong, AreRowsSeen, AreTiedAlong, EntriesAreHeld, IsLockedIn, IsSeenAt, caller_at, is_number, is_of_root, locks_call, locks_entry, ran_at}
-use Rattle.arj_serial_law.specs.Tied.{IsTied, path_of}
+use Rattle.arj_serial_law.specs.Tied.{Began, IsTied, path_of}
 use Rattle.arj_serial_law.proofs.Order.{IsShown, IsTopOf, before_top, find_call, head_of, is_top_in, its_root, its_top, listed, one_unit, place_in, root_of_top, same_number, shown, stage_of_top, top_item, unit_behind}
 use Rattle.arj_serial_law.proofs.Paths.{own_last, own_there}
 use Rattle.arj_serial_law.proofs.Ties.{Tie, tie_of}
@@ -230,7 +230,7 @@ module _ (values : Values) (lines : List Line) (right : AreRight new_book lines)
   end_is c s = ap (unit_place (tops lines)) (unit_is c s)
 
   -- its last member
-  last_top : (c : Call) (s : IsShown values lines right x T tie c) → (u : Top) × In u (tops lines) × (u.root ≡ (let n = s.number in n.root)) × (u.at ≡ unit_end lines c)
+  pub last_top : (c : Call) (s : IsShown values lines right x T tie c) → (u : Top) × In u (tops lines) × (u.root ≡ (let n = s.number in n.root)) × (u.at ≡ unit_end lines c)
   last_top c s = ⊎_elim
       (λ none. let l = unit_behind (tops lines) s.number s.listed_top in let z : (let n = s.number in n.at) ≡ 0 = omega (arith, l, none) in (s.number, s.listed_top, refl, z ∙ sym (end_is c s ∙ none)))
       (λ found. (found.0, found.1, found.2, found.3 ∙ sym (end_is c s))) (unit_last (tops lines) (let n = s.number in n.root))
@@ -281,14 +281,14 @@ module _ (values : Values) (lines : List Line) (right : AreRight new_book lines)
   -- ---- at a place
 
   module _ (p : ℕ) (seen : IsSeenAt values lines x T t p) (c : Call) (s : IsShown values lines right x T tie c) (behind : c.at < p) (in_unit : p ≤ unit_end lines c) where
-    abbrev S : State
+    abbrev pub S : State
     S = seen.state
 
-    here : Holds S
+    pub here : Holds S
     here = run_keeps seen.before (start_holds t.first)
 
     -- the call, as the state has it
-    found_call : (d : state.Call) × machine.In d S.calls × IsCallOf t.act t.code s.item d
+    pub found_call : (d : state.Call) × machine.In d S.calls × IsCallOf t.act t.code s.item d
     found_call =
         let l = seen.tied in
         let at : (let i = s.item in i.at) < 0 + p = (let a = s.line in let i = s.is in let b = i.line in omega (arith, a, b, behind)) in
@@ -298,26 +298,26 @@ module _ (values : Values) (lines : List Line) (right : AreRight new_book lines)
         on_item : In s.item (said lines) × ((let i = s.item in let j = i.it in j.x) ≡ x)
         on_item = (s.item_there, s.item_object)
 
-    abbrev d : state.Call
+    abbrev pub d : state.Call
     d = found_call.0
 
-    same_act : d.act ≡ (let e = s.call in e.act)
+    pub same_act : d.act ≡ (let e = s.call in e.act)
     same_act = let i = found_call.2 in let j = s.is in i.caller ∙ sym j.caller
 
     same_write : d.write ≡ writes c.op
     same_write = let i = found_call.2 in let j = s.is in i.write ∙ sym j.write ∙ s.write
 
-    abbrev u : Top
+    abbrev pub u : Top
     u = (last_top c s).0
 
-    item : IsTopOf lines u
+    pub item : IsTopOf lines u
     item = top_item lines right u (last_top c s).1
 
-    abbrev m : machine.Act
+    abbrev pub m : machine.Act
     m = t.act (let a = item.act in a.uid)
 
     -- the last commit isn't called yet
-    zero_yet : (S.action m).stage ≡ 0
+    pub zero_yet : (S.action m).stage ≡ 0
     zero_yet = ⊎_elim (λ zero. zero) (λ one.
         let tops = here.tops m (is_top_in values lines right x T tie item.act item.there item.kind) in
         let before = tops.before in
@@ -338,7 +338,7 @@ module _ (values : Values) (lines : List Line) (right : AreRight new_book lines)
     root_last : root m ≡ root (let e = s.call in e.act)
     root_last = one_unit values lines right x T tie u s.number item s.top_of_it (last_top c s).2 ∙ sym (its_root values lines right x T tie c s)
 
-    closes : Closes T m d.act
+    pub closes : Closes T m d.act
     closes = (
       committed_last,
       root_last ∙ ap root (sym same_act),
@@ -350,15 +350,80 @@ module _ (values : Values) (lines : List Line) (right : AreRight new_book lines)
           omega (arith, own, at, end, l, e)),
     )
 
-    held : IsHeld S T d
+    pub held : IsHeld S T d
     held = is_held seen.behind here (roots_low seen.before (start_low t.first)) d m found_call.1 (subst (Survives T) (sym same_act) s.survives) closes zero_yet
 
-    same_node : (T.binding (T.kept (root d.act))).server ≡ ran_at values lines x T t c
+    pub same_node : (T.binding (T.kept (root d.act))).server ≡ ran_at values lines x T t c
     same_node = ap (λ r. (T.binding (T.kept r)).server) (ap root same_act ∙ root_is c s)
 
     mode_high : (w : Bool) → 1 ≤ machine_rows.mode w
     mode_high true = omega arith
     mode_high false = omega arith
+
+    -- the call's path stays as it is
+    pub survives_on : Survives T d.act
+    survives_on = subst (Survives T) (sym same_act) s.survives
+
+    -- where rows on the object are by paths of the journal, and show what the machine has, the call is locked for in them
+    pub objects_by : (rows : List Row) → ((r : Row) → Contains rows r → r.object ≡ object x → (b : Act) × Began lines b × (r.holder ≡ uids (path_of lines b))) → (R : machine.Act → ℕ) → SeesRows t.act (object x) rows R
+        → (h : machine.Act) → on d.act h ≡ true → machine_rows.mode d.write ≤ R h → list_any (locks_call lines c) rows ≡ true
+    objects_by rows holders R sees who above enough =
+        let less : machine_rows.mode d.write ≤ held_in t.act (object x) who rows = (let b = sees who in omega (arith, enough, b)) in
+        let r = find_row t.act (object x) who (machine_rows.mode d.write) rows (mode_high d.write) less in
+        let h = holders r.row (in_to r.row rows r.there) (uid_is (let w = r.row in w.object) (object x) r.of_object) in
+        let b = in_from h.0 (acts lines) h.1 in
+        let last : last_uid (let w = r.row in w.holder) ≡ h.0.uid = ap last_uid h.2 ∙ own_last (acts lines) sound.distinct sound.formed h.0 b in
+        let its : t.act h.0.uid ≡ who = ap t.act (sym last) ∙ r.holder in
+        let stands : root (t.act h.0.uid) ≡ root (let e = s.call in e.act) = ap root its ∙ sym (on_root d.act who above) ∙ ap root same_act in
+        let root_of_it = of_unit c s h.0 b stands in
+        any_in (locks_call lines c) r.row rows r.there
+        (both_true (locks_for lines c r.row) (is_on (caller_at c.at (said lines)) (last_uid (let w = r.row in w.holder)))
+        (all_true (uid_eq (let w = r.row in w.object) (object c.x)) (uid_eq (holder_root r.row) (root_uid lines c)) (cond (writes c.op) (is_write (let w = r.row in w.mode)) true)
+        (ap (λ y. uid_eq (let w = r.row in w.object) (object y)) s.call_object ∙ r.of_object)
+        (ap (λ us. uid_eq (first_of us) (root_uid lines c)) h.2 ∙ ap (λ v. uid_eq v (root_uid lines c)) root_of_it.first ∙ uid_same (root_uid lines c))
+        (strong (writes c.op) (let w = r.row in w.mode) (subst (λ w. machine_rows.mode w ≤ strength (let z = r.row in z.mode)) same_write r.strong)))
+        ((λ i. is_on (caller_is i) (last i)) ∙ sym (let q = t.places in q.above maker h.0 (in_to maker (acts lines) (let m = s.made_by in m.there)) h.1)
+        ∙ (λ i. on (by_maker i) (its i)) ∙ above))
+      where
+        all_true : (a b e : Bool) → a ≡ true → b ≡ true → e ≡ true → (a && (b && e)) ≡ true
+        all_true a b e f g h = (λ i. f i && (g i && h i))
+
+        strong : (w : Bool) (k : Mode) → machine_rows.mode w ≤ strength k → cond w (is_write k) true ≡ true
+        strong true k e = write_mode k e
+        strong false k e = refl
+
+        maker : Act
+        maker = let m = s.made_by in m.maker
+
+        -- who made the call
+        caller_is : caller_at c.at (said lines) ≡ uids (path_of lines maker)
+        caller_is =
+            let i = s.item in
+            let m = s.made_by in
+            let same_place : c.at ≡ i.at = (let a = s.line in let k = s.is in let b = k.line in omega (arith, a, b)) in
+            ap (λ (p : ℕ). caller_at p (said lines)) same_place ∙ caller_found [] 0 lines i s.item_there ∙ ap uids m.path_is
+
+        by_maker : t.act maker.uid ≡ d.act
+        by_maker = let m = s.made_by in sym (same_act ∙ m.caller)
+
+    unit_root : (h : machine.Act) → OfUnit d.act h → root h ≡ root d.act
+    unit_root h (inl is) = ap root is
+    unit_root h (inr (is, e)) = e
+
+    -- and where those on its entry do, the entry is for its unit
+    pub entries_by : (names : List Row) → ((r : Row) → Contains names r → r.object ≡ entry x → (b : Act) × Began lines b × (last_uid r.holder ≡ b.uid)) → SeesRows t.act (entry x) names (let n = S.naming in n.rows) → list_any (locks_entry lines c) names ≡ true
+    entries_by names askers sees =
+        let naming = held.entry in
+        let less : 1 ≤ held_in t.act (entry x) naming.0 names = (let a = naming.2 in let b = sees naming.0 in omega (arith, a, b)) in
+        let r = find_row t.act (entry x) naming.0 1 names (omega arith) less in
+        let h = askers r.row (in_to r.row names r.there) (uid_is (let w = r.row in w.object) (entry x) r.of_object) in
+        let b = in_from h.0 (acts lines) h.1 in
+        let stands : root (t.act h.0.uid) ≡ root (let e = s.call in e.act) = ap (λ v. root (t.act v)) (sym h.2) ∙ ap root r.holder ∙ unit_root naming.0 naming.1 ∙ ap root same_act in
+        let root_of_it = of_unit c s h.0 b stands in
+        any_in (locks_entry lines c) r.row names r.there
+        (both_true (uid_eq (let w = r.row in w.object) (entry c.x)) (is_of_root lines (root_of_call lines c) (last_uid (let w = r.row in w.holder)))
+        (ap (λ y. uid_eq (let w = r.row in w.object) (entry y)) s.call_object ∙ r.of_object)
+        (ap (is_of_root lines (root_of_call lines c)) h.2 ∙ its_number h.0 b (root_of_call lines c) root_of_it.number))
 
     -- in these rows
     module _ (rows : ℕ → List Row) (names : List Row) (sees : AreRowsSeen t.act lines x rows names S) where
@@ -366,63 +431,10 @@ module _ (values : Values) (lines : List Line) (right : AreRight new_book lines)
       node = ran_at values lines x T t c
 
       objects : list_any (locks_call lines c) (rows node) ≡ true
-      objects =
-          let server = held.server in
-          let less : machine_rows.mode d.write ≤ held_in t.act (object x) server.0 (rows node) = (let a = server.2 in let b = sees.servers node server.0 in let e = ap (λ n. (S.server n).rows server.0) same_node in omega (arith, a, b, e)) in
-          let r = find_row t.act (object x) server.0 (machine_rows.mode d.write) (rows node) (mode_high d.write) less in
-          let h = sees.holders node r.row (in_to r.row (rows node) r.there) (uid_is (let w = r.row in w.object) (object x) r.of_object) in
-          let b = in_from h.0 (acts lines) h.1 in
-          let last : last_uid (let w = r.row in w.holder) ≡ h.0.uid = ap last_uid h.2 ∙ own_last (acts lines) sound.distinct sound.formed h.0 b in
-          let its : t.act h.0.uid ≡ server.0 = ap t.act (sym last) ∙ r.holder in
-          let stands : root (t.act h.0.uid) ≡ root (let e = s.call in e.act) = ap root its ∙ sym (on_root d.act server.0 server.1) ∙ ap root same_act in
-          let root_of_it = of_unit c s h.0 b stands in
-          any_in (locks_call lines c) r.row (rows node) r.there
-          (both_true (locks_for lines c r.row) (is_on (caller_at c.at (said lines)) (last_uid (let w = r.row in w.holder)))
-          (all_true (uid_eq (let w = r.row in w.object) (object c.x)) (uid_eq (holder_root r.row) (root_uid lines c)) (cond (writes c.op) (is_write (let w = r.row in w.mode)) true)
-          (ap (λ y. uid_eq (let w = r.row in w.object) (object y)) s.call_object ∙ r.of_object)
-          (ap (λ us. uid_eq (first_of us) (root_uid lines c)) h.2 ∙ ap (λ v. uid_eq v (root_uid lines c)) root_of_it.first ∙ uid_same (root_uid lines c))
-          (strong (writes c.op) (let w = r.row in w.mode) (subst (λ w. machine_rows.mode w ≤ strength (let z = r.row in z.mode)) same_write r.strong)))
-          ((λ i. is_on (caller_is i) (last i)) ∙ sym (let q = t.places in q.above maker h.0 (in_to maker (acts lines) (let m = s.made_by in m.there)) h.1)
-          ∙ (λ i. on (by_maker i) (its i)) ∙ server.1))
-        where
-          all_true : (a b e : Bool) → a ≡ true → b ≡ true → e ≡ true → (a && (b && e)) ≡ true
-          all_true a b e f g h = (λ i. f i && (g i && h i))
-
-          strong : (w : Bool) (k : Mode) → machine_rows.mode w ≤ strength k → cond w (is_write k) true ≡ true
-          strong true k e = write_mode k e
-          strong false k e = refl
-
-          maker : Act
-          maker = let m = s.made_by in m.maker
-
-          -- who made the call
-          caller_is : caller_at c.at (said lines) ≡ uids (path_of lines maker)
-          caller_is =
-              let i = s.item in
-              let m = s.made_by in
-              let same_place : c.at ≡ i.at = (let a = s.line in let k = s.is in let b = k.line in omega (arith, a, b)) in
-              ap (λ (p : ℕ). caller_at p (said lines)) same_place ∙ caller_found [] 0 lines i s.item_there ∙ ap uids m.path_is
-
-          by_maker : t.act maker.uid ≡ d.act
-          by_maker = let m = s.made_by in sym (same_act ∙ m.caller)
-
-      unit_root : (h : machine.Act) → OfUnit d.act h → root h ≡ root d.act
-      unit_root h (inl is) = ap root is
-      unit_root h (inr (is, e)) = e
+      objects = let server = held.server in objects_by (rows node) (sees.holders node) (S.server node).rows (sees.servers node) server.0 server.1 (subst (λ (n : ℕ). machine_rows.mode d.write ≤ (S.server n).rows server.0) same_node server.2)
 
       entries : list_any (locks_entry lines c) names ≡ true
-      entries =
-          let naming = held.entry in
-          let less : 1 ≤ held_in t.act (entry x) naming.0 names = (let a = naming.2 in let b = sees.naming naming.0 in omega (arith, a, b)) in
-          let r = find_row t.act (entry x) naming.0 1 names (omega arith) less in
-          let h = sees.askers r.row (in_to r.row names r.there) (uid_is (let w = r.row in w.object) (entry x) r.of_object) in
-          let b = in_from h.0 (acts lines) h.1 in
-          let stands : root (t.act h.0.uid) ≡ root (let e = s.call in e.act) = ap (λ v. root (t.act v)) (sym h.2) ∙ ap root r.holder ∙ unit_root naming.0 naming.1 ∙ ap root same_act in
-          let root_of_it = of_unit c s h.0 b stands in
-          any_in (locks_entry lines c) r.row names r.there
-          (both_true (uid_eq (let w = r.row in w.object) (entry c.x)) (is_of_root lines (root_of_call lines c) (last_uid (let w = r.row in w.holder)))
-          (ap (λ y. uid_eq (let w = r.row in w.object) (entry y)) s.call_object ∙ r.of_object)
-          (ap (is_of_root lines (root_of_call lines c)) h.2 ∙ its_number h.0 b (root_of_call lines c) root_of_it.number))
+      entries = entries_by names sees.askers sees.naming
 
       pub locked_in : IsLockedIn lines (rows (ran_at values lines x T t c)) names c
       locked_in = record { object = objects; entry = entries }

@@ -1,0 +1,104 @@
+-- A call is locked for at each place at which the machine was seen, also where a few lines stand between the two.
+use Rattle.std.proofs.Common.{◌≡◌, ◌⊎◌, ◌≤◌, ◌<◌, ◌∙◌, ◌==◌, ◌+◌, ℕ, zero, suc, List, [], ◌∷◌, Bool, true, false, Option, Some, None, length, slice_get, refl, sym, ap, subst, inl, inr, arith, ⊎_elim, Contains}
+use Rattle.std.specs.List.{list_any}
+use Rattle.arj_base.specs.Rows.{Row}
+use Rattle.arj_base.specs.Uid.{object}
+use Rattle.arj_lock.proofs.Members.{In}
+use Rattle.arj_protocol.specs.Words.{Body, Line}
+use Rattle.arj_protocol.specs.Words.body
+use Rattle.arj_model.specs.Actions.{Act, Placed, acts_after, put, read, uids}
+use Rattle.arj_model.specs.Calls.{Call, Said, Top, said, said_of}
+use Rattle.arj_model.specs.Serial.{Values}
+use Rattle.arj_law.specs.Held.{unit_end}
+use Rattle.arj_line_law.specs.Book.{new_book}
+use Rattle.arj_line_law.specs.Laws.{called_of}
+use Rattle.arj_line_law.specs.Right.{AreRight}
+use Rattle.arj_lock_law.specs.Actions.{on}
+use Rattle.arj_lock_law.specs.Rows.{mode}
+use Rattle.arj_lock_law.specs.State.{Server, State}
+use Rattle.arj_lock_law.specs.Machine.{Run}
+use Rattle.arj_lock_law.proofs.Order.{start_holds}
+use Rattle.arj_lock_law.proofs.Roots.{roots_low, start_low}
+use Rattle.arj_lock_view_law.specs.Rows.{SeesRows}
+use Rattle.arj_serial_law.specs.Locked.{IsSeenAt, locks_call, ran_at}
+use Rattle.arj_serial_law.specs.Tied.{Began, IsTied, path_of}
+use Rattle.arj_serial_law.proofs.Locks.{S, closes, d, found_call, here, last_top, m, objects_by, same_node, survives_on, tie, zero_yet}
+use Rattle.arj_serial_law.proofs.Order.{IsShown, top_item}
+use Rattle.arj_lock_whole_law.proofs.CalledSays.{calls_commit}
+use Rattle.arj_held_law.proofs.Calling.{answers_call}
+use Rattle.arj_held_law.proofs.Machine.{inner_held}
+use Rattle.arj_held_law.proofs.Marks.{NoneBetween}
+
+-- the line of an item that was read
+pub read_line : {A : Type 0} (f : List Act → Body → Option A) (us : List Act) (n : ℕ) (ls : List Line) (s : Placed A) → In s (read f us n ls) → (j : ℕ) × (l : Line) × (s.at ≡ n + j) × (slice_get ls j ≡ Some l) × ((vs : List Act) × (f vs l.body ≡ Some s.it))
+read_line f us n [] s i = absurd i
+read_line {A} f us n (l ∷ ls) s i = by (f us l.body) refl i (read_line f (acts_after us l.body) (n + 1) ls s)
+  where
+    by : (o : Option A) → f us l.body ≡ o → In s (put n o (read f (acts_after us l.body) (n + 1) ls)) → (In s (read f (acts_after us l.body) (n + 1) ls) → (j : ℕ) × (k : Line) × (s.at ≡ n + 1 + j) × (slice_get ls j ≡ Some k) × ((vs : List Act) × (f vs k.body ≡ Some s.it)))
+        → (j : ℕ) × (k : Line) × (s.at ≡ n + j) × (slice_get (l ∷ ls) j ≡ Some k) × ((vs : List Act) × (f vs k.body ≡ Some s.it))
+    by (Some a) e (inl is) ih = (0, l, (let p = ap (λ (z : Placed A). z.at) is in omega (arith, p)), refl, (us, e ∙ ap Some (ap (λ (z : Placed A). z.it) is)))
+    by (Some a) e (inr j) ih = let r = ih j in (suc r.0, r.1, (let p = r.2 in omega (arith, p)), r.3, r.4)
+    by None e j ih = let r = ih j in (suc r.0, r.1, (let p = r.2 in omega (arith, p)), r.3, r.4)
+
+said_answers : (us : List Act) (b : Body) (s : Said) → said_of us b ≡ Some s → answers_call b ≡ true
+said_answers us (body.Ok l x o a) s e = refl
+said_answers us b s e = absurd (cc e)
+
+called_commits : (us : List Act) (b : Body) (n : ℕ) → called_of us b ≡ Some n → calls_commit b ≡ true
+called_commits us (body.Committing l) n e = refl
+called_commits us b n e = absurd (cc e)
+
+not_both : (b : Bool) → b ≡ true → b ≡ false → ⊥
+not_both true a e = cc e
+not_both false a e = cc a
+
+before_or : (m n : ℕ) → (m < n) ⊎ (n ≤ m)
+before_or m n = grind arith
+
+module _ (values : Values) (lines : List Line) (right : AreRight new_book lines) (x : ℕ) (T : State) (t : IsTied values lines x T) (c : Call) (s : IsShown values lines right x T (tie values lines right x T t) c) where
+  -- its line answers it
+  answer_line : (l : Line) × (slice_get lines c.at ≡ Some l) × (answers_call l.body ≡ true)
+  answer_line =
+      let r = read_line said_of [] 0 lines s.item s.item_there in
+      let at : r.0 ≡ c.at = (let i = s.is in let a = i.line in let b = s.line in let e = r.2 in omega (arith, a, b, e)) in
+      let q = r.4 in
+      (r.1, (λ i. slice_get lines (sym at i)) ∙ r.3, said_answers q.0 (let l = r.1 in l.body) (let z = s.item in z.it) q.1)
+
+  -- at the end of its unit a commit is called
+  commit_line : (l : Line) × (slice_get lines (unit_end lines c) ≡ Some l) × (calls_commit l.body ≡ true)
+  commit_line =
+      let u = last_top values lines right x T t c s in
+      let item = top_item lines right u.0 u.1 in
+      let placed : Placed ℕ = record { at = (let q = u.0 in q.at); it = (let a = item.act in a.id) } in
+      let r = read_line called_of [] 0 lines placed item.call in
+      let at : r.0 ≡ unit_end lines c = (let e = r.2 in let g = u.3 in omega (arith, e, g)) in
+      let q = r.4 in
+      (r.1, (λ i. slice_get lines (sym at i)) ∙ r.3, called_commits q.0 (let l = r.1 in l.body) (let a = item.act in a.id) q.1)
+
+  -- a place within its unit, and one at which the machine was seen
+  module _ (front p : ℕ) (behind : c.at < p) (in_unit : p ≤ unit_end lines c) (place : ((front ≤ p) × NoneBetween answers_call lines front p) ⊎ ((p ≤ front) × NoneBetween calls_commit lines p front)) where
+    pub is_within : (c.at < front) × (front ≤ unit_end lines c)
+    is_within = ⊎_elim
+        (λ (b : (front ≤ p) × NoneBetween answers_call lines front p). (
+          ⊎_elim (λ (less : c.at < front). less) (λ (le : front ≤ c.at). absurd (let a = answer_line in not_both (let l = a.0 in answers_call l.body) a.2 (b.1 c.at a.0 le behind a.1))) (before_or c.at front),
+          (let e = b.0 in omega (arith, e, in_unit)),
+        ))
+        (λ (b : (p ≤ front) × NoneBetween calls_commit lines p front). (
+          (let e = b.0 in omega (arith, e, behind)),
+          ⊎_elim (λ (less : unit_end lines c < front). absurd (let a = commit_line in not_both (let l = a.0 in calls_commit l.body) a.2 (b.1 (unit_end lines c) a.0 in_unit less a.1))) (λ (le : front ≤ unit_end lines c). le) (before_or (unit_end lines c) front),
+        ))
+        place
+
+    module _ (seen : IsSeenAt values lines x T t front) (servers : ℕ → Server) (to : Run seen.state (record seen.state { server = servers }))
+        (incs : (n : ℕ) → (let a = servers n in a.incarnation) ≡ (let z = seen.state in let b = z.server n in b.incarnation)) (actives : (n : ℕ) → (let a = servers n in a.active) ≡ (let z = seen.state in let b = z.server n in b.active)) where
+      -- The call is locked for in rows which show what these servers have, and of which those on the object are by paths of the journal.
+      pub locked_there : (rows : ℕ → List Row) → ((n : ℕ) (r : Row) → Contains (rows n) r → r.object ≡ object x → (b : Act) × Began lines b × (r.holder ≡ uids (path_of lines b))) → ((n : ℕ) → SeesRows t.act (object x) (rows n) (let a = servers n in a.rows))
+          → list_any (locks_call lines c) (rows (ran_at values lines x T t c)) ≡ true
+      locked_there rows holders sees =
+          let w = is_within in
+          let f = found_call values lines right x T t front seen c s w.0 w.1 in
+          let node = ran_at values lines x T t c in
+          let same = same_node values lines right x T t front seen c s w.0 w.1 in
+          let h = inner_held seen.behind (here values lines right x T t front seen c s w.0 w.1) (roots_low seen.before (start_low t.first)) f.0 (m values lines right x T t front seen c s w.0 w.1) f.1
+          (survives_on values lines right x T t front seen c s w.0 w.1) (closes values lines right x T t front seen c s w.0 w.1) (zero_yet values lines right x T t front seen c s w.0 w.1) servers to incs actives in
+          objects_by values lines right x T t front seen c s w.0 w.1 (rows node) (holders node) (let a = servers node in a.rows) (sees node) h.0 h.1 (subst (λ (n : ℕ). mode (let e = f.0 in e.write) ≤ (let a = servers n in a.rows h.0)) same h.2)
