@@ -5,3 +5,4 @@ pub mod Written
 pub mod Ordered
 pub mod Joined
 pub mod Serial
+pub mod Outcomes

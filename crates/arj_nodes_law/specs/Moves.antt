@@ -10,6 +10,7 @@ use Rattle.arj_view_law.specs.Keeps.{Holds, KeepsAsked}
 use Rattle.arj_view_law.specs.Seen.{Seen}
 use Rattle.arj_call_law.specs.Bindings.{HasFewBindings}
 use Rattle.arj_joint_law.specs.Fit.{OpsFit}
+use Rattle.arj_joint_law.specs.Outcome.{ShowsOneOutcome}
 
 -- ---- runs
 
@@ -51,3 +52,7 @@ IsSerialWorld hd w = Serial (first_values hd) w.lines × Answers (first_values h
 -- so it is after all moves, whatever stops fall, where the header is in form and so much is counted
 abbrev pub MovesAreSerial : Type 0
 MovesAreSerial = (hd : Header) (ms : List Move) → HeaderInForm hd → IsCounted (world_by hd ms) → IsSerialWorld hd (world_by hd ms)
+
+-- after all moves, whatever stops fall, the journal shows one outcome of each top
+abbrev pub MovesShowOneOutcome : Type 0
+MovesShowOneOutcome = (hd : Header) (ms : List Move) → ShowsOneOutcome (let w = world_by hd ms in w.lines)

@@ -1,5 +1,5 @@
 // What nodes run of a script, whatever stops their disks make.
-ghost use Rattle.arj_nodes_law.specs.Moves.{MovesAreSerial, MovesKeep};
+ghost use Rattle.arj_nodes_law.specs.Moves.{MovesAreSerial, MovesKeep, MovesShowOneOutcome};
 
 /// Whatever each handler keeps, wherever a stop falls into it, holds after each run in which disks stop of their own, at any of their works,
 /// whatever the script armed. So nodes over disks may run: which stops fall in an event is known behind it. It does nothing when it runs.
@@ -11,4 +11,10 @@ pub fn moves_keep_what_handlers_keep()
 /// the operations that it answers are in form. It does nothing when it runs.
 pub fn moves_are_serial()
     ensures { MovesAreSerial }
+{}
+
+/// The journal of each such run shows one outcome of each top: commits are done behind decisions, and aborts of what was decided have a cause.
+/// It takes nothing. It does nothing when it runs.
+pub fn moves_show_one_outcome()
+    ensures { MovesShowOneOutcome }
 {}
