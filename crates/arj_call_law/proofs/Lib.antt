@@ -26,3 +26,4 @@ pub mod LivedCounts
 pub mod LivedRuns
 pub mod ChangedCalls
 pub mod WholeRuns
+pub mod Reaching

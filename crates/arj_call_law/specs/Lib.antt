@@ -7,3 +7,4 @@ pub mod Homes
 pub mod Runs
 pub mod Voting
 pub mod Lived
+pub mod Reached

@@ -4,3 +4,4 @@ pub mod Happens
 pub mod Inputs
 pub mod Rounds
 pub mod Together
+pub mod Moving

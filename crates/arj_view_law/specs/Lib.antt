@@ -1,3 +1,4 @@
 pub mod Keeps
 pub mod Seen
 pub mod Walks
+pub mod Moves

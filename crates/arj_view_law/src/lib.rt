@@ -5,9 +5,10 @@
 //! what is seen of a world: each node's disk and memory, the journal, and every message that was ever sent.
 //! `specs/Seen.antt` says what is seen, `specs/Walks.antt` what it is that a handler's effects are walked through, with a
 //! stop at each work of the disk, and `specs/Keeps.antt` what has to be shown of a relation, handler by handler. Whole steps
-//! with a node's messages to itself, frames, events and runs are shown here once for all relations (`proofs/Happens.antt`).
+//! with a node's messages to itself, frames, events and runs are shown here once for all relations (`proofs/Happens.antt`), and so are
+//! runs in which disks stop of their own (`specs/Moves.antt`), of which those of scripts are some.
 #![tactic(auto)]
 
 mod runs;
 
-pub use runs::{runs_go_on_as_handlers_keep, runs_keep_what_handlers_keep};
+pub use runs::{moves_keep_what_handlers_keep, runs_go_on_as_handlers_keep, runs_keep_what_handlers_keep};
