@@ -10,14 +10,15 @@ use Rattle.arj_protocol.specs.Words.ending
 use Rattle.arj_protocol.specs.Node.{Parts}
 use Rattle.arj_protocol.specs.Step.{Node}
 use Rattle.arj_protocol.specs.Tree.{at_place}
-use Rattle.arj_protocol.specs.World.{Asked, Frame, World, format, run_all}
+use Rattle.arj_protocol.specs.World.{Frame, World}
 use Rattle.arj_part_law.specs.Ends.{brought, told_by}
 use Rattle.arj_part_law.proofs.TrueSteps.{work_there}
 use Rattle.arj_run_law.specs.Worlds.{IsMemory}
 use Rattle.arj_view_law.specs.Keeps.{Holds, IsSent}
 use Rattle.arj_view_law.specs.Seen as seen
 use Rattle.arj_view_law.specs.Seen.{Post}
-use Rattle.arj_view_law.proofs.Happens.{runs_hold}
+use Rattle.arj_call_law.specs.Reached.{Keeping}
+use Rattle.arj_call_law.proofs.Reaching.{kept_holds}
 use Rattle.arj_line_law.specs.Book.{book, is_decided, is_over, new_book}
 use Rattle.arj_line_law.specs.Knows.{AreSaid, Claims, IsEnd, IsKept, IsKnown}
 use Rattle.arj_line_law.specs.Laws.{AgreesAll, AgreesWith, IsBacked, IsCommittedIn, IsOpenIn}
@@ -105,5 +106,5 @@ module _ (hd : Header) (w : World) (h : Holds hd IsKept w) where
   pub agrees_all : AgreesAll w
   agrees_all = record { nodes = agrees; frames = λ f m there is. framed f m (in_from f w.frames there) is }
 
-pub runs_agree : (hd : Header) (es : List Asked) → AgreesAll (run_all es (format hd))
-runs_agree hd es = agrees_all hd (run_all es (format hd)) (runs_hold hd IsKept (lines_keep hd) es)
+pub kept_agrees : (hd : Header) (w : World) → Keeping hd w → AgreesAll w
+kept_agrees hd w keeping = agrees_all hd w (kept_holds hd w keeping IsKept (lines_keep hd))

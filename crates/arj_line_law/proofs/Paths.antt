@@ -21,7 +21,7 @@ use Rattle.arj_protocol.specs.Node.{Parts, Took, handle, is_meant, with_coord}
 use Rattle.arj_protocol.specs.Step.{Input, Node, begin_reasons, begin_refusal, branch_named, branch_numbered, parent_of, parts_in, refusal_up, refused_by, restart_outs}
 use Rattle.arj_protocol.specs.Step as input
 use Rattle.arj_protocol.specs.Tree.{Branch, at_place, branch_of, next_uid, path_below}
-use Rattle.arj_protocol.specs.World.{Asked, format, is_serial_kind, numbered, run_all}
+use Rattle.arj_protocol.specs.World.{World, format, is_serial_kind, numbered}
 use Rattle.arj_run_law.specs.Worlds.{IsGoodOf, IsMemory, IsUp}
 use Rattle.arj_run_law.proofs.Begins.{begin_good, its_uid, may as may_begin}
 use Rattle.arj_run_law.proofs.Handled.{act_good, good_coord, message_good, stopped_good, tick_good}
@@ -31,7 +31,8 @@ use Rattle.arj_view_law.specs.Keeps.{Keeps, MayGive, is_act, label_at}
 use Rattle.arj_view_law.specs.Seen as seen
 use Rattle.arj_view_law.specs.Seen.{AreQuiet, Post, Seen, at, down, given, posted, said, see, up}
 use Rattle.arj_view_law.specs.Walks.{Up, Walks, halted}
-use Rattle.arj_view_law.proofs.Happens.{runs_hold}
+use Rattle.arj_call_law.specs.Reached.{Keeping}
+use Rattle.arj_call_law.proofs.Reaching.{kept_holds}
 use Rattle.arj_view_law.proofs.Together.{walks_both, walks_to}
 use Rattle.arj_line_law.specs.Book.{Book, book, new_book, turned}
 use Rattle.arj_line_law.specs.Knows.{IsKept, IsWritten, Knows, KnowsUp, after}
@@ -286,18 +287,18 @@ paths_keep hd = record {
   first = let h = first_pathed hd in (h.0, ([], h.1));
 }
 
-pub paths_agree : (hd : Header) (es : List Asked) → PathsAgree (run_all es (format hd))
-paths_agree hd es k n t u b q here live found does =
-    let r = runs_hold hd IsPathed (paths_keep hd) es in
+pub paths_agree : (hd : Header) (w : World) → Keeping hd w → PathsAgree w
+paths_agree hd w keeping k n t u b q here live found does =
+    let r = kept_holds hd w keeping IsPathed (paths_keep hd) in
     let h = r.holds in
-    at_end (see r.sent (run_all es (format hd))) h.1.0 h.1.1.0 h.1.1.1 h.1.1.2 here refl
+    at_end (see r.sent w) h.1.0 h.1.1.0 h.1.1.1 h.1.1.2 here refl
   where
-    at_end : (M : Seen) (begun : List Action) → IsGoodOf begun M → AreAlike begun (let B = book M.lines in B.acts) → IsWritten M → M.nodes k ≡ Some n → M.lines ≡ (run_all es (format hd)).lines → uids (path (acts (run_all es (format hd)).lines) (name q.label)) ≡ uids_of b.path
-    at_end M begun good alike w there same =
+    at_end : (M : Seen) (begun : List Action) → IsGoodOf begun M → AreAlike begun (let B = book M.lines in B.acts) → IsWritten M → M.nodes k ≡ Some n → M.lines ≡ w.lines → uids (path (acts w.lines) (name q.label)) ≡ uids_of b.path
+    at_end M begun good alike written there same =
         let place = good.places k n there in
         let its : IsUp begun M.sent M.labels k (let z = n.disk in z.inc) t = subst (IsMemory begun M.sent M.labels k (let z = n.disk in z.inc)) live place.memory in
         let node = its.good (paths_of begun) (begun_tree begun good.begun) (path_found begun good.begun) in
-        let o = w.nodes k n there in
+        let o = written.nodes k n there in
         let l = o.live t live in
-        ap (λ ls. uids (path (acts ls) (name q.label))) (sym same) ∙ ap (λ xs. uids (path xs (name q.label))) (sym (its_acts M.lines w.right))
+        ap (λ ls. uids (path (acts ls) (name q.label))) (sym same) ∙ ap (λ xs. uids (path xs (name q.label))) (sym (its_acts M.lines written.right))
         ∙ its_path begun good.begun (book M.lines) t.coord alike node.coord l.knows u b q found does

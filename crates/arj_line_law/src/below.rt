@@ -9,7 +9,6 @@ ghost use Rattle.arj_protocol.specs.Effect.{Disk};
 ghost use Rattle.arj_protocol.specs.Node.{Parts};
 ghost use Rattle.arj_protocol.specs.Step.{Node};
 ghost use Rattle.arj_protocol.specs.Tree.{Branch, at_place, branch_of, root_of};
-ghost use Rattle.arj_protocol.specs.World.{Asked, format, journal, run_all};
 ghost use Rattle.arj_line_law.specs.Book.{book, new_book};
 ghost use Rattle.arj_line_law.specs.Idle.{BeginningsAreTimely, BelowCommitsIsOver, HasNothing, IsIdle, IsLeftAlone, NothingGoesOnBelow};
 ghost use Rattle.arj_line_law.specs.Knows.{IsKept, Ties};
@@ -17,6 +16,7 @@ ghost use Rattle.arj_line_law.specs.Laws.{IsDone};
 ghost use Rattle.arj_line_law.specs.Plans.{UsesWhatIsLeft};
 ghost use Rattle.arj_line_law.specs.Right.{AreRight};
 ghost use Rattle.arj_line_law.specs.Whose.{HasOwners, HaveNodes};
+ghost use Rattle.arj_view_law.specs.Moves.{Move, journal_by, world_by};
 ghost use Rattle.arj_view_law.specs.Seen.{Seen, up};
 
 /// A top that its coordinator has as committed while nobody took part in it is idle by the journal, at every moment of a run; it
@@ -34,7 +34,7 @@ pub fn commits_close_what_is_below()
     ensures beginnings { (lines : List Line) → AreRight new_book lines → BeginningsAreTimely lines }
     ensures below { (lines : List Line) → AreRight new_book lines → BelowCommitsIsOver lines }
     ensures nothing { (lines : List Line) → AreRight new_book lines → NothingGoesOnBelow lines }
-    ensures runs { (hd : Header) (es : List Asked) → BeginningsAreTimely (journal hd es) × BelowCommitsIsOver (journal hd es) × NothingGoesOnBelow (journal hd es) }
+    ensures runs { (hd : Header) (ms : List Move) → BeginningsAreTimely (journal_by hd ms) × BelowCommitsIsOver (journal_by hd ms) × NothingGoesOnBelow (journal_by hd ms) }
 {}
 
 /// Who is decided by a line of a journal began before, and is told apart from all others by the number of its Uid; and in each run
@@ -42,8 +42,8 @@ pub fn commits_close_what_is_below()
 /// when it runs.
 pub fn decisions_have_owners()
     ensures lines { (lines : List Line) → AreRight new_book lines → HasOwners lines }
-    ensures runs { (hd : Header) (es : List Asked) → HasOwners (journal hd es) }
-    ensures nodes { (hd : Header) (es : List Asked) → HaveNodes (run_all es (format hd)) }
+    ensures runs { (hd : Header) (ms : List Move) → HasOwners (journal_by hd ms) }
+    ensures nodes { (hd : Header) (ms : List Move) → HaveNodes (world_by hd ms) }
 {}
 
 /// At each moment of a run, of each action that a coordinator which is up has: the plan that its commit begins with uses the objects of
@@ -57,5 +57,5 @@ pub fn plans_use_what_is_left()
 /// journal has below them; and its roots have noted each access of its actions by the journal, and no others: each call and include that
 /// was answered. It does nothing when it runs.
 pub fn roots_note_accesses()
-    ensures { (hd : Header) (es : List Asked) (k : ℕ) (n : Node) (t : Parts) → at_place k (run_all es (format hd)).nodes ≡ Some n → n.live ≡ Some t → Ties (book (journal hd es)).acts (book (journal hd es)).accesses t.coord.tree t.coord.roots }
+    ensures { (hd : Header) (ms : List Move) (k : ℕ) (n : Node) (t : Parts) → at_place k (world_by hd ms).nodes ≡ Some n → n.live ≡ Some t → Ties (book (journal_by hd ms)).acts (book (journal_by hd ms)).accesses t.coord.tree t.coord.roots }
 {}

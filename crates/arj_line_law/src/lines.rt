@@ -4,21 +4,21 @@ ghost use Rattle.arj_journal.specs.declared.body.Line.{Line};
 ghost use Rattle.arj_journal.specs.declared.header.Header.{Header};
 ghost use Rattle.arj_protocol.specs.Step.{Node};
 ghost use Rattle.arj_protocol.specs.Tree.{at_place};
-ghost use Rattle.arj_protocol.specs.World.{Asked, format, journal, run_all};
 ghost use Rattle.arj_line_law.specs.Book.{book, new_book};
 ghost use Rattle.arj_line_law.specs.Knows.{IsKept, KnowsNode};
 ghost use Rattle.arj_line_law.specs.Laws.{AgreesAll, IsSound};
 ghost use Rattle.arj_line_law.specs.Paths.{PathsAgree};
 ghost use Rattle.arj_line_law.specs.Right.{AreRight};
 ghost use Rattle.arj_view_law.specs.Keeps.{Keeps};
+ghost use Rattle.arj_view_law.specs.Moves.{Move, journal_by, world_by};
 
-/// In each run, with all frames in any order, again or never, all stops, crashes and restarts, each line is right by the lines
-/// before it; and each node knows what the journal says of its actions and records: one that is up has records of decided tops
+/// In each run, with all frames in any order, again or never, all crashes and restarts, and stops wherever disks make them, each line is right by
+/// the lines before it; and each node knows what the journal says of its actions and records: one that is up has records of decided tops
 /// alone, and one that is down may have the record of a top that isn't decided yet, which its restart then says. It does nothing
 /// when it runs.
 pub fn journals_are_right()
-    ensures runs { (hd : Header) (es : List Asked) → AreRight new_book (journal hd es) }
-    ensures nodes { (hd : Header) (es : List Asked) (k : ℕ) (n : Node) → at_place k (run_all es (format hd)).nodes ≡ Some n → KnowsNode (book (journal hd es)) k n }
+    ensures runs { (hd : Header) (ms : List Move) → AreRight new_book (journal_by hd ms) }
+    ensures nodes { (hd : Header) (ms : List Move) (k : ℕ) (n : Node) → at_place k (world_by hd ms).nodes ≡ Some n → KnowsNode (book (journal_by hd ms)) k n }
     ensures handlers { (hd : Header) → Keeps hd IsKept }
 {}
 
@@ -30,19 +30,19 @@ pub fn journals_are_right()
 /// behind the line that decides it. It does nothing when it runs.
 pub fn journals_are_sound()
     ensures lines { (lines : List Line) → AreRight new_book lines → IsSound lines }
-    ensures runs { (hd : Header) (es : List Asked) → IsSound (journal hd es) }
+    ensures runs { (hd : Header) (ms : List Move) → IsSound (journal_by hd ms) }
 {}
 
 /// In each run each node agrees with the journal so far: the records on its disk are of tops that weren't aborted, and while it is
 /// up of committed ones, which its coordinator may tell again; who committed there is committed by the journal, who is open there is
 /// open. And each commit that a frame brings or tells is of a committed action. It does nothing when it runs.
 pub fn nodes_agree_with_journals()
-    ensures { (hd : Header) (es : List Asked) → AgreesAll (run_all es (format hd)) }
+    ensures { (hd : Header) (ms : List Move) → AgreesAll (world_by hd ms) }
 {}
 
-/// In each run, with all frames in any order, again or never, all stops, crashes and restarts, each action that the coordinator of a
-/// node that is up has stands at its place: its path there is the path that the journal so far has of its label. It does nothing when it
+/// In each run, with all frames in any order, again or never, all crashes and restarts, and stops wherever disks make them, each action that the
+/// coordinator of a node that is up has stands at its place: its path there is the path that the journal so far has of its label. It does nothing when it
 /// runs.
 pub fn paths_are_those_of_journals()
-    ensures { (hd : Header) (es : List Asked) → PathsAgree (run_all es (format hd)) }
+    ensures { (hd : Header) (ms : List Move) → PathsAgree (world_by hd ms) }
 {}

@@ -1,6 +1,7 @@
 use Rattle.arj_line_law.proofs.Nothing.{beginnings_timely, below_is_over, nothing_goes_on}
-use Rattle.arj_line_law.proofs.Runs.{run_written}
-use Rattle.arj_protocol.specs.World.{journal}
+use Rattle.arj_line_law.proofs.Runs.{kept_right}
+use Rattle.arj_call_law.proofs.Reaching.{moves_keep}
+use Rattle.arj_view_law.specs.Moves.{journal_by, world_by}
 use Rattle.arj_line_law.proofs.below.commits_close_what_is_below.Goals as goal
 
 pub returns : goal.returns
@@ -8,5 +9,5 @@ returns c = record {
   beginnings = beginnings_timely;
   below = below_is_over;
   nothing = nothing_goes_on;
-  runs = λ hd es. let w = (run_written hd es).1 in (beginnings_timely (journal hd es) w.right, below_is_over (journal hd es) w.right, nothing_goes_on (journal hd es) w.right);
+  runs = λ hd ms. let right = kept_right hd (world_by hd ms) (moves_keep hd ms) in (beginnings_timely (journal_by hd ms) right, below_is_over (journal_by hd ms) right, nothing_goes_on (journal_by hd ms) right);
 }

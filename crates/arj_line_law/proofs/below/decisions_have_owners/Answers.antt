@@ -1,7 +1,12 @@
-use Rattle.arj_line_law.proofs.Owners.{have_nodes, owners_of}
-use Rattle.arj_line_law.proofs.Runs.{run_written}
-use Rattle.arj_protocol.specs.World.{journal}
+use Rattle.arj_line_law.proofs.Owners.{kept_nodes, owners_of}
+use Rattle.arj_line_law.proofs.Runs.{kept_right}
+use Rattle.arj_call_law.proofs.Reaching.{moves_keep}
+use Rattle.arj_view_law.specs.Moves.{journal_by, world_by}
 use Rattle.arj_line_law.proofs.below.decisions_have_owners.Goals as goal
 
 pub returns : goal.returns
-returns c = record { lines = owners_of; runs = λ hd es. owners_of (journal hd es) (let w = (run_written hd es).1 in w.right); nodes = have_nodes }
+returns c = record {
+  lines = owners_of;
+  runs = λ hd ms. owners_of (journal_by hd ms) (kept_right hd (world_by hd ms) (moves_keep hd ms));
+  nodes = λ hd ms. kept_nodes hd (world_by hd ms) (moves_keep hd ms);
+}

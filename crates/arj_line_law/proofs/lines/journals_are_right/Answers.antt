@@ -1,9 +1,11 @@
-use Rattle.arj_line_law.proofs.Runs.{lines_keep, run_written}
+use Rattle.arj_line_law.proofs.Runs.{kept_right, kept_written, lines_keep}
+use Rattle.arj_call_law.proofs.Reaching.{moves_keep}
+use Rattle.arj_view_law.specs.Moves.{world_by}
 use Rattle.arj_line_law.proofs.lines.journals_are_right.Goals as goal
 
 pub returns : goal.returns
 returns c = record {
-  runs = λ hd es. let w = (run_written hd es).1 in w.right;
-  nodes = λ hd es k n is. let w = (run_written hd es).1 in w.nodes k n is;
+  runs = λ hd ms. kept_right hd (world_by hd ms) (moves_keep hd ms);
+  nodes = λ hd ms k n is. let w = (kept_written hd (world_by hd ms) (moves_keep hd ms)).1 in w.nodes k n is;
   handlers = lines_keep;
 }
