@@ -16,15 +16,19 @@ use Rattle.arj_protocol.specs.Node.{Parts}
 use Rattle.arj_protocol.specs.Step as input
 use Rattle.arj_protocol.specs.Step.{Input, Node, first_reason, numbers_to}
 use Rattle.arj_protocol.specs.Tree.{at_place, set_place}
-use Rattle.arj_protocol.specs.World.{Arm, Asked, Frame, Giving, Labelled, World, armed, as_delivered, as_lost, begins, change_frame, counted, deliver, deliver_frame, format, frame_number, giving, happens, is_open_frame, is_quiet, is_serial_kind, is_up_at, junk, junk_fits, kind_below, labels_unless, lacks_labels, limited, lose, lose_frame, lowest, lowest_from, most_frames, most_labels, new_frame, no_labels, node_numbers, node_of, numbered, quiesce, quiet_line, reasons, refused_at, run_all, run_event, run_unless, says, settle, settle_for, show_all, show_up, steps, tick_all, tick_up}
+use Rattle.arj_protocol.specs.World.{Arm, Asked, Frame, Giving, Labelled, World, armed, as_delivered, as_lost, begins, change_frame, counted, deliver, deliver_frame, format, frame_number, giving, happens, is_open_frame, is_quiet, is_serial_kind, is_up_at, journal, junk, junk_fits, kind_below, labels_unless, lacks_labels, limited, lose, lose_frame, lowest, lowest_from, most_frames, most_labels, new_frame, no_labels, node_numbers, node_of, numbered, quiesce, quiet_line, reasons, refused_at, run_all, run_event, run_unless, says, settle, settle_for, show_all, show_up, steps, tick_all, tick_up}
 use Rattle.arj_event_law.proofs.Frames.{length_marked, over, over_few, over_more, steps_add}
 use Rattle.arj_event_law.proofs.Settled.{uses_up}
 use Rattle.arj_view_law.specs.Keeps.{Holds, KeepsAsked}
-use Rattle.arj_view_law.proofs.Happens.{deliver_holds, event_holds, first_holds, keeps_asked, steps_hold}
+use Rattle.arj_view_law.specs.Moves.{Move, all_moved, as_moves, moved, moves_of, world_by}
+use Rattle.arj_view_law.proofs.Happens.{arms_hold, deliver_holds, first_holds, keeps_asked, steps_hold}
+use Rattle.arj_view_law.proofs.Moving.{move_asked, scripts_are_moves}
 use Rattle.arj_call_law.specs.Bindings.{HasFewBindings, bindings_made}
+use Rattle.arj_call_law.specs.Reached.{IsReached}
 use Rattle.arj_call_law.proofs.MadeLines.{lines_both}
+use Rattle.arj_call_law.proofs.Reaching.{moves_keep, scripts_keep}
 use Rattle.arj_call_law.proofs.WholeRuns.{runs_reach, runs_vote}
-use Rattle.arj_binding_law.specs.Scripts.{ScriptsMakeFew, ScriptsReach, ScriptsVote, most_events}
+use Rattle.arj_binding_law.specs.Scripts.{MovesMakeFew, MovesReach, MovesVote, most_events}
 use Rattle.arj_binding_law.proofs.CoordBinds.{at_naming}
 use Rattle.arj_binding_law.proofs.Doings.{HaveLabels, labels_go}
 use Rattle.arj_binding_law.proofs.Worlds.{cost_at, made, steps_labels, steps_made}
@@ -615,39 +619,62 @@ module _ (hd : Header) where
       over_by true = (stays most_labels w, fits.1)
       over_by false = refused (first_reason (reasons e.event w))
 
-  -- ---- a script
+  -- ---- moves
 
-  all_grew : (es : List Asked) (w : World) → Fits w → Grew (length es * most_labels) w (run_all es w)
-  all_grew [] w fits = stays (0 * most_labels) w
-  all_grew (e ∷ es) w fits =
-      let g = event_grew e w fits in
-      then_grew most_labels (length es * most_labels) (suc (length es) * most_labels) w (run_event e w) (run_all es (run_event e w)) (one_more_event (length es)) g.0 (all_grew es (run_event e w) (event_holds hd HaveLabels (labels_go hd) e w fits.0, g.1))
-    where
-      one_more_event : (k : ℕ) → most_labels + k * most_labels ≤ suc k * most_labels
-      one_more_event k = omega arith
+  -- stops are nothing to what is counted
+  move_grew : (m : Move) (w : World) → Fits w → Grew most_labels w (moved m w) × Fits (moved m w)
+  move_grew m w (h, few) =
+      let g = event_grew m.asked (record w { arms = m.falls }) (arms_hold hd HaveLabels m.falls w h, few) in
+      (record { lines = g.0.lines; few = g.0.few }, (move_asked hd HaveLabels asked m w h, g.1))
 
-  few_made : (es : List Asked) → length es ≤ most_events → HasFewBindings (let w = run_all es (format hd) in w.lines)
-  few_made es short =
-      let w = run_all es (format hd) in
-      let g = all_grew es (format hd) (first_holds hd HaveLabels (labels_go hd), omega arith) in
-      few (length es) (made w) (over w.frames) (length w.frames) short g.lines (over_few w.frames) (g.few (omega arith))
+  all_grew : (ms : List Move) (w : World) → Fits w → Grew (length ms * most_labels) w (all_moved ms w) × HasRoom (all_moved ms w)
+  all_grew [] w fits = (stays (0 * most_labels) w, fits.1)
+  all_grew (m ∷ ms) w fits =
+      let g = move_grew m w fits in
+      let rest = all_grew ms (moved m w) g.1 in
+      (then_grew most_labels (length ms * most_labels) (suc (length ms) * most_labels) w (moved m w) (all_moved ms (moved m w)) (one_move (length ms)) g.0 rest.0, rest.1)
     where
-      few : (k m o f : ℕ) → k ≤ most_events → m + 0 ≤ 0 + o + k * most_labels → o ≤ f → f ≤ most_frames → m < 4294967295
-      few k m o f short sum less fit = omega (arith, short, sum, less, fit)
+      one_move : (k : ℕ) → most_labels + k * most_labels ≤ suc k * most_labels
+      one_move k = omega arith
+
+  first_fits : Fits (format hd)
+  first_fits = (first_holds hd HaveLabels (labels_go hd), omega arith)
 
 -- no more labels are given than there may be
-pub few_labels : (hd : Header) (es : List Asked) → length (let w = run_all es (format hd) in w.labels) ≤ most_labels
-few_labels hd es = room es (format hd) (first_holds hd HaveLabels (labels_go hd), omega arith)
+pub moves_labels : (hd : Header) (ms : List Move) → length (let w = world_by hd ms in w.labels) ≤ most_labels
+moves_labels hd ms = let g = all_grew hd ms (format hd) (first_fits hd) in g.1
+
+pub moves_few : MovesMakeFew
+moves_few hd ms short =
+    let w = world_by hd ms in
+    let g = all_grew hd ms (format hd) (first_fits hd) in
+    few (length ms) (made w) (over w.frames) (length w.frames) short g.0.lines (over_few w.frames) (g.0.few (omega arith))
   where
-    room : (fs : List Asked) (w : World) → Fits hd w → HasRoom (run_all fs w)
-    room [] w fits = fits.1
-    room (f ∷ fs) w fits = room fs (run_event f w) (event_holds hd HaveLabels (labels_go hd) f w fits.0, (event_grew hd f w fits).1)
+    few : (k m o f : ℕ) → k ≤ most_events → m + 0 ≤ 0 + o + k * most_labels → o ≤ f → f ≤ most_frames → m < 4294967295
+    few k m o f short sum less fit = omega (arith, short, sum, less, fit)
 
-pub scripts_few : ScriptsMakeFew
-scripts_few hd es short = few_made hd es short
+pub moves_vote : MovesVote
+moves_vote hd ms short = runs_vote hd ms (moves_few hd ms short)
 
-pub scripts_vote : ScriptsVote
-scripts_vote hd es short = runs_vote hd es (few_made hd es short)
+pub moves_reach : MovesReach
+moves_reach hd ms short = runs_reach hd ms (moves_few hd ms short)
 
-pub scripts_reach : ScriptsReach
-scripts_reach hd es short = runs_reach hd es (few_made hd es short)
+-- so what moves come to is reached
+pub moves_reached : (hd : Header) (ms : List Move) → length ms ≤ most_events → IsReached hd (world_by hd ms)
+moves_reached hd ms short = record { keeping = moves_keep hd ms; few = moves_few hd ms short; labels = moves_labels hd ms }
+
+-- ---- scripts
+
+-- a script has as many moves as events
+pub as_many : (es : List Asked) (w : World) → length (as_moves es w) ≡ length es
+as_many [] w = refl
+as_many (e ∷ es) w = ap suc (as_many es (run_event e w))
+
+pub scripts_few : (hd : Header) (es : List Asked) → length es ≤ most_events → HasFewBindings (journal hd es)
+scripts_few hd es short = subst (λ (v : World). HasFewBindings v.lines) (scripts_are_moves hd es) (moves_few hd (moves_of hd es) (subst (λ n. n ≤ most_events) (sym (as_many es (format hd))) short))
+
+pub few_labels : (hd : Header) (es : List Asked) → length (let w = run_all es (format hd) in w.labels) ≤ most_labels
+few_labels hd es = subst (λ (v : World). length v.labels ≤ most_labels) (scripts_are_moves hd es) (moves_labels hd (moves_of hd es))
+
+pub scripts_reached : (hd : Header) (es : List Asked) → length es ≤ most_events → IsReached hd (run_all es (format hd))
+scripts_reached hd es short = record { keeping = scripts_keep hd es; few = scripts_few hd es short; labels = few_labels hd es }

@@ -1,8 +1,8 @@
--- What holds of each script of so many events.
+-- What holds of each run of so many events, whatever stops fall in them.
 use Rattle.std.specs.Prelude.{◌≤◌, ℕ, List, length}
 use Rattle.arj_protocol.specs.Words.{Header}
-use Rattle.arj_protocol.specs.World.{Asked, format, run_all}
 use Rattle.arj_view_law.specs.Keeps.{Holds}
+use Rattle.arj_view_law.specs.Moves.{Move, journal_by, world_by}
 use Rattle.arj_call_law.specs.Bindings.{HasFewBindings}
 use Rattle.arj_call_law.specs.Runs.{AllVotesAreUsed}
 use Rattle.arj_call_law.specs.Worlds.{CallsReach}
@@ -11,14 +11,14 @@ use Rattle.arj_call_law.specs.Worlds.{CallsReach}
 abbrev pub most_events : ℕ
 most_events = 1000000
 
--- naming makes few bindings in the run of a script
-abbrev pub ScriptsMakeFew : Type 0
-ScriptsMakeFew = (hd : Header) (es : List Asked) → length es ≤ most_events → HasFewBindings (let w = run_all es (format hd) in w.lines)
+-- naming makes few bindings in such a run
+abbrev pub MovesMakeFew : Type 0
+MovesMakeFew = (hd : Header) (ms : List Move) → length ms ≤ most_events → HasFewBindings (journal_by hd ms)
 
 -- so that what servers vote is used
-abbrev pub ScriptsVote : Type 0
-ScriptsVote = (hd : Header) (es : List Asked) → length es ≤ most_events → Holds hd AllVotesAreUsed (run_all es (format hd))
+abbrev pub MovesVote : Type 0
+MovesVote = (hd : Header) (ms : List Move) → length ms ≤ most_events → Holds hd AllVotesAreUsed (world_by hd ms)
 
 -- and calls name what their servers reached
-abbrev pub ScriptsReach : Type 0
-ScriptsReach = (hd : Header) (es : List Asked) → length es ≤ most_events → Holds hd CallsReach (run_all es (format hd))
+abbrev pub MovesReach : Type 0
+MovesReach = (hd : Header) (ms : List Move) → length ms ≤ most_events → Holds hd CallsReach (world_by hd ms)

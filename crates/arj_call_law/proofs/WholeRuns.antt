@@ -16,19 +16,20 @@ use Rattle.arj_protocol.specs.Order.{at_number, binding_number}
 use Rattle.arj_protocol.specs.Server.{Server}
 use Rattle.arj_protocol.specs.Step.{Node}
 use Rattle.arj_protocol.specs.Tree.{root_of}
-use Rattle.arj_protocol.specs.World.{Asked, format, run_all}
+use Rattle.arj_protocol.specs.World.{World}
 use Rattle.arj_part_law.specs.Lives.{Homes, IsKeptSo, IsRootSo, IsUnbound, KnowsServers, NamesAsk, NamesAsked, NamesBind, NamesReply, Reach}
 use Rattle.arj_part_law.proofs.LivesNamed.{all_at, keyed_at}
 use Rattle.arj_run_law.specs.Worlds.{IsGood}
 use Rattle.arj_run_law.proofs.AllRuns.{all_keep}
 use Rattle.arj_run_law.proofs.Walked.{same_number}
 use Rattle.arj_view_law.specs.Keeps.{Holds, Keeps}
+use Rattle.arj_view_law.specs.Moves.{world_by}
 use Rattle.arj_view_law.specs.Seen.{Seen, see, up}
-use Rattle.arj_view_law.proofs.Happens.{runs_hold}
 use Rattle.arj_call_law.specs.Bindings.{AreSaid, HasFewBindings, bindings_made}
 use Rattle.arj_call_law.specs.Calls.{Call, call_in}
 use Rattle.arj_call_law.specs.Homes.{NamesIn}
 use Rattle.arj_call_law.specs.Lived.{AreApart, AreBelow, CountFits, Gifts, IsHome, LivesRun, LivesWith, NamesPost, PassesAll, PassesIn}
+use Rattle.arj_call_law.specs.Reached.{Keeping as KeepingIn}
 use Rattle.arj_call_law.specs.Runs.{AllChangesAreCalled, AllVotesAreUsed, HasHomes, KnowsFew, KnowsRun}
 use Rattle.arj_call_law.specs.Servers.{HasReached, IsSoUp, Since}
 use Rattle.arj_call_law.specs.Voting.{RunsCall, RunsReach, RunsVote}
@@ -37,6 +38,7 @@ use Rattle.arj_call_law.proofs.CoordSends.{asked_call}
 use Rattle.arj_call_law.proofs.Given.{KeepsGiven, both_given, given_more, kept_both, keeps_given, while_given}
 use Rattle.arj_call_law.proofs.LivedRuns.{lives_given}
 use Rattle.arj_call_law.proofs.MadeLines.{counts_are_said, fewer}
+use Rattle.arj_call_law.proofs.Reaching.{kept_holds, moves_keep}
 use Rattle.arj_call_law.proofs.ChangedCalls.{changes_in}
 use Rattle.arj_call_law.proofs.ServerCalls.{some_is}
 use Rattle.arj_call_law.proofs.WorldRuns.{calls_given, votes_in}
@@ -244,17 +246,17 @@ few_go hd P kept = kept_both hd Counted (λ M. HasFewBindings M.lines → Known 
     few : (n c : ℕ) → c ≤ n → n < 4294967295 → c + 1 < 4294967296
     few n c le less = omega (arith, le, less)
 
--- what is known of servers and of calls after a run
-known_in : (hd : Header) (es : List Asked) (P : Seen → Type 0) → ((M : Seen) → LivesRun M × KnowsRun M → P M) → HasFewBindings (run_all es (format hd)).lines → Holds hd P (run_all es (format hd))
-known_in hd es P so few =
-    let h = runs_hold hd (WhileFew IsGood) (few_go hd IsGood (keeps_given hd KnowsFew IsGood (all_keep hd))) es in
-    record { sent = h.sent; stands = h.stands; holds = so (see h.sent (run_all es (format hd))) (h.holds.1 few).0 }
+-- what is known of servers and of calls where few bindings were made
+known_in : (hd : Header) (w : World) → KeepingIn hd w → HasFewBindings w.lines → (P : Seen → Type 0) → ((M : Seen) → LivesRun M × KnowsRun M → P M) → Holds hd P w
+known_in hd w keeping few P so =
+    let h = kept_holds hd w keeping (WhileFew IsGood) (few_go hd IsGood (keeps_given hd KnowsFew IsGood (all_keep hd))) in
+    record { sent = h.sent; stands = h.stands; holds = so (see h.sent w) (h.holds.1 few).0 }
 
 pub runs_vote : RunsVote
-runs_vote hd es few = known_in hd es AllVotesAreUsed (λ M k. votes_in M k.1) few
+runs_vote hd ms few = known_in hd (world_by hd ms) (moves_keep hd ms) few AllVotesAreUsed (λ M k. votes_in M k.1)
 
 pub runs_call : RunsCall
-runs_call hd es few = known_in hd es AllChangesAreCalled (λ M k. changes_in M k.1) few
+runs_call hd ms few = known_in hd (world_by hd ms) (moves_keep hd ms) few AllChangesAreCalled (λ M k. changes_in M k.1)
 
 pub runs_reach : RunsReach
-runs_reach hd es few = known_in hd es CallsReach (λ M k. reached_of M k.0) few
+runs_reach hd ms few = known_in hd (world_by hd ms) (moves_keep hd ms) few CallsReach (λ M k. reached_of M k.0)
