@@ -1,5 +1,5 @@
--- In the run of a script in form the operations that its journal answers are in form: they are those of its calls.
-use Rattle.std.proofs.Common.{◌≡◌, ◌++◌, ◌+◌, ◌-◌, ◌||◌, ℕ, zero, suc, Bool, true, false, cond, not, List, [], ◌∷◌, length, map, Option, Some, None, refl}
+-- In a run in form, whatever stops fall in it, the operations that its journal answers are in form: they are those of its calls.
+use Rattle.std.proofs.Common.{◌≡◌, ◌++◌, ◌+◌, ◌-◌, ◌||◌, ℕ, zero, suc, Bool, true, false, cond, not, List, [], ◌∷◌, length, map, Option, Some, None, refl, subst}
 use Rattle.std.specs.Prelude.{⊤, nat_le, nat_lt}
 use Rattle.std.specs.List.{AllByRecursion}
 use Rattle.arj_journal.specs.ScriptForm.{EventInForm}
@@ -16,11 +16,15 @@ use Rattle.arj_protocol.specs.Order.{at_number}
 use Rattle.arj_protocol.specs.Step as input
 use Rattle.arj_protocol.specs.Step.{Input, Node, Step, first_node, first_reason, numbers_to, step}
 use Rattle.arj_protocol.specs.Tree.{at_place}
-use Rattle.arj_protocol.specs.World.{Arm, Asked, Frame, Giving, World, armed, as_delivered, as_lost, begins, begins_any, bodies, change_frame, count_works, counted, cut, deliver, deliver_frame, disarmed, done_step, format, frame_number, giving, halted_at, halted_outs, happens, is_quiet, is_up_at, junk_fits, labels_unless, lacks_labels, limited, lose_frame, lowest, most_frames, new_frame, no_labels, node_numbers, node_of, numbered, put, quiesce, reasons, refused_at, run_all, run_event, run_unless, says, set_node, settle, settle_for, show_all, show_up, step_node, step_with, steps, tick_all, tick_up}
+use Rattle.arj_protocol.specs.World.{Arm, Asked, Frame, Giving, World, armed, as_delivered, as_lost, begins, begins_any, bodies, change_frame, count_works, counted, cut, deliver, deliver_frame, disarmed, done_step, format, frame_number, giving, halted_at, halted_outs, happens, is_quiet, is_up_at, journal, junk_fits, labels_unless, lacks_labels, limited, lose_frame, lowest, most_frames, new_frame, no_labels, node_numbers, node_of, numbered, put, quiesce, reasons, refused_at, run_event, run_unless, says, set_node, settle, settle_for, show_all, show_up, step_node, step_with, steps, tick_all, tick_up}
+use Rattle.arj_view_law.specs.Moves.{Move, all_moved, as_moves, journal_by, moved, moves_of, world_by}
+use Rattle.arj_view_law.proofs.Moving.{scripts_are_moves}
+use Rattle.arj_call_law.specs.Reached.{IsReached}
 use Rattle.arj_address_law.proofs.Lists.{all_append, all_placed, all_set}
+use Rattle.arj_binding_law.proofs.Events.{moves_reached}
 use Rattle.arj_lock_whole_law.specs.Called.{LinesOf, SaysOf}
 use Rattle.arj_joint_law.specs.Fit.{OpFits, OpsFit}
-use Rattle.arj_joint_law.specs.FitRuns.{RunsFit}
+use Rattle.arj_joint_law.specs.FitRuns.{AreEventsInForm, AreMovesInForm, IsInForm, RunsFit}
 use Rattle.arj_joint_law.proofs.FitCoords.{AsksFor}
 use Rattle.arj_joint_law.proofs.FitSteps.{Fine, LiveOf, StepOf, step_so}
 
@@ -189,9 +193,10 @@ module _ (P : ℕ → Goal → Type 0) (free : (x n : ℕ) → P x (Include n)) 
   event_so : (e : Asked) (w : World) → EventOf e.event → WorldOf w → WorldOf (run_event e w)
   event_so e w own its = either_so w.over w (run_unless e.event e.arm w (first_reason (reasons e.event w))) its (unless_so e.event e.arm w (first_reason (reasons e.event w)) own its)
 
-  runs_so : (es : List Asked) (w : World) → AllByRecursion (λ (e : Asked). EventOf e.event) es → WorldOf w → WorldOf (run_all es w)
-  runs_so [] w all its = its
-  runs_so (e ∷ es) w all its = runs_so es (run_event e w) all.1 (event_so e w all.0 its)
+  -- stops that fall are nothing to it
+  moves_so : (ms : List Move) (w : World) → AllByRecursion (λ (m : Move). let e = m.asked in EventOf e.event) ms → WorldOf w → WorldOf (all_moved ms w)
+  moves_so [] w all its = its
+  moves_so (m ∷ ms) w all its = moves_so ms (moved m w) all.1 (event_so m.asked (record w { arms = m.falls }) all.0 its)
 
   -- nothing waits as a run begins
   first_so : (hd : Header) → WorldOf (format hd)
@@ -229,9 +234,9 @@ event_fits (event.Stop n c how) form = tt
 event_fits (event.Junk n bytes) form = tt
 event_fits (event.Show x) form = tt
 
-events_fit : (es : List Asked) → AllByRecursion (λ (e : Asked). EventInForm e.event) es → AllByRecursion (λ (e : Asked). EventOf GoalFits (λ x n. tt) e.event) es
+events_fit : (ms : List Move) → AreMovesInForm ms → AllByRecursion (λ (m : Move). let e = m.asked in EventOf GoalFits (λ x n. tt) e.event) ms
 events_fit [] all = tt
-events_fit (e ∷ es) all = (event_fits e.event all.0, events_fit es all.1)
+events_fit (m ∷ ms) all = (let e = m.asked in event_fits e.event all.0, events_fit ms all.1)
 
 lines_fit : (x : ℕ) (ls : List Line) → LinesOf GoalFits ls → OpsFit x ls
 lines_fit x [] all = tt
@@ -241,7 +246,21 @@ lines_fit x (l ∷ ls) all = (by l.body all.0, lines_fit x ls all.1)
     by (body.Ok m y o a) its = λ same. its
     by b its = tt
 
-pub runs_fit : RunsFit
-runs_fit hd x es form =
-    let w = run_all es (format hd) in
-    lines_fit x w.lines (runs_so GoalFits (λ y n. tt) es (format hd) (events_fit es form) (first_so GoalFits (λ y n. tt) hd)).1
+pub moves_fit : RunsFit
+moves_fit hd x ms form =
+    let w = world_by hd ms in
+    lines_fit x w.lines (moves_so GoalFits (λ y n. tt) ms (format hd) (events_fit ms form) (first_so GoalFits (λ y n. tt) hd)).1
+
+-- a run in form comes to a world that is reached, and answers operations in form
+pub runs_in_form : (hd : Header) (ms : List Move) → IsInForm hd ms → IsReached hd (world_by hd ms) × ((x : ℕ) → OpsFit x (journal_by hd ms))
+runs_in_form hd ms form = (moves_reached hd ms form.few, λ x. moves_fit hd x ms form.events)
+
+-- ---- scripts
+
+-- the moves of a script in form are in form
+pub scripts_in_form : (es : List Asked) (w : World) → AreEventsInForm es → AreMovesInForm (as_moves es w)
+scripts_in_form [] w all = tt
+scripts_in_form (e ∷ es) w all = (all.0, scripts_in_form es (run_event e w) all.1)
+
+pub runs_fit : (hd : Header) (x : ℕ) (es : List Asked) → AreEventsInForm es → OpsFit x (journal hd es)
+runs_fit hd x es form = subst (λ (w : World). OpsFit x w.lines) (scripts_are_moves hd es) (moves_fit hd x (moves_of hd es) (scripts_in_form es (format hd) form))

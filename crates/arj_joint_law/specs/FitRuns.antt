@@ -1,20 +1,16 @@
--- Journals of scripts in form.
+-- Runs in form, and their journals.
 use Rattle.std.specs.Prelude.{◌≤◌, ℕ, List, length}
 use Rattle.std.specs.List.{AllByRecursion}
 use Rattle.arj_journal.specs.ScriptForm.{EventInForm, HeaderInForm}
 use Rattle.arj_protocol.specs.Words.{Header}
-use Rattle.arj_protocol.specs.World.{Asked, journal}
-use Rattle.arj_view_law.specs.Moves.{Move}
+use Rattle.arj_protocol.specs.World.{Asked}
+use Rattle.arj_view_law.specs.Moves.{Move, journal_by}
 use Rattle.arj_binding_law.specs.Scripts.{most_events}
 use Rattle.arj_joint_law.specs.Fit.{OpsFit}
 
 -- each event of the script is in form
 abbrev pub AreEventsInForm : List Asked → Type 0
 AreEventsInForm es = AllByRecursion (λ (e : Asked). EventInForm e.event) es
-
--- Where the events of a script are in form, so are the operations that its journal answers.
-abbrev pub RunsFit : Type 0
-RunsFit = (hd : Header) (x : ℕ) (es : List Asked) → AreEventsInForm es → OpsFit x (journal hd es)
 
 -- each event of these moves is in form
 abbrev pub AreMovesInForm : List Move → Type 0
@@ -25,3 +21,7 @@ pub record IsInForm (hd : Header) (ms : List Move) : Type 0 where
   pub header : HeaderInForm hd
   pub events : AreMovesInForm ms
   pub few : length ms ≤ most_events
+
+-- Where the events of a run are in form, so are the operations that its journal answers.
+abbrev pub RunsFit : Type 0
+RunsFit = (hd : Header) (x : ℕ) (ms : List Move) → AreMovesInForm ms → OpsFit x (journal_by hd ms)

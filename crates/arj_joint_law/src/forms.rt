@@ -11,8 +11,8 @@ pub fn runs_have_form()
     ensures runs { RunsHaveForm }
 {}
 
-/// In the journal of every script whose events are in form the operations of answered calls are in form (`OpsFit`): they are those of its
-/// events, whatever is sent, lost, stopped or restarted. It does nothing when it runs.
+/// In the journal of every run whose events are in form the operations of answered calls are in form (`OpsFit`): they are those of its
+/// events, whatever is sent, lost or restarted, and whatever stops fall. It does nothing when it runs.
 pub fn answered_operations_are_in_form()
     ensures { RunsFit }
 {}
