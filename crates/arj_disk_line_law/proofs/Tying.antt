@@ -1,6 +1,6 @@
--- Each handler keeps that decisions are said, and so they are after each run.
+-- Each handler keeps that decisions are said, and so they are in each world that is reached.
 use Rattle.std.proofs.Common.{◌≡◌, ◌⊎◌, ◌==◌, ℕ, ◌+◌, List, [], true, Option, Some, None, is_some, refl, sym, ◌∙◌, ap, subst, inl, inr, ⊎_elim, ◌++◌, ◌∷◌}
-use Rattle.std.specs.Prelude.{⊤, ◌≤◌, Contains, length}
+use Rattle.std.specs.Prelude.{⊤, Contains}
 use Rattle.arj_lock.proofs.Members.{in_to, In as Among, in_from}
 use Rattle.arj_protocol.specs.Words.{Body, Header, Kind, Label, Uid, Line}
 use Rattle.arj_protocol.specs.Words.body
@@ -10,13 +10,14 @@ use Rattle.arj_protocol.specs.Follow.{tick_outs}
 use Rattle.arj_protocol.specs.Node.{Parts, with_coord}
 use Rattle.arj_protocol.specs.Order.{at_uid, uid_number}
 use Rattle.arj_protocol.specs.Step.{Node, acts, parent_of, parts_in, restart_outs}
-use Rattle.arj_protocol.specs.World.{Asked, format, is_serial_kind, numbered, run_all}
+use Rattle.arj_protocol.specs.World.{World, format, is_serial_kind, numbered}
 use Rattle.arj_part_law.proofs.Keys.{at_in, in_at}
 use Rattle.arj_disk_law.specs.Effects as machine
 use Rattle.arj_disk_law.specs.Names.{Office}
 use Rattle.arj_disk_law.specs.State.{decided, decided_in as is_among}
 use Rattle.arj_disk_law.proofs.Base.{never, some_is}
 use Rattle.arj_view_law.specs.Keeps.{Holds, Keeps}
+use Rattle.arj_view_law.specs.Moves.{world_by}
 use Rattle.arj_view_law.specs.Seen.{Seen, at, down, given, said, see, up, AreQuiet}
 use Rattle.arj_view_law.specs.Walks.{Up, Walks, halted}
 use Rattle.arj_view_law.proofs.Together.{walks_both, walks_to}
@@ -24,14 +25,15 @@ use Rattle.arj_disk_view_law.specs.Deciding.{nodes_of}
 use Rattle.arj_disk_view_law.specs.Sees.{IsLater, Kinds, SeesDisks}
 use Rattle.arj_names_view_law.specs.Both.{OnlyFound, SeesBoth}
 use Rattle.arj_names_view_law.specs.Handlers.{Answering, Change, Changes, Deciding, Quietly, change_by}
-use Rattle.arj_binding_law.specs.Scripts.{most_events}
+use Rattle.arj_binding_law.proofs.Events.{moves_reached}
+use Rattle.arj_call_law.specs.Reached.{IsReached}
 use Rattle.arj_call_law.specs.Runs.{KnowsFew}
 use Rattle.arj_disk_run_law.specs.Part.{Going, HasHeard, KeepsPart, are_recorded, going_of}
 use Rattle.arj_disk_run_law.specs.Kinds.{kinds_of}
 use Rattle.arj_disk_run_law.proofs.Begun.{kinds_agree}
 use Rattle.arj_disk_run_law.specs.Bindings.{KnowsScript}
 use Rattle.arj_call_law.proofs.Given.{kept_both, keeps_given, while_given}
-use Rattle.arj_disk_run_law.proofs.Scripts.{part_few, part_more, script_holds}
+use Rattle.arj_disk_run_law.proofs.Scripts.{part_few, part_more, reached_script}
 use Rattle.arj_disk_run_law.proofs.Given.{gives_votes}
 use Rattle.arj_disk_run_law.specs.Entries.{HaveEntries}
 use Rattle.arj_disk_run_law.proofs.BothEach.{with_entries}
@@ -251,7 +253,7 @@ module _ (hd : Header) (x : ℕ) (R : Seen → Type 0) (G : machine.World → Se
       given_near : (l : Label) (how : Kind) (k : ℕ) (M : Seen) → IsNear M (given l (record { node = k; serial = is_serial_kind how }) M)
       given_near l how k M = record { more = []; lines = nothing_more M.lines; nodes = λ j. refl }
 
--- ---- every run
+-- ---- in a world that is reached
 
 -- actions of a journal are told apart by their Uids
 pub one_act : (xs : List Act) → AreDistinct xs → (a b : Act) → Among a xs → Among b xs → a.uid ≡ b.uid → a ≡ b
@@ -265,8 +267,8 @@ one_act (x ∷ xs) apart a b (inr i) (inr j) same = one_act xs apart.3 a b i j s
 abbrev pub IsJournalledBeside : (Seen → Type 0) → (Kinds → Office → Seen → Type 0) → ℕ → Seen → Type 0
 IsJournalledBeside R P x M = (j : IsJournalled x M) × (A : Office) × (A.world ≡ j.machine) × P j.tops A M × KnowsFew M × IsSeenBegun x j.tops A M × R M
 
-pub journalled_beside : (hd : Header) (x : ℕ) (Fits : List Line → Type 0) → WasBefore Fits → (R : Seen → Type 0) (P : Kinds → Office → Seen → Type 0) → Keeps hd R → KeepsPart hd x (λ W M. R M × IsKnownEarly Fits W M) P → (es : List Asked) → length es ≤ most_events → Fits (run_all es (format hd)).lines → Holds hd (IsJournalledBeside R P x) (run_all es (format hd))
-journalled_beside hd x Fits before R P kept parts es short fits =
+pub journalled_beside : (hd : Header) (x : ℕ) (Fits : List Line → Type 0) → WasBefore Fits → (R : Seen → Type 0) (P : Kinds → Office → Seen → Type 0) → Keeps hd R → KeepsPart hd x (λ W M. R M × IsKnownEarly Fits W M) P → (w : World) → IsReached hd w → Fits w.lines → Holds hd (IsJournalledBeside R P x) w
+journalled_beside hd x Fits before R P kept parts w reached fits =
     let Idle : List Line → Uid → Type 0 = λ ls u. IsIdle (book ls) u in
     let idles = knows_idle R in
     let G : Seen → Type 0 = λ M. KnowsScript M × Fits M.lines in
@@ -276,12 +278,12 @@ journalled_beside hd x Fits before R P kept parts es short fits =
     let Q : Kinds → Seen → Type 0 = IsCarriedSo hd x B G P Idle tied in
     let known = with_entries hd x B (λ W M. B M × IsKnownEarly Fits W M) (WithTie P Idle) tied (both_too hd x R (IsKnownEarly Fits) P Idle kept parts idles) in
     let all = all_keep hd x Known G Q known (λ us k d t M q. gives_votes Known us k d t M (q.0, q.1.0)) (unlate_each hd x B G P Idle tied) in
-    let r = script_holds hd (λ M. Fits M.lines → IsKeptInRun Known Q M) (while_given Fits before (IsKeptInRun Known Q) hd KnowsScript all) es short in
+    let r = reached_script hd (λ M. Fits M.lines → IsKeptInRun Known Q M) (while_given Fits before (IsKeptInRun Known Q) hd KnowsScript all) w reached in
     let h = r.holds.1 fits in
     let g = h.1 in
     let s = g.5 (kinds_of h.0) (kinds_agree h.0 g.0.begun g.1) in
-    let lines = (run_all es (format hd)).lines in
-    let right = (let w = g.4.0.1.1 in w.right) in
+    let lines = w.lines in
+    let right = (let z = g.4.0.1.1 in z.right) in
     record {
       sent = r.sent;
       stands = r.stands;
@@ -312,8 +314,8 @@ journalled_beside hd x Fits before R P kept parts es short fits =
         let same = one_act (acts_of lines) sound.distinct p a (subst (λ xs. Among p xs) b.begun (in_from p (let B = book lines in B.acts) its)) (in_from a (acts_of lines) there) uid in
         absurd (never (ap (λ (y : Act). is_top y.kind) same ∙ top) plain)
 
-journalled : (hd : Header) (x : ℕ) (R : Seen → Type 0) (P : Kinds → Office → Seen → Type 0) → Keeps hd R → KeepsPart hd x (λ W M. R M × KnowsScript M) P → (es : List Asked) → length es ≤ most_events → Holds hd (IsJournalled x) (run_all es (format hd))
-journalled hd x R P kept parts es short = let h = journalled_beside hd x (λ ls. ⊤) (λ ls more f. tt) R P kept (part_more hd x (λ W M. R M × KnowsScript M) (λ W M. R M × IsKnownEarly (λ ls. ⊤) W M) P (λ W M q. (q.0, q.1.0.0)) parts) es short tt in record { sent = h.sent; stands = h.stands; holds = h.holds.0 }
+journalled : (hd : Header) (x : ℕ) (R : Seen → Type 0) (P : Kinds → Office → Seen → Type 0) → Keeps hd R → KeepsPart hd x (λ W M. R M × KnowsScript M) P → (w : World) → IsReached hd w → Holds hd (IsJournalled x) w
+journalled hd x R P kept parts w reached = let h = journalled_beside hd x (λ ls. ⊤) (λ ls more f. tt) R P kept (part_more hd x (λ W M. R M × KnowsScript M) (λ W M. R M × IsKnownEarly (λ ls. ⊤) W M) P (λ W M q. (q.0, q.1.0.0)) parts) w reached tt in record { sent = h.sent; stands = h.stands; holds = h.holds.0 }
 
 pub runs_are_journalled : RunsAreJournalled
-runs_are_journalled hd x part parts es short = journalled hd x IsGood (λ tops A M. part tops A M ≡ true) (parts_good hd) (part_few hd x IsGood (λ tops A M. part tops A M ≡ true) parts) es short
+runs_are_journalled hd x part parts ms short = journalled hd x IsGood (λ tops A M. part tops A M ≡ true) (parts_good hd) (part_few hd x IsGood (λ tops A M. part tops A M ≡ true) parts) (world_by hd ms) (moves_reached hd ms short)

@@ -5,10 +5,10 @@ use Rattle.arj_protocol.specs.Words.{Header, Line, Uid}
 use Rattle.arj_protocol.specs.Effect.{Intent}
 use Rattle.arj_protocol.specs.Order.{uid_number}
 use Rattle.arj_protocol.specs.Step.{Node}
-use Rattle.arj_protocol.specs.World.{Asked, format, run_all}
 use Rattle.arj_disk_law.specs.Effects as machine
 use Rattle.arj_disk_law.specs.State.{decided}
 use Rattle.arj_view_law.specs.Keeps.{Holds}
+use Rattle.arj_view_law.specs.Moves.{Move, world_by}
 use Rattle.arj_view_law.specs.Seen.{Seen}
 use Rattle.arj_disk_view_law.specs.Sees.{Kinds, SeesDisks}
 use Rattle.arj_call_law.specs.Runs.{KnowsFew}
@@ -80,8 +80,8 @@ pub record IsJournalled (x : ℕ) (M : Seen) : Type 0 where
   pub done : (a : Act) → Contains (acts M.lines) a → is_top a.kind ≡ true → IsDone M.lines a
       → (decided (let W = machine in W.disk) (uid_number a.uid) ≡ true) ⊎ ((let W = machine in W.disk.bare) (uid_number a.uid) ≡ true) ⊎ HasNothing M.lines a
 
--- What is kept beside the machine's state of what coordinators have and messages claim has it in the run of every script: nodes are
--- good there, and calls are known while few bindings were made.
+-- What is kept beside the machine's state of what coordinators have and messages claim has it after all moves: nodes are good there, and calls are
+-- known while few bindings were made.
 abbrev pub RunsAreJournalled : Type 0
 RunsAreJournalled = (hd : Header) (x : ℕ) (part : Kinds → Office → Seen → Bool) → KeepsPart hd x (λ W M. IsGood M × KnowsFew M) (λ tops A M. part tops A M ≡ true)
-    → (es : List Asked) → length es ≤ most_events → Holds hd (IsJournalled x) (run_all es (format hd))
+    → (ms : List Move) → length ms ≤ most_events → Holds hd (IsJournalled x) (world_by hd ms)

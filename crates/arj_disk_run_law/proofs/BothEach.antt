@@ -1,6 +1,6 @@
--- Both halves of the object's machine are carried by each handler, and so through each run; and copies agree in it.
+-- Both halves of the object's machine are carried by each handler, and so they are there in each world that is reached; and copies agree in it.
 use Rattle.std.proofs.Common.{◌≡◌, ◌==◌, ℕ, List, [], ◌+◌, Bool, true, false, Option, Some, None, refl, ap, subst, is_some}
-use Rattle.std.specs.Prelude.{◌≤◌, length, option_map}
+use Rattle.std.specs.Prelude.{option_map}
 use Rattle.arj_lock.proofs.Members.{in_from}
 use Rattle.arj_protocol.specs.Words.{Header, Message, ObjectState, Uid, entry}
 use Rattle.arj_protocol.specs.Ask.{top_of}
@@ -11,13 +11,15 @@ use Rattle.arj_protocol.specs.Naming.{Naming}
 use Rattle.arj_protocol.specs.Node.{Parts, with_coord}
 use Rattle.arj_protocol.specs.Order.{uid_number}
 use Rattle.arj_protocol.specs.Step.{Node, acts, parent_of, parts_in, restart_outs}
-use Rattle.arj_protocol.specs.World.{Asked, format, is_serial_kind, run_all}
+use Rattle.arj_protocol.specs.World.{format, is_serial_kind}
+use Rattle.arj_protocol.specs.World as run
 use Rattle.arj_disk_law.specs.Guards.{only_decides}
 use Rattle.arj_disk_law.specs.Effects.{World}
 use Rattle.arj_disk_law.specs.Names.{Office}
 use Rattle.arj_disk_law.specs.State.{Packed}
 use Rattle.arj_disk_law.proofs.Base.{test_same}
 use Rattle.arj_view_law.specs.Keeps.{Holds, Keeps}
+use Rattle.arj_view_law.specs.Moves.{world_by}
 use Rattle.arj_view_law.specs.Seen.{Seen, at, given, see, up}
 use Rattle.arj_view_law.specs.Walks.{Walks, Up}
 use Rattle.arj_view_law.proofs.Together.{walks_both, walks_to}
@@ -37,7 +39,8 @@ use Rattle.arj_names_view_law.proofs.StepsKept.{actions_keep_both, ticks_keep_bo
 use Rattle.arj_run_law.specs.Worlds.{IsGood}
 use Rattle.arj_run_law.proofs.AllRuns.{all_keep as parts_good}
 use Rattle.arj_call_law.proofs.Given.{kept_both, keeps_given}
-use Rattle.arj_binding_law.specs.Scripts.{most_events}
+use Rattle.arj_binding_law.proofs.Events.{moves_reached}
+use Rattle.arj_call_law.specs.Reached.{IsReached}
 use Rattle.arj_call_law.specs.Runs.{KnowsFew}
 use Rattle.arj_disk_run_law.specs.Entries.{HaveEntries, IsInStep, KnowsEntries}
 use Rattle.arj_disk_run_law.specs.Kinds.{Agrees, AreOfTops, kinds_of}
@@ -50,7 +53,7 @@ use Rattle.arj_disk_run_law.proofs.EntryKeeps.{keeps_entries}
 use Rattle.arj_disk_run_law.proofs.EntryWalks.{mine_of}
 use Rattle.arj_disk_run_law.proofs.Given.{gives_votes}
 use Rattle.arj_disk_run_law.proofs.HeardMessage.{of_top}
-use Rattle.arj_disk_run_law.proofs.Scripts.{part_few, script_holds}
+use Rattle.arj_disk_run_law.proofs.Scripts.{part_few, reached_script}
 use Rattle.arj_disk_run_law.proofs.Kept.{IsKeptInRun, KeepsEach, all_keep}
 
 module _ (P : Kinds → Office → Seen → Type 0) (x : ℕ) (tops : Kinds) where
@@ -124,13 +127,12 @@ with_entries hd x R S P parts kept = kept_both hd R (HaveEntries x) kept (keeps_
 
 -- ---- copies agree
 
--- Both halves of the object's machine are carried through a run beside a relation that is kept: so it is with whatever follows where nodes
--- have their numbers.
-pub runs_beside : (hd : Header) (x : ℕ) (R : Seen → Type 0) (P : Kinds → Office → Seen → Type 0) → Keeps hd R → KeepsPart hd x (λ W M. R M × KnowsScript M) P → (G : Seen → Type 0)
-    → ((M : Seen) → ((k : ℕ) (n : Node) → M.nodes k ≡ Some n → n.number ≡ k) → KnowsFew M → IsKeptInRun (λ N. R N × HaveEntries x N) (IsCarried P x) M → G M) → (es : List Asked) → length es ≤ most_events → Holds hd G (run_all es (format hd))
-runs_beside hd x R P kept parts G gives es short =
-    let r = script_holds hd (IsKeptInRun Known Q) (all_keep hd x Known KnowsScript Q known_everywhere (gives_votes Known) (both_each hd x R KnowsScript P parts)) es short in
-    record { sent = r.sent; stands = r.stands; holds = gives (see r.sent (run_all es (format hd))) (let s = r.stands in s.numbers) r.holds.0 r.holds.1 }
+-- Both halves of the object's machine are carried beside a relation that is kept: so it is with whatever follows where nodes have their numbers.
+pub reached_beside : (hd : Header) (x : ℕ) (R : Seen → Type 0) (P : Kinds → Office → Seen → Type 0) → Keeps hd R → KeepsPart hd x (λ W M. R M × KnowsScript M) P → (G : Seen → Type 0)
+    → ((M : Seen) → ((k : ℕ) (n : Node) → M.nodes k ≡ Some n → n.number ≡ k) → KnowsFew M → IsKeptInRun (λ N. R N × HaveEntries x N) (IsCarried P x) M → G M) → (w : run.World) → IsReached hd w → Holds hd G w
+reached_beside hd x R P kept parts G gives w reached =
+    let r = reached_script hd (IsKeptInRun Known Q) (all_keep hd x Known KnowsScript Q known_everywhere (gives_votes Known) (both_each hd x R KnowsScript P parts)) w reached in
+    record { sent = r.sent; stands = r.stands; holds = gives (see r.sent w) (let s = r.stands in s.numbers) r.holds.0 r.holds.1 }
   where
     Q : Kinds → Seen → Type 0
     Q = IsCarried P x
@@ -145,9 +147,9 @@ runs_beside hd x R P kept parts G gives es short =
 pub kinds_there : (R : Seen → Type 0) (Q : Kinds → Seen → Type 0) (M : Seen) (h : IsKeptInRun R Q M) → Agrees (kinds_of h.0) h.0
 kinds_there R Q M h = let g = h.1 in kinds_agree h.0 (let k = g.0 in k.begun) g.1
 
-agree_beside : (hd : Header) (x : ℕ) (R : Seen → Type 0) (P : Kinds → Office → Seen → Type 0) → Keeps hd R → KeepsPart hd x (λ W M. R M × KnowsScript M) P → (es : List Asked) → length es ≤ most_events → Holds hd (CopiesAgree x) (run_all es (format hd))
-agree_beside hd x R P kept parts = runs_beside hd x R P kept parts (CopiesAgree x)
+agree_beside : (hd : Header) (x : ℕ) (R : Seen → Type 0) (P : Kinds → Office → Seen → Type 0) → Keeps hd R → KeepsPart hd x (λ W M. R M × KnowsScript M) P → (w : run.World) → IsReached hd w → Holds hd (CopiesAgree x) w
+agree_beside hd x R P kept parts = reached_beside hd x R P kept parts (CopiesAgree x)
     (λ M numbers few h. let s = h.1.5 (kinds_of h.0) (kinds_there (λ N. R N × HaveEntries x N) (IsCarried P x) M h) in copies_agree x (kinds_of h.0) s.0.world M s.1.disks)
 
 pub runs_agree : RunsAgree
-runs_agree hd x part parts es short = agree_beside hd x IsGood (λ tops A M. part tops A M ≡ true) (parts_good hd) (part_few hd x IsGood (λ tops A M. part tops A M ≡ true) parts) es short
+runs_agree hd x part parts ms short = agree_beside hd x IsGood (λ tops A M. part tops A M ≡ true) (parts_good hd) (part_few hd x IsGood (λ tops A M. part tops A M ≡ true) parts) (world_by hd ms) (moves_reached hd ms short)

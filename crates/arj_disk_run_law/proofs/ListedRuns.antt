@@ -19,6 +19,7 @@ use Rattle.arj_disk_law.proofs.Base.{some_is, test_same}
 use Rattle.arj_disk_law.proofs.Restarts.{write_clears}
 use Rattle.arj_disk_law.proofs.Results.{clean}
 use Rattle.arj_view_law.specs.Keeps.{Keeps}
+use Rattle.arj_view_law.specs.Moves.{world_by}
 use Rattle.arj_view_law.specs.Seen.{Seen, at, up}
 use Rattle.arj_call_law.specs.Runs.{KnowsFew}
 use Rattle.arj_disk_view_law.specs.Coordinating.{KnowsNode}
@@ -43,7 +44,8 @@ use Rattle.arj_disk_run_law.specs.Part.{IsCarried, KeepsPart}
 use Rattle.arj_disk_run_law.specs.Places.{ArePlaced}
 use Rattle.arj_disk_run_law.specs.Records.{AreRecorded}
 use Rattle.arj_disk_run_law.specs.Runs.{HasState}
-use Rattle.arj_disk_run_law.proofs.BothEach.{kinds_there, runs_beside, with_entries}
+use Rattle.arj_binding_law.proofs.Events.{moves_reached}
+use Rattle.arj_disk_run_law.proofs.BothEach.{kinds_there, reached_beside, with_entries}
 use Rattle.arj_disk_run_law.proofs.Copies.{agrees_on, has_state}
 use Rattle.arj_disk_run_law.proofs.HeardPlaces.{StandsIn}
 use Rattle.arj_disk_run_law.proofs.HeardStarts.{step_idle, step_rooted, step_stands}
@@ -176,12 +178,13 @@ pub loads_there : (x : ℕ) (tops : Kinds) (A : Office) (M : Seen) → IsSeenBeg
 loads_there x tops A M s good few answers = loads_agree x tops A M s.both (λ l. loading_listed x tops s.begun A M s.agree s.good s.recorded s.placed few s.both s.numbers l answers (let z = good.0.1 in z.1 (let f = few in f.0)).1)
 
 pub runs_load : RunsLoad
-runs_load hd x part parts = runs_beside hd x Base (WithLists x P) base_everywhere listed (LoadsAgree x)
+runs_load hd x part parts ms short = reached_beside hd x Base (WithLists x P) base_everywhere listed (LoadsAgree x)
     (λ M numbers few h.
     let g = h.1 in
     let agree = kinds_there (λ N. Base N × HaveEntries x N) (IsCarried (WithLists x P) x) M h in
     let s = g.5 (kinds_of h.0) agree in
     loads_there x (kinds_of h.0) s.0 M (record { begun = h.0; agree = agree; good = g.0; recorded = g.2; placed = g.3; both = s.1; numbers = numbers }) (let k = g.4 in k.0.0) few (let l = s.2 in l.1))
+    (world_by hd ms) (moves_reached hd ms short)
   where
     P : Kinds → Office → Seen → Type 0
     P tops A M = part tops A M ≡ true

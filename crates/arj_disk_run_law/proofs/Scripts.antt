@@ -1,4 +1,4 @@
--- What is kept as long as few labels were given; in the run of every script so few are. And what is kept where more is known.
+-- What is kept as long as few labels were given; in each world that is reached so few are. And what is kept where more is known.
 use Rattle.std.proofs.Common.{◌≡◌, ◌≤◌, ◌+◌, ℕ, suc, List, [], ◌∷◌, Some, arith, length}
 use Rattle.arj_protocol.specs.Words.{Header}
 use Rattle.arj_protocol.specs.Asking.{again_all, begin_action}
@@ -6,19 +6,20 @@ use Rattle.arj_protocol.specs.Effect.{Disk, Do, Effect, Say, Send, worked}
 use Rattle.arj_protocol.specs.Follow.{tick_outs}
 use Rattle.arj_protocol.specs.Node.{Parts, with_coord}
 use Rattle.arj_protocol.specs.Step.{acts, parent_of, parts_in, restart_outs}
-use Rattle.arj_protocol.specs.World.{Asked, format, is_serial_kind, most_labels, run_all}
-use Rattle.arj_disk_law.specs.Effects.{World}
+use Rattle.arj_protocol.specs.World.{Asked, World, format, is_serial_kind, most_labels, run_all}
+use Rattle.arj_disk_law.specs.Effects as machine
 use Rattle.arj_disk_law.specs.Names.{Office}
 use Rattle.arj_view_law.specs.Keeps.{Holds}
 use Rattle.arj_view_law.specs.Seen.{Seen, given, posted, said}
 use Rattle.arj_view_law.specs.Walks.{Up, Walks}
-use Rattle.arj_view_law.proofs.Happens.{runs_hold}
+use Rattle.arj_call_law.specs.Reached.{IsReached}
+use Rattle.arj_call_law.proofs.Reaching.{reached_holds}
 use Rattle.arj_call_law.specs.Runs.{KnowsFew}
 use Rattle.arj_call_law.proofs.Given.{KeepsGiven}
 use Rattle.arj_call_law.proofs.WholeRuns.{WhileFew, few_go}
 use Rattle.arj_binding_law.specs.Scripts.{most_events}
 use Rattle.arj_binding_law.proofs.Doings.{one_more}
-use Rattle.arj_binding_law.proofs.Events.{few_labels, scripts_few}
+use Rattle.arj_binding_law.proofs.Events.{scripts_reached}
 use Rattle.arj_disk_view_law.specs.Sees.{Kinds}
 use Rattle.arj_disk_run_law.specs.Bindings.{HasFewLabels, KnowsScript}
 use Rattle.arj_disk_run_law.specs.Part.{KeepsPart}
@@ -53,19 +54,21 @@ module _ (P : Seen → Type 0) where
       fewer : (a b : ℕ) → b ≡ suc a → b ≤ most_labels → a ≤ most_labels
       fewer a b is le = omega (arith, is, le)
 
--- ---- in the run of a script
+-- ---- in a world that is reached
 
--- what is kept where so much is known holds after the run of each script
+-- what is kept where so much is known holds there
+pub reached_script : (hd : Header) (P : Seen → Type 0) → KeepsGiven hd KnowsScript P → (w : World) → IsReached hd w → Holds hd (λ M. KnowsFew M × P M) w
+reached_script hd P kept w reached =
+    let r = reached_holds hd w reached (WhileFew (While P)) (few_go hd (While P) (while_labels P hd KnowsFew kept)) in
+    let h = r.holds.1 reached.few in
+    record { sent = r.sent; stands = r.stands; holds = ((reached.few, h.0), h.1 reached.labels) }
+
 pub script_holds : (hd : Header) (P : Seen → Type 0) → KeepsGiven hd KnowsScript P → (es : List Asked) → length es ≤ most_events → Holds hd (λ M. KnowsFew M × P M) (run_all es (format hd))
-script_holds hd P kept es short =
-    let r = runs_hold hd (WhileFew (While P)) (few_go hd (While P) (while_labels P hd KnowsFew kept)) es in
-    let few = scripts_few hd es short in
-    let h = r.holds.1 few in
-    record { sent = r.sent; stands = r.stands; holds = ((few, h.0), h.1 (few_labels hd es)) }
+script_holds hd P kept es short = reached_script hd P kept (run_all es (format hd)) (scripts_reached hd es short)
 
 -- ---- where more is known
 
-pub part_more : (hd : Header) (x : ℕ) (R S : World → Seen → Type 0) (P : Kinds → Office → Seen → Type 0) → ((W : World) (M : Seen) → S W M → R W M) → KeepsPart hd x R P → KeepsPart hd x S P
+pub part_more : (hd : Header) (x : ℕ) (R S : machine.World → Seen → Type 0) (P : Kinds → Office → Seen → Type 0) → ((W : machine.World) (M : Seen) → S W M → R W M) → KeepsPart hd x R P → KeepsPart hd x S P
 part_more hd x R S P less parts = record {
   quiet = λ tops e bs M A walk quiet r. parts.quiet tops e bs M A walk quiet (less _ M r);
   stop = λ tops e k d live M A walk r. parts.stop tops e k d live M A walk (less _ _ r);

@@ -10,12 +10,12 @@ use Rattle.arj_protocol.specs.Naming.{Naming, listed_entry}
 use Rattle.arj_protocol.specs.Node.{Parts}
 use Rattle.arj_protocol.specs.Order.{at_number, at_uid, binding_number, has, uid_number}
 use Rattle.arj_protocol.specs.Step.{Node}
-use Rattle.arj_protocol.specs.World.{Asked, format, run_all}
 use Rattle.arj_disk_law.specs.Names.{Office}
 use Rattle.arj_disk_law.specs.NamingLaws.{HoldsWrite}
 use Rattle.arj_disk_law.specs.State.{Packed, State, is_gone, is_idle}
 use Rattle.arj_disk_law.specs.Words as list
 use Rattle.arj_view_law.specs.Keeps.{Holds}
+use Rattle.arj_view_law.specs.Moves.{Move, world_by}
 use Rattle.arj_view_law.specs.Seen.{Seen}
 use Rattle.arj_run_law.specs.Worlds.{IsGood}
 use Rattle.arj_call_law.specs.Runs.{KnowsFew}
@@ -103,7 +103,7 @@ pub record LoadsListed (x : ℕ) (A : Office) (M : Seen) (l : IsLoading x M) : T
 abbrev pub LoadsAgree : ℕ → Seen → Type 0
 LoadsAgree x M = (last : Packed) × AgreesOn x last M × ((l : IsLoading x M) (s : ℕ) (m : Node) → has (l.store ∷ l.rest) s ≡ true → M.nodes s ≡ Some m → holder_of (object x) m.disk.store ≡ None → HasState x last m)
 
--- So it is in the run of every script, with what is kept beside the machine's state of what coordinators have and messages claim.
+-- So it is after all moves, with what is kept beside the machine's state of what coordinators have and messages claim.
 abbrev pub RunsLoad : Type 0
 RunsLoad = (hd : Header) (x : ℕ) (part : Kinds → Office → Seen → Bool) → KeepsPart hd x (λ W M. IsGood M × KnowsFew M) (λ tops A M. part tops A M ≡ true)
-    → (es : List Asked) → length es ≤ most_events → Holds hd (LoadsAgree x) (run_all es (format hd))
+    → (ms : List Move) → length ms ≤ most_events → Holds hd (LoadsAgree x) (world_by hd ms)

@@ -5,9 +5,9 @@ use Rattle.arj_protocol.specs.Effect.{Pair, held_at, holder_of}
 use Rattle.arj_protocol.specs.Order.{at_uid}
 use Rattle.arj_protocol.specs.Step.{Node}
 use Rattle.arj_protocol.specs.Values.{state_entry}
-use Rattle.arj_protocol.specs.World.{Asked, format, run_all}
 use Rattle.arj_disk_law.specs.State.{Below, Packed}
 use Rattle.arj_view_law.specs.Keeps.{Holds}
+use Rattle.arj_view_law.specs.Moves.{Move, world_by}
 use Rattle.arj_view_law.specs.Seen.{Seen}
 use Rattle.arj_disk_view_law.specs.Pairs.{IsOf, packed}
 use Rattle.arj_disk_view_law.specs.Sees.{Kinds}
@@ -47,8 +47,8 @@ pub record AgreesOn (x : ℕ) (last : Packed) (M : Seen) : Type 0 where
 abbrev pub CopiesAgree : ℕ → Seen → Type 0
 CopiesAgree x M = (last : Packed) × AgreesOn x last M
 
--- What is kept beside the machine's state of what coordinators have and messages claim keeps copies in agreement in the run of every
--- script: nodes are good there, and calls are known while few bindings were made.
+-- What is kept beside the machine's state of what coordinators have and messages claim keeps copies in agreement after all moves: nodes are good
+-- there, and calls are known while few bindings were made.
 abbrev pub RunsAgree : Type 0
 RunsAgree = (hd : Header) (x : ℕ) (part : Kinds → Office → Seen → Bool) → KeepsPart hd x (λ W M. IsGood M × KnowsFew M) (λ tops A M. part tops A M ≡ true)
-    → (es : List Asked) → length es ≤ most_events → Holds hd (CopiesAgree x) (run_all es (format hd))
+    → (ms : List Move) → length ms ≤ most_events → Holds hd (CopiesAgree x) (world_by hd ms)

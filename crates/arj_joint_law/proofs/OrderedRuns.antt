@@ -17,6 +17,7 @@ use Rattle.arj_view_law.specs.Keeps.{Holds, Keeps}
 use Rattle.arj_view_law.specs.Seen.{Seen, Post, see}
 use Rattle.arj_view_law.proofs.Happens.{runs_hold}
 use Rattle.arj_binding_law.specs.Scripts.{most_events}
+use Rattle.arj_binding_law.proofs.Events.{scripts_reached}
 use Rattle.arj_call_law.specs.Runs.{KnowsFew}
 use Rattle.arj_disk_run_law.proofs.ListedRuns.{IsSeenBegun}
 use Rattle.arj_disk_view_law.specs.Sees.{Kinds}
@@ -215,7 +216,7 @@ ordered_beside hd x Fits before R P form there kept parts es short fits =
     let ordered = ordered_part hd x (λ M. Marking R M × IsKept M) (IsKnownEarly Fits) (WithTie (WithFirst hd x (WithMarks x P)) Idle) Idle (both_too hd x (Marking R) (IsKnownEarly Fits) (WithFirst hd x (WithMarks x P)) Idle marking first idles) (λ M r. r.1) (knows_spared (λ M. Marking R M × IsKept M) (λ M r. r.0.1.1)) tied (λ tops A M p. (p.1).1) in
     let Q : Kinds → Office → Seen → Type 0 = λ tops A M. WithTie (WithFirst hd x (WithMarks x P)) Idle tops A M × IsOrdered (IdleThere Idle) A.world M in
     let knowing = known_part hd x (λ W M. (Marking R M × IsKept M) × IsKnownEarly Fits W M) Q (λ W M r. (let z = r.0 in z.1)) (λ W M r. (let z = r.1 in z.1)) (λ tops A M p. (let o = p.1 in o.once)) (λ tops A M p. (let z = p.0 in let t = z.1 in t.0)) ordered in
-    let h = journalled_beside hd x Fits before (λ M. Marking R M × IsKept M) (WithKnown x Q) (both_too hd x (Marking R) (IsKnownEarly Fits) (WithFirst hd x (WithMarks x P)) Idle marking first idles) knowing es short fits in
+    let h = journalled_beside hd x Fits before (λ M. Marking R M × IsKept M) (WithKnown x Q) (both_too hd x (Marking R) (IsKnownEarly Fits) (WithFirst hd x (WithMarks x P)) Idle marking first idles) knowing (run_all es (format hd)) (scripts_reached hd es short) fits in
     let b = h.holds in
     let order = (let y = b.3 in let z = y.0 in z.1) in
     let more = (let y = b.3 in let z = y.0 in let t = z.0 in let p = t.0 in p.0) in
