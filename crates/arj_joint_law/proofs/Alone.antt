@@ -54,7 +54,8 @@ use Rattle.arj_serial_law.proofs.Paths.{own_there}
 use Rattle.arj_view_law.specs.Keeps.{is_act}
 use Rattle.arj_view_law.specs.Seen.{AreQuiet, Seen, given, is_quiet_line, posted, said, up}
 use Rattle.arj_view_law.specs.Walks.{Up, Walks}
-use Rattle.arj_view_law.proofs.Happens.{runs_hold}
+use Rattle.arj_view_law.specs.Moves.{world_by}
+use Rattle.arj_call_law.proofs.Reaching.{kept_holds, moves_keep}
 use Rattle.arj_joint_law.specs.Alone.{AreCalledAlone, IsCalledAlone, RunsCallAlone}
 use Rattle.arj_joint_law.proofs.CommitCalls.{NoCall, end_quiet, marks_quiet, no_call}
 use Rattle.arj_serial_law.proofs.Order.{top_plain}
@@ -309,4 +310,4 @@ alone_given hd = record {
 }
 
 pub runs_call_alone : RunsCallAlone
-runs_call_alone hd es = let h = runs_hold hd (λ M. IsKept M × CallsAlone M) (kept_both hd IsKept CallsAlone (lines_keep hd) (alone_given hd)) es in h.holds.1
+runs_call_alone hd ms = let h = kept_holds hd (world_by hd ms) (moves_keep hd ms) (λ M. IsKept M × CallsAlone M) (kept_both hd IsKept CallsAlone (lines_keep hd) (alone_given hd)) in h.holds.1

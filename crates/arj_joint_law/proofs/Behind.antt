@@ -14,8 +14,9 @@ use Rattle.arj_lock.proofs.Members.{In, in_from}
 use Rattle.arj_model.specs.Actions.{Act, acts, committed, is_committed, recovered}
 use Rattle.arj_line_law.specs.Laws.{IsCaused, IsCommittedIn, IsSound}
 use Rattle.arj_line_law.proofs.Tops.{is_sound}
-use Rattle.arj_line_law.proofs.Runs.{run_written}
-use Rattle.arj_protocol.specs.World.{journal}
+use Rattle.arj_line_law.proofs.Runs.{kept_right}
+use Rattle.arj_call_law.proofs.Reaching.{moves_keep}
+use Rattle.arj_view_law.specs.Moves.{journal_by, world_by}
 use Rattle.arj_joint_law.specs.Outcome.{CommitsAreBehind, commits_are_behind, each_behind, is_behind_decision, is_said}
 
 pub both : (a b : Bool) → a ≡ true → b ≡ true → (a && b) ≡ true
@@ -50,4 +51,4 @@ pub right_commits : (lines : List Line) → IsSound lines → commits_are_behind
 right_commits lines s = each_from is_behind_decision lines (λ before line rest e. behind before line.body (s.causes before line rest e)) [] lines refl
 
 pub commits_behind : CommitsAreBehind
-commits_behind hd es = right_commits (journal hd es) (is_sound (journal hd es) (let w = (run_written hd es).1 in w.right))
+commits_behind hd ms = right_commits (journal_by hd ms) (is_sound (journal_by hd ms) (kept_right hd (world_by hd ms) (moves_keep hd ms)))

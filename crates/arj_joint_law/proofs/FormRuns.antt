@@ -18,20 +18,21 @@ use Rattle.arj_protocol.specs.Node.{Parts, with_coord}
 use Rattle.arj_protocol.specs.Order.{has, put_uid}
 use Rattle.arj_protocol.specs.Step.{Node, acts, entries_at, first_disk, first_entry, first_state, parent_of, parts_in, put_states, restart_outs}
 use Rattle.arj_protocol.specs.Values.{value_in}
-use Rattle.arj_protocol.specs.World.{format, is_serial_kind, run_all}
+use Rattle.arj_protocol.specs.World.{Asked, World, format, is_serial_kind, run_all}
 use Rattle.arj_protocol.proofs.Payloads.{entry_back}
 use Rattle.arj_protocol.proofs.RowSteps.{same_number}
 use Rattle.arj_disk_law.proofs.Base.{never}
-use Rattle.arj_view_law.specs.Keeps.{Keeps}
+use Rattle.arj_view_law.specs.Keeps.{Holds, Keeps}
 use Rattle.arj_view_law.specs.Seen.{In, Post, Seen, at, given, posted, said, see}
 use Rattle.arj_view_law.specs.Walks.{Up, Walks}
-use Rattle.arj_view_law.proofs.Happens.{runs_hold}
+use Rattle.arj_call_law.specs.Reached.{Keeping}
+use Rattle.arj_call_law.proofs.Reaching.{kept_holds, scripts_keep}
 use Rattle.arj_disk_view_law.specs.Formats.{IsLine}
 use Rattle.arj_disk_view_law.proofs.FirstSeen.{first_at}
 use Rattle.arj_serial_law.specs.Cleaned.{HaveForm}
 use Rattle.arj_disk_run_law.specs.States.{CoordIsSo, MessageIsSo, Own}
 use Rattle.arj_disk_run_law.proofs.StateCoords.{acts_so, begins_so}
-use Rattle.arj_joint_law.specs.Forms.{AllAreSo, AreSo, DiskIsSo, FormsAreKept, Kind, NodeIsSo, PartsAreSo, RunsHaveForm, kind_of, listed, so_of, stored}
+use Rattle.arj_joint_law.specs.Forms.{AllAreSo, AreSo, DiskIsSo, FormsAreKept, Kind, NodeIsSo, PartsAreSo, kind_of, listed, so_of, stored}
 use Rattle.arj_joint_law.proofs.Firsts.{line_in, one_line}
 use Rattle.arj_joint_law.proofs.FormNodes.{Held, handled_so, keep, put_so, restart_so, says_so, starts_so, stopped_so, tick_so, worked_so}
 
@@ -192,13 +193,16 @@ module _ (hd : Header) (x : ℕ) (form : HeaderInForm hd) where
 pub kept_forms : FormsAreKept
 kept_forms hd x form = forms_kept hd x form
 
-pub runs_have_form : RunsHaveForm
-runs_have_form hd x form es =
-    let h = runs_hold hd (AreSo (kind_of hd x)) (forms_kept hd x form) es in
-    record { sent = h.sent; stands = h.stands; holds = has_form (see h.sent (run_all es (format hd))) h.holds }
+pub kept_have_form : (hd : Header) (x : ℕ) → HeaderInForm hd → (w : World) → Keeping hd w → Holds hd (HaveForm hd x) w
+kept_have_form hd x form w keeping =
+    let h = kept_holds hd w keeping (AreSo (kind_of hd x)) (forms_kept hd x form) in
+    record { sent = h.sent; stands = h.stands; holds = has_form (see h.sent w) h.holds }
   where
     has_form : (M : Seen) → AreSo (kind_of hd x) M → HaveForm hd x M
     has_form M all = record {
       objects = λ n s st here held. let a = (all.0 s n here).0 in ((a.store.held (object x) st held).0).1 refl;
       entries = λ n st here held. let a = (all.0 1 n here).0 in (a.names.held (entry x) st held).0 refl;
     }
+
+pub runs_have_form : (hd : Header) (x : ℕ) → HeaderInForm hd → (es : List Asked) → Holds hd (HaveForm hd x) (run_all es (format hd))
+runs_have_form hd x form es = kept_have_form hd x form (run_all es (format hd)) (scripts_keep hd es)

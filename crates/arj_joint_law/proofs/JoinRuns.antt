@@ -35,7 +35,8 @@ use Rattle.arj_view_law.specs.Keeps.{Keeps, MayGive, label_at}
 use Rattle.arj_view_law.specs.Seen as seen
 use Rattle.arj_view_law.specs.Seen.{AreQuiet, Seen, at, down, given, posted, said as said_lines, see, up}
 use Rattle.arj_view_law.specs.Walks.{Up, Walks, halted}
-use Rattle.arj_view_law.proofs.Happens.{runs_hold}
+use Rattle.arj_view_law.specs.Moves.{world_by}
+use Rattle.arj_call_law.proofs.Reaching.{kept_holds, moves_keep}
 use Rattle.arj_address_law.proofs.BindRuns.{AreBound, binds_keep}
 use Rattle.arj_joint_law.specs.Joins.{HasJoined, IncludesAreNoted, IncludesAreSaid, PlansInclude, RunsSayIncludes}
 use Rattle.arj_joint_law.proofs.Called.{right_behind}
@@ -273,6 +274,6 @@ pub based_keep : (hd : Header) → Keeps hd IsBased
 based_keep hd = kept_both hd IsKept AreBound (lines_keep hd) (keeps_given hd IsKept AreBound (binds_keep hd))
 
 pub runs_say_includes : RunsSayIncludes
-runs_say_includes hd es =
-    let h = runs_hold hd (λ M. IsBased M × IncludesAreSaid M) (kept_both hd IsBased IncludesAreSaid (based_keep hd) (joins_given hd)) es in
+runs_say_includes hd ms =
+    let h = kept_holds hd (world_by hd ms) (moves_keep hd ms) (λ M. IsBased M × IncludesAreSaid M) (kept_both hd IsBased IncludesAreSaid (based_keep hd) (joins_given hd)) in
     record { sent = h.sent; stands = h.stands; holds = h.holds.1 }

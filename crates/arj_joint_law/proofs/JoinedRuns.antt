@@ -1,11 +1,11 @@
--- Both machines of each object at once, in every run.
+-- Both machines of each object at once, in each world that is reached.
+use Rattle.arj_disk_law.specs.Effects as machine
 use Rattle.std.proofs.Common.{List, subst}
 use Rattle.arj_joint_law.specs.Joined.{IsJoinedSo, RunsAreJoined, world_of}
-use Rattle.arj_joint_law.proofs.NextGiven.{one_requests}
 use Rattle.arj_joint_law.specs.Begun.{RunsBeginSo}
-use Rattle.arj_joint_law.specs.Includers.{IncludersTakeTurns, RunsTakeTurns}
 use Rattle.arj_joint_law.specs.Ordered.{RunsAreOrdered}
-use Rattle.arj_disk_run_law.proofs.ListedRuns.{loads_there}
+use Rattle.arj_joint_law.proofs.NextGiven.{one_requests}
+use Rattle.arj_joint_law.specs.Includers.{IncludersTakeTurns, RunsTakeTurns}
 use Rattle.arj_joint_law.proofs.JoinKeeps.{WithTurns, turns_part}
 use Rattle.arj_joint_law.proofs.LightKeeps.{WithLights, lights_part}
 use Rattle.arj_joint_law.proofs.Joining.{HasLocks, WithLocks}
@@ -13,30 +13,39 @@ use Rattle.arj_joint_law.proofs.OrderedRuns.{IsOrderedBeside, lights_split, orde
 use Rattle.arj_disk_run_law.proofs.Copies.{copies_agree}
 use Rattle.arj_disk_run_law.specs.Part.{KeepsPart}
 use Rattle.arj_disk_view_law.specs.Sees.{Kinds}
-use Rattle.arj_disk_law.specs.Effects.{World}
 use Rattle.arj_disk_law.specs.Names.{Office}
 use Rattle.arj_view_law.specs.Seen.{Post, Seen, see}
-use Rattle.arj_model.specs.Last.{first_values}
-use Rattle.arj_protocol.specs.World.{format, run_all}
+use Rattle.arj_model.specs.Last.{first_values, object_line}
+use Rattle.arj_protocol.specs.World.{Asked, World, format, run_all}
+use Rattle.arj_view_law.specs.Moves.{world_by}
+use Rattle.arj_binding_law.specs.Scripts.{most_events}
+use Rattle.arj_binding_law.proofs.Events.{scripts_reached}
+use Rattle.arj_joint_law.specs.FitRuns.{AreEventsInForm}
+use Rattle.arj_joint_law.proofs.FitRuns.{runs_fit, runs_in_form}
 use Rattle.arj_line_law.specs.Book.{new_book}
 use Rattle.arj_line_law.specs.Right.{AreRight}
-use Rattle.arj_line_law.proofs.Runs.{run_written}
+use Rattle.arj_line_law.proofs.Runs.{kept_right}
 use Rattle.arj_serial_law.specs.Seen.{RequestsAreOne}
-use Rattle.arj_joint_law.proofs.Written.{bare, wrote}
 use Rattle.arj_disk_run_law.proofs.Scripts.{part_more}
-use Rattle.std.specs.Prelude.{⊤}
+use Rattle.std.specs.Prelude.{⊤, ◌≤◌, ℕ, true, ◌≡◌, is_some, length}
 use Rattle.arj_lock_law.specs.State.{State}
 use Rattle.arj_lock_run_law.specs.Fixed.{Fixed}
 use Rattle.arj_joint_law.proofs.JoinedParts.{Base, Carried, Early, Whole, base, locked}
 use Rattle.arj_joint_law.specs.Fit.{OpsFit}
-use Rattle.arj_joint_law.proofs.FitRuns.{runs_fit}
 use Rattle.arj_joint_law.proofs.Fits.{fits_before}
+use Rattle.arj_call_law.specs.Reached.{IsReached}
+use Rattle.arj_journal.specs.ScriptForm.{HeaderInForm}
+use Rattle.arj_view_law.specs.Keeps.{Holds}
+use Rattle.arj_protocol.specs.Words.{Header}
+use Rattle.arj_line_law.proofs.Owners.{kept_nodes}
+use Rattle.arj_disk_run_law.proofs.ListedRuns.{loads_there}
+use Rattle.arj_joint_law.proofs.Written.{bare, wrote}
 
 -- ---- the law
 
-pub runs_are_joined : RunsAreJoined
-runs_are_joined hd x form there es fit short =
-    let h = ordered_beside hd x (OpsFit x) (fits_before x) (Base hd x) Joined form there (base hd x form there (λ M. ⊤) Nothing (λ M N l f S T run past. tt) (λ f S. tt)) part es short (runs_fit hd x es fit) in
+pub reached_joined : (hd : Header) (x : ℕ) → HeaderInForm hd → is_some (object_line hd x) ≡ true → (w : World) → IsReached hd w → OpsFit x w.lines → Holds hd (IsJoinedSo hd x) w
+reached_joined hd x form there w reached fit =
+    let h = ordered_beside hd x (OpsFit x) (fits_before x) (Base hd x) Joined form there (base hd x form there (λ M. ⊤) Nothing (λ M N l f S T run past. tt) (λ f S. tt)) part w reached fit in
     record { sent = h.sent; stands = h.stands; holds = joined h.sent h.holds }
   where
     -- of the lock machine's state nothing more
@@ -54,40 +63,47 @@ runs_are_joined hd x form there es fit short =
     part = lights_part hd x (Early hd x) (WithTurns x (WithLocks (first_values hd) x (Whole x) Nothing (Carried hd x))) (λ W M q. q.0.0.0.0.1) (λ tops A M p. p.0.0.0.0.0.0.0.0) (λ tops A M p. p.1)
         (turns_part hd x (Early hd x) (WithLocks (first_values hd) x (Whole x) Nothing (Carried hd x)) (λ W M q. q.0.0.0.0.1) (λ tops A M p. p.0.0.0.0.0.0.0) (λ tops A M p. p.0.0.0.0.0.0.1) paired)
 
-    joined : (sent : List Post) → IsOrderedBeside (Base hd x) Joined hd x (see sent (run_all es (format hd))) → IsJoinedSo hd x (see sent (run_all es (format hd)))
+    joined : (sent : List Post) → IsOrderedBeside (Base hd x) Joined hd x (see sent w) → IsJoinedSo hd x (see sent w)
     joined sent (o, tops, A, same, p, few, seen, kept) = record {
+      loads = loads_there x tops A M seen (let z = kept.0.0 in z.0.0) few (let z = p.0.0.0 in z.1);
       ordered = o;
-      includers = subst (λ (W : World). IncludersTakeTurns M.lines W.disk.tops) same (let k = p.0.1 in k.turns);
-      lights = lights_split hd x es sent o A same p.1;
+      includers = subst (λ (W : machine.World). IncludersTakeTurns M.lines W.disk.tops) same (let k = p.0.1 in k.turns);
+      lights = lights_split hd x w (kept_nodes hd w reached.keeping) sent o A same p.1;
       begun = locks.0;
       alike = locks.1;
       seen = (λ f a. let z = locks.3 f a in (z.0, z.1, z.2, z.3, z.4, z.6));
       requests = requests;
-      wrote = (let b = o.begun in let j = b.journalled in wrote hd es x right sent j.tops j.machine j.sees locks.0 locks.1 (λ f a. let z = locks.3 f a in (z.0, z.1, z.2, z.4)) requests);
+      wrote = (let b = o.begun in let j = b.journalled in wrote hd w x right sent j.tops j.machine j.sees locks.0 locks.1 (λ f a. let z = locks.3 f a in (z.0, z.1, z.2, z.4)) requests);
       agree = (let b = o.begun in let j = b.journalled in copies_agree x j.tops j.machine M j.sees);
-      loads = loads_there x tops A M seen (let z = kept.0.0 in z.0.0) few (let z = p.0.0.0 in z.1);
-      bare = (let b = o.begun in let j = b.journalled in bare hd es x right sent j.tops j.machine j.sees locks.0 locks.1 (λ f a. let z = locks.3 f a in (z.0, z.1, z.2, z.4)) requests);
+      bare = (let b = o.begun in let j = b.journalled in bare hd w x right sent j.tops j.machine j.sees locks.0 locks.1 (λ f a. let z = locks.3 f a in (z.0, z.1, z.2, z.4)) requests);
     }
       where
         M : Seen
-        M = see sent (run_all es (format hd))
+        M = see sent w
 
         locks : HasLocks (first_values hd) x (Whole x) Nothing (world_of o) M
         locks = subst (λ W. HasLocks (first_values hd) x (Whole x) Nothing W M) same p.0.0.1
 
-        right : AreRight new_book (let w = run_all es (format hd) in w.lines)
-        right = let r = run_written hd es in let z = r.1 in z.right
+        right : AreRight new_book w.lines
+        right = kept_right hd w reached.keeping
 
         requests : RequestsAreOne M
         requests = one_requests x locks.0 M few locks.2.0
 
+pub moves_are_joined : RunsAreJoined
+moves_are_joined hd ms f x there = let r = runs_in_form hd ms f in reached_joined hd x f.header there (world_by hd ms) r.0 (r.1 x)
+
+-- so it is after a script
+pub runs_are_joined : (hd : Header) (x : ℕ) → HeaderInForm hd → is_some (object_line hd x) ≡ true → (es : List Asked) → AreEventsInForm es → length es ≤ most_events → Holds hd (IsJoinedSo hd x) (run_all es (format hd))
+runs_are_joined hd x form there es fit short = reached_joined hd x form there (run_all es (format hd)) (scripts_reached hd es short) (runs_fit hd x es fit)
+
 -- ---- what follows of the disk machine alone
 
 pub runs_begin_so : RunsBeginSo
-runs_begin_so hd x form there es fit short = let h = runs_are_joined hd x form there es fit short in record { sent = h.sent; stands = h.stands; holds = (let j = h.holds in let o = j.ordered in o.begun) }
+runs_begin_so hd ms f x there = let h = moves_are_joined hd ms f x there in record { sent = h.sent; stands = h.stands; holds = (let j = h.holds in let o = j.ordered in o.begun) }
 
 pub runs_are_ordered : RunsAreOrdered
-runs_are_ordered hd x form there es fit short = let h = runs_are_joined hd x form there es fit short in record { sent = h.sent; stands = h.stands; holds = (let j = h.holds in j.ordered) }
+runs_are_ordered hd ms f x there = let h = moves_are_joined hd ms f x there in record { sent = h.sent; stands = h.stands; holds = (let j = h.holds in j.ordered) }
 
 pub runs_take_turns : RunsTakeTurns
-runs_take_turns hd x form there es fit short = let h = runs_are_joined hd x form there es fit short in record { sent = h.sent; stands = h.stands; holds = (let j = h.holds in record { ordered = j.ordered; includers = j.includers; lights = j.lights }) }
+runs_take_turns hd ms f x there = let h = moves_are_joined hd ms f x there in record { sent = h.sent; stands = h.stands; holds = (let j = h.holds in record { ordered = j.ordered; includers = j.includers; lights = j.lights }) }

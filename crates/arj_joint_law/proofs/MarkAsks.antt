@@ -30,7 +30,8 @@ use Rattle.arj_run_law.proofs.Walked.{same_number}
 use Rattle.arj_view_law.specs.Seen as seen
 use Rattle.arj_view_law.specs.Seen.{AreQuiet, Post, Seen, given, posted, said as said_lines, up}
 use Rattle.arj_view_law.specs.Walks.{Up, Walks, halted}
-use Rattle.arj_view_law.proofs.Happens.{runs_hold}
+use Rattle.arj_view_law.specs.Moves.{world_by}
+use Rattle.arj_call_law.proofs.Reaching.{kept_holds, moves_keep}
 use Rattle.arj_joint_law.specs.Marked.{MarksAreAsked, MarksAreSaid, RunsAskMarks, WasAsked, excludes, was_marked}
 use Rattle.arj_joint_law.proofs.MarkMoves.{Confirms, IsMarking, NoMark, apart_none, said_in, unmarked_said, or_more}
 use Rattle.arj_joint_law.proofs.MarkRuns.{IsNamed, act_moved, marked_more, marks_given, message_moved, named_at, same_marked}
@@ -148,6 +149,6 @@ asks_given hd = record {
 }
 
 pub runs_ask_marks : RunsAskMarks
-runs_ask_marks hd es =
-    let h = runs_hold hd (λ M. (IsKept M × MarksAreSaid M) × MarksAreAsked M) (kept_both hd (λ M. IsKept M × MarksAreSaid M) MarksAreAsked (kept_both hd IsKept MarksAreSaid (lines_keep hd) (marks_given hd)) (asks_given hd)) es in
+runs_ask_marks hd ms =
+    let h = kept_holds hd (world_by hd ms) (moves_keep hd ms) (λ M. (IsKept M × MarksAreSaid M) × MarksAreAsked M) (kept_both hd (λ M. IsKept M × MarksAreSaid M) MarksAreAsked (kept_both hd IsKept MarksAreSaid (lines_keep hd) (marks_given hd)) (asks_given hd)) in
     record { sent = h.sent; stands = h.stands; holds = h.holds.1 }

@@ -33,7 +33,8 @@ use Rattle.arj_run_law.proofs.Walked.{other_number, same_number}
 use Rattle.arj_view_law.specs.Keeps.{is_act}
 use Rattle.arj_view_law.specs.Seen.{AreQuiet, Seen, at, given, is_quiet_line, posted, said as said_lines, see, up}
 use Rattle.arj_view_law.specs.Walks.{Up, Walks, halted}
-use Rattle.arj_view_law.proofs.Happens.{runs_hold}
+use Rattle.arj_view_law.specs.Moves.{world_by}
+use Rattle.arj_call_law.proofs.Reaching.{kept_holds, moves_keep}
 use Rattle.arj_joint_law.specs.Marked.{MarksAreSaid, RunsSayMarks, SaysMarks, excludes, was_marked}
 use Rattle.arj_joint_law.proofs.MarkStates.{All, again_same, begins_all, fits_same, new_all, or_false}
 use Rattle.arj_joint_law.proofs.MarkMoves.{Distinct, IsMarking, Moves, NoMark, acts_move, after, apart_none, message_moves, plain_moves, said_in, unmarked, unmarked_said, or_more}
@@ -252,6 +253,6 @@ marks_given hd = record {
             subst (λ (z : Parts). All (was_marked []) z.coord) same (new_all (was_marked []) a.0 1 (let c = first_disk hd a.0 in c.intents)) u q found
 
 pub runs_say_marks : RunsSayMarks
-runs_say_marks hd es =
-    let h = runs_hold hd (λ M. IsKept M × MarksAreSaid M) (kept_both hd IsKept MarksAreSaid (lines_keep hd) (marks_given hd)) es in
+runs_say_marks hd ms =
+    let h = kept_holds hd (world_by hd ms) (moves_keep hd ms) (λ M. IsKept M × MarksAreSaid M) (kept_both hd IsKept MarksAreSaid (lines_keep hd) (marks_given hd)) in
     record { sent = h.sent; stands = h.stands; holds = h.holds.1 }

@@ -1,25 +1,20 @@
--- The order in which an object's machine decides tops, in every run.
-use Rattle.std.proofs.Common.{◌≡◌, ◌⊎◌, ℕ, List, [], ◌∷◌, true, ◌∙◌, ap, subst, inl, inr, is_some, length, not, sym, ◌&&◌, ◌||◌, Bool, false, filter, None, Some}
-use Rattle.std.specs.Prelude.{◌≤◌, Contains}
+-- The order in which an object's machine decides tops, in each world that is reached.
+use Rattle.arj_disk_law.specs.Effects as machine
+use Rattle.arj_disk_law.specs.Words as disk_list
+use Rattle.std.proofs.Common.{◌≡◌, ◌⊎◌, ℕ, List, [], ◌∷◌, true, ◌∙◌, ap, subst, inl, inr, is_some, not, sym, ◌&&◌, ◌||◌, Bool, false, filter, None, Some}
+use Rattle.std.specs.Prelude.{Contains}
 use Rattle.arj_journal.specs.ScriptForm.{HeaderInForm}
 use Rattle.arj_lock.proofs.Members.{In, in_from, in_to}
 use Rattle.arj_model.specs.Actions.{Act, acts as acts_of, path, uids}
 use Rattle.arj_model.specs.Last.{increasing, is_among, joins_of, leaves_of, object_line}
 use Rattle.arj_protocol.specs.Words.{Header, Line, Uid, first_uid}
-use Rattle.arj_protocol.specs.World.{Asked, format, run_all}
-use Rattle.arj_disk_law.specs.Effects as machine
+use Rattle.arj_protocol.specs.World.{World}
 use Rattle.arj_disk_law.specs.Names.{Office}
 use Rattle.arj_disk_law.specs.State.{Done, Plan, decided, decided_in, target}
-use Rattle.arj_disk_law.specs.Words as disk_list
 use Rattle.arj_disk_law.proofs.Base.{never, or_right}
 use Rattle.arj_disk_law.proofs.History.{in_decided}
 use Rattle.arj_view_law.specs.Keeps.{Holds, Keeps}
 use Rattle.arj_view_law.specs.Seen.{Seen, Post, see}
-use Rattle.arj_view_law.proofs.Happens.{runs_hold}
-use Rattle.arj_binding_law.specs.Scripts.{most_events}
-use Rattle.arj_binding_law.proofs.Events.{scripts_reached}
-use Rattle.arj_call_law.specs.Runs.{KnowsFew}
-use Rattle.arj_disk_run_law.proofs.ListedRuns.{IsSeenBegun}
 use Rattle.arj_disk_view_law.specs.Sees.{Kinds}
 use Rattle.arj_disk_run_law.specs.Part.{KeepsPart}
 use Rattle.arj_line_law.specs.Book.{book, is_decided, is_top, new_book}
@@ -28,7 +23,7 @@ use Rattle.arj_line_law.specs.Knows.{IsKept}
 use Rattle.arj_line_law.specs.Laws.{IsSound}
 use Rattle.arj_line_law.specs.Right.{AreRight}
 use Rattle.arj_line_law.proofs.Nothing.{idle_has_nothing}
-use Rattle.arj_line_law.proofs.Runs.{lines_keep}
+use Rattle.arj_line_law.proofs.Runs.{kept_right}
 use Rattle.arj_line_law.proofs.Tops.{is_sound}
 use Rattle.arj_disk_line_law.specs.Said.{IsDoneBy, IsKnownEarly, IsPlain, WasBefore, WithTie}
 use Rattle.arj_disk_line_law.proofs.IdleKnown.{KnowsIdle}
@@ -49,7 +44,6 @@ use Rattle.arj_lock_fact_law.specs.Parted.{KnowsParted}
 use Rattle.arj_lock_fact_law.proofs.Acts.{kept_of}
 use Rattle.arj_lock_fact_law.proofs.PartWalks.{parted_keep}
 use Rattle.arj_protocol.specs.Order.{uid_number}
-use Rattle.arj_line_law.proofs.Owners.{have_nodes}
 use Rattle.arj_joint_law.proofs.JoinLists.{filtered_same, has_is}
 use Rattle.arj_joint_law.proofs.JoinModel.{joined}
 use Rattle.arj_joint_law.proofs.KnowKeeps.{WithKnown, known_part}
@@ -65,6 +59,11 @@ use Rattle.arj_joint_law.proofs.MarkAsks.{asks_given}
 use Rattle.arj_joint_law.proofs.MarkRuns.{marks_given}
 use Rattle.arj_joint_law.proofs.MarkTies.{WithMarks, marks_part}
 use Rattle.arj_joint_law.proofs.Sparing.{ArePartedNow, IsIdleSo, knows_spared}
+use Rattle.arj_call_law.specs.Reached.{IsReached}
+use Rattle.arj_call_law.specs.Runs.{KnowsFew}
+use Rattle.arj_disk_run_law.proofs.ListedRuns.{IsSeenBegun}
+use Rattle.arj_line_law.proofs.Owners.{kept_nodes}
+use Rattle.arj_line_law.specs.Whose.{HaveNodes}
 
 abbrev Idle : List Line → Uid → Type 0
 Idle ls u = IsIdleSo ls u
@@ -106,12 +105,12 @@ abbrev pub IsOrderedBeside : (Seen → Type 0) → (Kinds → Office → Seen �
 IsOrderedBeside R P hd x M = (o : IsOrderedSo hd x M) × (tops : Kinds) × (A : Office) × (A.world ≡ world_of o) × P tops A M × KnowsFew M × IsSeenBegun x tops A M × R M
 
 -- what decided tops excluded and included, in the words of the model
-module _ (hd : Header) (x : ℕ) (es : List Asked) (sent : List Post) (W : machine.World) (right : AreRight new_book (run_all es (format hd)).lines) (whole : machine.Whole W) (marks : AreMarkedSo x W (see sent (run_all es (format hd)))) where
+module _ (hd : Header) (x : ℕ) (w : World) (nodes : HaveNodes w) (sent : List Post) (W : machine.World) (right : AreRight new_book w.lines) (whole : machine.Whole W) (marks : AreMarkedSo x W (see sent w)) where
   abbrev lines : List Line
-  lines = (run_all es (format hd)).lines
+  lines = w.lines
 
   -- an action whose marks are known, by the machine and by the journal
-  module _ (a : Act) (there : Contains (acts_of lines) a) (m : IsMarkedSo x W (see sent (run_all es (format hd))) a.uid) where
+  module _ (a : Act) (there : Contains (acts_of lines) a) (m : IsMarkedSo x W (see sent w) a.uid) where
     its_act : m.act ≡ a
     its_act = one_act (acts_of lines) (let z : IsSound lines = is_sound lines right in z.distinct) m.act a (subst (In m.act) (its_acts lines right) (named_in (book lines).acts (let b = m.act in b.label) m.act m.named)) (in_from a (acts_of lines) there) m.uid
 
@@ -123,8 +122,8 @@ module _ (hd : Header) (x : ℕ) (es : List Asked) (sent : List Post) (W : machi
 
   -- one of them
   module _ (d : Done) (a : Act) (i : disk_list.In d W.disk.tops) (there : Contains (acts_of lines) a) (number : uid_number a.uid ≡ d.top) where
-    marked : IsMarkedSo x W (see sent (run_all es (format hd))) a.uid
-    marked = let node = have_nodes hd es a there in marks.decisions a.uid node.node node.there (ap (decided_in W.disk.tops) number ∙ in_decided W.disk.tops d i)
+    marked : IsMarkedSo x W (see sent w) a.uid
+    marked = let node = nodes a there in marks.decisions a.uid node.node node.there (ap (decided_in W.disk.tops) number ∙ in_decided W.disk.tops d i)
 
     its_plan : d.plan ≡ W.disk.plan (uid_number a.uid)
     its_plan = (let c = whole.core in let j = c.journal in j.plan d i) ∙ ap W.disk.plan (sym number)
@@ -185,15 +184,15 @@ module _ (hd : Header) (x : ℕ) (es : List Asked) (sent : List Post) (W : machi
   counted_all d a i there number counts plain = counted_here d a i there number counts plain
 
 -- as nodes of actions are there, so it is in the words of the journal
-all_know : (hd : Header) (es : List Asked) (sent : List Post) (ds : List Done) → ((e : Done) → disk_list.In e ds → (a : Act) × Contains (acts_of (run_all es (format hd)).lines) a × (uid_number a.uid ≡ e.top)) → AllKnow (see sent (run_all es (format hd))) ds
-    → IncludersKnow (run_all es (format hd)).lines ds
-all_know hd es sent [] whose know = tt
-all_know hd es sent (d ∷ ds) whose know = (
+all_know : (hd : Header) (w : World) → HaveNodes w → (sent : List Post) (ds : List Done) → ((e : Done) → disk_list.In e ds → (a : Act) × Contains (acts_of w.lines) a × (uid_number a.uid ≡ e.top)) → AllKnow (see sent w) ds
+    → IncludersKnow w.lines ds
+all_know hd w nodes sent [] whose know = tt
+all_know hd w nodes sent (d ∷ ds) whose know = (
   λ e i t u dc ec wrote none te ud.
       let a = whose e (inr i) in
-      let n = have_nodes hd es a.0 a.1 in
-      know.0 e i t u n.node (subst (λ (y : Uid). (see sent (run_all es (format hd))).nodes y.node ≡ Some n.node) (number_tells (let b = a.0 in b.uid) t (a.2 ∙ sym te)) n.there) dc ec wrote none te ud,
-  all_know hd es sent ds (λ e i. whose e (inr i)) know.1,
+      let n = nodes a.0 a.1 in
+      know.0 e i t u n.node (subst (λ (y : Uid). (see sent w).nodes y.node ≡ Some n.node) (number_tells (let b = a.0 in b.uid) t (a.2 ∙ sym te)) n.there) dc ec wrote none te ud,
+  all_know hd w nodes sent ds (λ e i. whose e (inr i)) know.1,
 )
 
 -- what commits under way include is known beside the journal
@@ -208,19 +207,20 @@ Saying M = Including M × MarksAreSaid M
 abbrev Marking : (Seen → Type 0) → Seen → Type 0
 Marking R M = R M × (Saying M × (MarksAreAsked M × ArePartedNow M))
 
-pub ordered_beside : (hd : Header) (x : ℕ) (Fits : List Line → Type 0) → WasBefore Fits → (R : Seen → Type 0) (P : Kinds → Office → Seen → Type 0) → HeaderInForm hd → is_some (object_line hd x) ≡ true → Keeps hd R → KeepsPart hd x (λ W M. R M × IsKnownEarly Fits W M) P → (es : List Asked) → length es ≤ most_events → Fits (run_all es (format hd)).lines → Holds hd (IsOrderedBeside R P hd x) (run_all es (format hd))
-ordered_beside hd x Fits before R P form there kept parts es short fits =
+pub ordered_beside : (hd : Header) (x : ℕ) (Fits : List Line → Type 0) → WasBefore Fits → (R : Seen → Type 0) (P : Kinds → Office → Seen → Type 0) → HeaderInForm hd → is_some (object_line hd x) ≡ true → Keeps hd R → KeepsPart hd x (λ W M. R M × IsKnownEarly Fits W M) P → (w : World) → IsReached hd w → Fits w.lines → Holds hd (IsOrderedBeside R P hd x) w
+ordered_beside hd x Fits before R P form there kept parts w reached fits =
     let first : KeepsPart hd x (λ W M. Marking R M × IsKnownEarly Fits W M) (WithFirst hd x (WithMarks x P)) = first_part hd x (λ W M. Marking R M × IsKnownEarly Fits W M) (WithMarks x P) marks (first_begins hd x form there) in
     let idles : KnowsIdle (Marking R) Idle = knows_spared (Marking R) (λ M r. r.1.1) in
     let tied = tied_part hd x (Marking R) (IsKnownEarly Fits) (WithFirst hd x (WithMarks x P)) Idle marking first idles in
     let ordered = ordered_part hd x (λ M. Marking R M × IsKept M) (IsKnownEarly Fits) (WithTie (WithFirst hd x (WithMarks x P)) Idle) Idle (both_too hd x (Marking R) (IsKnownEarly Fits) (WithFirst hd x (WithMarks x P)) Idle marking first idles) (λ M r. r.1) (knows_spared (λ M. Marking R M × IsKept M) (λ M r. r.0.1.1)) tied (λ tops A M p. (p.1).1) in
     let Q : Kinds → Office → Seen → Type 0 = λ tops A M. WithTie (WithFirst hd x (WithMarks x P)) Idle tops A M × IsOrdered (IdleThere Idle) A.world M in
     let knowing = known_part hd x (λ W M. (Marking R M × IsKept M) × IsKnownEarly Fits W M) Q (λ W M r. (let z = r.0 in z.1)) (λ W M r. (let z = r.1 in z.1)) (λ tops A M p. (let o = p.1 in o.once)) (λ tops A M p. (let z = p.0 in let t = z.1 in t.0)) ordered in
-    let h = journalled_beside hd x Fits before (λ M. Marking R M × IsKept M) (WithKnown x Q) (both_too hd x (Marking R) (IsKnownEarly Fits) (WithFirst hd x (WithMarks x P)) Idle marking first idles) knowing (run_all es (format hd)) (scripts_reached hd es short) fits in
+    let h = journalled_beside hd x Fits before (λ M. Marking R M × IsKept M) (WithKnown x Q) (both_too hd x (Marking R) (IsKnownEarly Fits) (WithFirst hd x (WithMarks x P)) Idle marking first idles) knowing w reached fits in
     let b = h.holds in
     let order = (let y = b.3 in let z = y.0 in z.1) in
     let more = (let y = b.3 in let z = y.0 in let t = z.0 in let p = t.0 in p.0) in
-    let right = (let r = runs_hold hd IsKept (lines_keep hd) es in let k = r.holds in let w = k.1 in w.right) in
+    let nodes = kept_nodes hd w reached.keeping in
+    let right = kept_right hd w reached.keeping in
     record {
       sent = h.sent;
       stands = h.stands;
@@ -228,18 +228,18 @@ ordered_beside hd x Fits before R P form there kept parts es short fits =
         record {
           begun = record { journalled = b.0; begins = subst (λ (W : machine.World). BeginsSo hd x W.disk) b.2 (let y = b.3 in let z = y.0 in let t = z.0 in let p = t.0 in p.1) };
           once = subst (λ (W : machine.World). AreOnce W.disk.tops) b.2 order.once;
-          called = subst (λ (W : machine.World). AreCalled (run_all es (format hd)).lines W.disk.tops) b.2 order.called;
-          turns = subst (λ (W : machine.World). AreTurnsOf (run_all es (format hd)).lines W.disk.tops) b.2 (turns_of Idle (λ ls u i. i.0) (run_all es (format hd)).lines right (let A = b.1 in A.world.disk.tops) order.turns);
-          roots = (let j = b.0 in roots_all hd x es h.sent j.machine right (let s = j.sees in s.whole) (subst (λ (W : machine.World). AreMarkedSo x W (see h.sent (run_all es (format hd)))) b.2 more.1));
-          leaves = (let j = b.0 in leaves_all hd x es h.sent j.machine right (let s = j.sees in s.whole) (subst (λ (W : machine.World). AreMarkedSo x W (see h.sent (run_all es (format hd)))) b.2 more.1));
-          joins = (let j = b.0 in joins_all hd x es h.sent j.machine right (let s = j.sees in s.whole) (subst (λ (W : machine.World). AreMarkedSo x W (see h.sent (run_all es (format hd)))) b.2 more.1));
-          counted = (let j = b.0 in counted_all hd x es h.sent j.machine right (let s = j.sees in s.whole) (subst (λ (W : machine.World). AreMarkedSo x W (see h.sent (run_all es (format hd)))) b.2 more.1));
-          included = (let j = b.0 in included_all hd x es h.sent j.machine right (let s = j.sees in s.whole) (subst (λ (W : machine.World). AreMarkedSo x W (see h.sent (run_all es (format hd)))) b.2 more.1));
+          called = subst (λ (W : machine.World). AreCalled w.lines W.disk.tops) b.2 order.called;
+          turns = subst (λ (W : machine.World). AreTurnsOf w.lines W.disk.tops) b.2 (turns_of Idle (λ ls u i. i.0) w.lines right (let A = b.1 in A.world.disk.tops) order.turns);
+          roots = (let j = b.0 in roots_all hd x w nodes h.sent j.machine right (let s = j.sees in s.whole) (subst (λ (W : machine.World). AreMarkedSo x W (see h.sent w)) b.2 more.1));
+          leaves = (let j = b.0 in leaves_all hd x w nodes h.sent j.machine right (let s = j.sees in s.whole) (subst (λ (W : machine.World). AreMarkedSo x W (see h.sent w)) b.2 more.1));
+          joins = (let j = b.0 in joins_all hd x w nodes h.sent j.machine right (let s = j.sees in s.whole) (subst (λ (W : machine.World). AreMarkedSo x W (see h.sent w)) b.2 more.1));
+          counted = (let j = b.0 in counted_all hd x w nodes h.sent j.machine right (let s = j.sees in s.whole) (subst (λ (W : machine.World). AreMarkedSo x W (see h.sent w)) b.2 more.1));
+          included = (let j = b.0 in included_all hd x w nodes h.sent j.machine right (let s = j.sees in s.whole) (subst (λ (W : machine.World). AreMarkedSo x W (see h.sent w)) b.2 more.1));
           still = subst (λ (W : machine.World). AreStill W.disk.tops) b.2 (let q = more.1 in q.still);
-          spared = subst (λ (W : machine.World). AreSpared (run_all es (format hd)).lines x W.disk) b.2 (spared_of x (run_all es (format hd)).lines right (let A = b.1 in A.world) (let y = b.3 in let z = y.0 in let t = z.0 in let tie = t.1 in tie.1));
+          spared = subst (λ (W : machine.World). AreSpared w.lines x W.disk) b.2 (spared_of x w.lines right (let A = b.1 in A.world) (let y = b.3 in let z = y.0 in let t = z.0 in let tie = t.1 in tie.1));
           dim = subst (λ (W : machine.World). AreDim W.disk) b.2 (let q = more.1 in q.dim);
-          untouched = (let j = b.0 in untouched_all hd x es h.sent j.machine right (let s = j.sees in s.whole) (subst (λ (W : machine.World). AreMarkedSo x W (see h.sent (run_all es (format hd)))) b.2 more.1));
-          know = (let j = b.0 in all_know hd es h.sent (let W = j.machine in W.disk.tops) (λ e i. j.whose e.top (in_decided (let W = j.machine in W.disk.tops) e i)) (subst (λ (W : machine.World). AllKnow (see h.sent (run_all es (format hd))) W.disk.tops) b.2 (let y = b.3 in let k = y.1 in k.know)));
+          untouched = (let j = b.0 in untouched_all hd x w nodes h.sent j.machine right (let s = j.sees in s.whole) (subst (λ (W : machine.World). AreMarkedSo x W (see h.sent w)) b.2 more.1));
+          know = (let j = b.0 in all_know hd w nodes h.sent (let W = j.machine in W.disk.tops) (λ e i. j.whose e.top (in_decided (let W = j.machine in W.disk.tops) e i)) (subst (λ (W : machine.World). AllKnow (see h.sent w) W.disk.tops) b.2 (let y = b.3 in let k = y.1 in k.know)));
         },
         (let j = b.0 in j.tops),
         b.1,
@@ -267,8 +267,8 @@ ordered_beside hd x Fits before R P form there kept parts es short fits =
 -- ---- where one includes a store
 
 -- who doesn't count, by what is kept of those that naming confirmed so
-pub lights_split : (hd : Header) (x : ℕ) (es : List Asked) (sent : List Post) (o : IsOrderedSo hd x (see sent (run_all es (format hd)))) (A : Office) → A.world ≡ world_of o → KeepLights x A (see sent (run_all es (format hd))) → LightsAreSplit (run_all es (format hd)).lines (let W = world_of o in W.disk)
-lights_split hd x es sent o A same lights = subst (λ (W : machine.World). LightsAreSplit (run_all es (format hd)).lines W.disk) same each
+pub lights_split : (hd : Header) (x : ℕ) (w : World) (nodes : HaveNodes w) (sent : List Post) (o : IsOrderedSo hd x (see sent w)) (A : Office) → A.world ≡ world_of o → KeepLights x A (see sent w) → LightsAreSplit w.lines (let W = world_of o in W.disk)
+lights_split hd x w nodes sent o A same lights = subst (λ (W : machine.World). LightsAreSplit w.lines W.disk) same each
   where
     dim : AreDim A.world.disk
     dim = subst (λ (W : machine.World). AreDim W.disk) (sym same) o.dim
@@ -276,16 +276,16 @@ lights_split hd x es sent o A same lights = subst (λ (W : machine.World). Light
     whole : machine.Whole A.world
     whole = subst machine.Whole (sym same) (let b = o.begun in let j = b.journalled in let s = j.sees in s.whole)
 
-    each : LightsAreSplit (run_all es (format hd)).lines A.world.disk
-    each d a i off there number s on = subst (λ (p : Plan). IsSplit A.world.disk.first_entry (run_all es (format hd)).lines a.uid p.joins A.world.disk.tops) plan (lights.splits a.uid passed)
+    each : LightsAreSplit w.lines A.world.disk
+    each d a i off there number s on = subst (λ (p : Plan). IsSplit A.world.disk.first_entry w.lines a.uid p.joins A.world.disk.tops) plan (lights.splits a.uid passed)
       where
         plan : A.world.disk.plan (uid_number a.uid) ≡ d.plan
         plan = ap A.world.disk.plan number ∙ sym (let c = whole.core in let j = c.journal in j.plan d i)
 
-        passed : IsPassed A (see sent (run_all es (format hd))) a.uid
+        passed : IsPassed A (see sent w) a.uid
         passed = record {
-          node = (let n = have_nodes hd es a there in n.node);
-          there = (let n = have_nodes hd es a there in n.there);
+          node = (let n = nodes a there in n.node);
+          there = (let n = nodes a there in n.there);
           light = ap A.world.disk.light number ∙ dim d i off;
           store = s;
           joins = ap (λ (p : Plan). disk_list.has s p.joins) plan ∙ on;

@@ -1,4 +1,6 @@
 -- Decided tops wrote what their plans have, in the words of the journal.
+use Rattle.arj_disk_law.specs.Effects as machine
+use Rattle.arj_disk_law.specs.Words as disk
 use Rattle.std.proofs.Common.{Contains, ◌≡◌, ◌==◌, ◌||◌, ℕ, Bool, true, false, List, [], ◌∷◌, Option, Some, None, refl, sym, ◌∙◌, ap, subst, inl, inr, arith, eq-eqb}
 use Rattle.arj_lock.proofs.Members.{In, in_from}
 use Rattle.arj_model.specs.Actions.{acts}
@@ -7,11 +9,9 @@ use Rattle.arj_model.specs.Last.{first_values, uid_of_id}
 use Rattle.arj_model.specs.Serial.{Values}
 use Rattle.arj_protocol.specs.Words.{Header, Uid}
 use Rattle.arj_protocol.specs.Order.{uid_number}
-use Rattle.arj_protocol.specs.World.{Asked, format, run_all}
+use Rattle.arj_protocol.specs.World.{World}
 use Rattle.arj_part_law.specs.Actions.{Action, paths_of}
-use Rattle.arj_disk_law.specs.Effects as machine
 use Rattle.arj_disk_law.specs.State.{Done, Packed, Plan, decided_in}
-use Rattle.arj_disk_law.specs.Words as disk
 use Rattle.arj_disk_view_law.specs.Sees.{Kinds, SeesDisks}
 use Rattle.arj_line_law.specs.Book.{new_book}
 use Rattle.arj_line_law.specs.Paths.{AreAlike, IsAlikeOf}
@@ -48,10 +48,10 @@ decided_there (e ∷ ds) d (inr i) = by (e.top == d.top) (decided_there ds d i)
     by true on = refl
     by false on = on
 
-module _ (hd : Header) (es : List Asked) (x : ℕ) (right : AreRight new_book (let w = run_all es (format hd) in w.lines)) (sent : List Post) (kinds : Kinds) (W : machine.World) (disks : SeesDisks x kinds W (see sent (run_all es (format hd)))) (begun : List Action) (alike : IsAlikeOf begun (see sent (run_all es (format hd))))
-    (seen : (f : Fixed) → AgreesApart (first_values hd) f x begun sent → (S : State) × SeesLocks f x begun S (see sent (run_all es (format hd))) × AreTied f x (let w = run_all es (format hd) in w.lines) S × ArePlannedSo f x S W (see sent (run_all es (format hd)))) (knows : RequestsAreOne (see sent (run_all es (format hd)))) where
+module _ (hd : Header) (w : World) (x : ℕ) (right : AreRight new_book w.lines) (sent : List Post) (kinds : Kinds) (W : machine.World) (disks : SeesDisks x kinds W (see sent w)) (begun : List Action) (alike : IsAlikeOf begun (see sent w))
+    (seen : (f : Fixed) → AgreesApart (first_values hd) f x begun sent → (S : State) × SeesLocks f x begun S (see sent w) × AreTied f x w.lines S × ArePlannedSo f x S W (see sent w)) (knows : RequestsAreOne (see sent w)) where
   abbrev M : Seen
-  M = see sent (run_all es (format hd))
+  M = see sent w
 
   abbrev values : Values
   values = first_values hd

@@ -9,7 +9,7 @@ use Rattle.arj_model.specs.Actions.{Act, act_in, path, uids}
 use Rattle.arj_text.specs.Label.{name}
 use Rattle.arj_line_law.specs.Book.{Book, new_book, turned}
 use Rattle.arj_protocol.specs.Words.{Header}
-use Rattle.arj_protocol.specs.World.{Asked, journal}
+use Rattle.arj_view_law.specs.Moves.{Move, journal_by}
 
 -- At a line that calls a commit each other action of its root whose commit was called has committed by its line, or was aborted.
 abbrev pub IsCalledAlone : Book → Body → Type 0
@@ -21,6 +21,6 @@ abbrev pub AreCalledAlone : Book → List Line → Type 0
 AreCalledAlone B [] = ⊤
 AreCalledAlone B (line ∷ lines) = IsCalledAlone B line.body × AreCalledAlone (turned B line.body) lines
 
--- and at those of the journal of each script's run
+-- and at those of the journal of all moves
 abbrev pub RunsCallAlone : Type 0
-RunsCallAlone = (hd : Header) (es : List Asked) → AreCalledAlone new_book (journal hd es)
+RunsCallAlone = (hd : Header) (ms : List Move) → AreCalledAlone new_book (journal_by hd ms)

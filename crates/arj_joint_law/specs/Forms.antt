@@ -14,11 +14,10 @@ use Rattle.arj_protocol.specs.Node.{Parts}
 use Rattle.arj_protocol.specs.Order.{at_uid}
 use Rattle.arj_protocol.specs.Step.{Node}
 use Rattle.arj_protocol.specs.Values.{state_entry}
-use Rattle.arj_protocol.specs.World.{format, run_all}
-use Rattle.arj_protocol.specs.World as world
 use Rattle.arj_disk_run_law.specs.States.{CoordIsSo, Fits, MessageIsSo, Own}
 use Rattle.arj_serial_law.specs.Cleaned.{HaveForm}
 use Rattle.arj_view_law.specs.Keeps.{Holds, Keeps}
+use Rattle.arj_view_law.specs.Moves.{Move, world_by}
 use Rattle.arj_view_law.specs.Seen.{In, Post, Seen}
 
 -- ---- states
@@ -116,6 +115,6 @@ kind_of hd x = record { x = x; class = class_of (first_values hd x); servers = s
 abbrev pub FormsAreKept : Type 0
 FormsAreKept = (hd : Header) (x : ℕ) → HeaderInForm hd → Keeps hd (AreSo (kind_of hd x))
 
--- So in the run of every script what stands of an object on disks is of its value's class, and its entry is one, with the header's servers.
+-- So after all moves what stands of an object on disks is of its value's class, and its entry is one, with the header's servers.
 abbrev pub RunsHaveForm : Type 0
-RunsHaveForm = (hd : Header) (x : ℕ) → HeaderInForm hd → (es : List world.Asked) → Holds hd (HaveForm hd x) (run_all es (format hd))
+RunsHaveForm = (hd : Header) (x : ℕ) → HeaderInForm hd → (ms : List Move) → Holds hd (HaveForm hd x) (world_by hd ms)

@@ -1,24 +1,22 @@
 -- In which order the commits of two decided tops were called, where one of them includes a store of the object.
-use Rattle.std.specs.Prelude.{⊤, ◌≡◌, ◌⊎◌, ◌<◌, ◌≤◌, ℕ, true, List, [], ◌∷◌, None, Contains, filter, is_some, length}
-use Rattle.arj_journal.specs.ScriptForm.{HeaderInForm}
+use Rattle.std.specs.Prelude.{⊤, ◌≡◌, ◌⊎◌, ◌<◌, ℕ, true, List, [], ◌∷◌, None, Contains, filter, is_some}
 use Rattle.arj_model.specs.Calls.{Top}
 use Rattle.arj_model.specs.Last.{object_line}
 use Rattle.arj_model.specs.Serial.{Values}
 use Rattle.arj_protocol.specs.Words.{Header, Line, Uid}
 use Rattle.arj_protocol.specs.Order.{uid_number}
-use Rattle.arj_protocol.specs.World.{Asked, format, run_all}
 use Rattle.arj_disk_law.specs.Order.{counts_of}
 use Rattle.arj_disk_law.specs.State.{Done, Plan}
 use Rattle.arj_disk_law.specs.Words.{In, has}
 use Rattle.arj_view_law.specs.Keeps.{Holds}
+use Rattle.arj_view_law.specs.Moves.{Move, world_by}
 use Rattle.arj_view_law.specs.Seen.{Seen}
-use Rattle.arj_binding_law.specs.Scripts.{most_events}
 use Rattle.arj_line_law.specs.Book.{new_book}
 use Rattle.arj_line_law.specs.Right.{AreRight}
 use Rattle.arj_lock_law.specs.State as lock
 use Rattle.arj_serial_law.specs.Decided.{AreDecisions, Joined, Wrote}
 use Rattle.arj_serial_law.specs.Tied.{IsTied}
-use Rattle.arj_joint_law.specs.FitRuns.{AreEventsInForm}
+use Rattle.arj_joint_law.specs.FitRuns.{IsInForm}
 use Rattle.arj_joint_law.specs.Lights.{LightsAreSplit}
 use Rattle.arj_joint_law.specs.Ordered.{IsCalledBefore, IsOrderedSo}
 
@@ -44,9 +42,9 @@ pub record TakesTurnsSo (hd : Header) (x : ℕ) (M : Seen) : Type 0 where
   pub includers : IncludersTakeTurns M.lines (let j = (let b = (let o = ordered in o.begun) in b.journalled) in let W = j.machine in let S = W.disk in S.tops)
   pub lights : LightsAreSplit M.lines (let j = (let b = (let o = ordered in o.begun) in b.journalled) in let W = j.machine in W.disk)
 
--- So it is in the run of every script in form, of each object of the header.
+-- So it is after all moves in form, of each object of the header.
 abbrev pub RunsTakeTurns : Type 0
-RunsTakeTurns = (hd : Header) (x : ℕ) → HeaderInForm hd → is_some (object_line hd x) ≡ true → (es : List Asked) → AreEventsInForm es → length es ≤ most_events → Holds hd (TakesTurnsSo hd x) (run_all es (format hd))
+RunsTakeTurns = (hd : Header) (ms : List Move) → IsInForm hd ms → (x : ℕ) → is_some (object_line hd x) ≡ true → Holds hd (TakesTurnsSo hd x) (world_by hd ms)
 
 -- ---- in the words of the model
 

@@ -12,7 +12,7 @@ use Rattle.arj_protocol.specs.Commit.{Confirming, Plan, Used, changed_of}
 use Rattle.arj_protocol.specs.Effect.{Intent}
 use Rattle.arj_protocol.specs.Order.{uid_number}
 use Rattle.arj_protocol.specs.Step.{Node}
-use Rattle.arj_protocol.specs.World.{Asked, format, journal, run_all}
+use Rattle.arj_protocol.specs.World.{Asked, journal}
 use Rattle.arj_part_law.specs.Actions.{Action}
 use Rattle.arj_disk_law.specs.Effects.{World}
 use Rattle.arj_disk_law.specs.Names.{Office}
@@ -25,6 +25,7 @@ use Rattle.arj_lock_law.specs.Actions.{In, top}
 use Rattle.arj_lock_law.specs.Machine.{Run, start}
 use Rattle.arj_lock_law.specs.State as lock
 use Rattle.arj_view_law.specs.Keeps.{Holds}
+use Rattle.arj_view_law.specs.Moves.{Move, world_by}
 use Rattle.arj_view_law.specs.Seen.{Seen}
 use Rattle.arj_line_law.specs.Book.{book, is_decided}
 use Rattle.arj_line_law.specs.Idle.{IsIdle}
@@ -42,7 +43,7 @@ use Rattle.arj_serial_law.specs.Tied.{AreApart, AreTied as AreJournalTied}
 use Rattle.arj_joint_law.specs.Apt.{AgreesApart}
 use Rattle.arj_joint_law.specs.Based.{IsVotedOver}
 use Rattle.arj_joint_law.specs.BasedSteps.{AreBasedSo}
-use Rattle.arj_joint_law.specs.FitRuns.{AreEventsInForm}
+use Rattle.arj_joint_law.specs.FitRuns.{AreEventsInForm, IsInForm}
 use Rattle.arj_joint_law.specs.Includers.{IncludersTakeTurns}
 use Rattle.arj_joint_law.specs.Lights.{LightsAreSplit}
 use Rattle.arj_joint_law.specs.Loads.{AreLoadsLast}
@@ -156,9 +157,9 @@ pub record IsJoinedSo (hd : Header) (x : ℕ) (M : Seen) : Type 0 where
   pub agree : CopiesAgree x M
   pub loads : LoadsAgree x M
 
--- So it is in the run of every script in form, of each object of the header.
+-- So it is after all moves in form, of each object of the header.
 abbrev pub RunsAreJoined : Type 0
-RunsAreJoined = (hd : Header) (x : ℕ) → HeaderInForm hd → is_some (object_line hd x) ≡ true → (es : List Asked) → AreEventsInForm es → length es ≤ most_events → Holds hd (IsJoinedSo hd x) (run_all es (format hd))
+RunsAreJoined = (hd : Header) (ms : List Move) → IsInForm hd ms → (x : ℕ) → is_some (object_line hd x) ≡ true → Holds hd (IsJoinedSo hd x) (world_by hd ms)
 
 -- So the run of every script in form is serial.
 abbrev pub JoinedRunsAreSerial : Type 0

@@ -13,9 +13,9 @@ use Rattle.arj_protocol.specs.Order.{has}
 use Rattle.arj_protocol.specs.Step.{Node}
 use Rattle.arj_protocol.specs.Tree.{is_own}
 use Rattle.arj_protocol.specs.Words.{Header, Uid, name}
-use Rattle.arj_protocol.specs.World.{Asked, format, run_all}
 use Rattle.arj_disk_view_law.specs.Plans.{plan_at}
 use Rattle.arj_view_law.specs.Keeps.{Holds}
+use Rattle.arj_view_law.specs.Moves.{Move, world_by}
 use Rattle.arj_view_law.specs.Seen.{Seen}
 use Rattle.arj_line_law.specs.Book.{Access, Book, book}
 use Rattle.arj_line_law.specs.Knows.{root_in}
@@ -81,6 +81,6 @@ IncludesAreNoted B c = (a : Access) (s : ℕ) → Contains B.accesses a → a.st
 abbrev pub IncludesAreSaid : Seen → Type 0
 IncludesAreSaid M = (j : ℕ) (n : Node) (t : Parts) → M.nodes j ≡ Some n → n.live ≡ Some t → IncludesAreNoted (book M.lines) t.coord × PlansInclude (book M.lines) t.coord
 
--- So it is in every run.
+-- So it is after all moves.
 abbrev pub RunsSayIncludes : Type 0
-RunsSayIncludes = (hd : Header) (es : List Asked) → Holds hd IncludesAreSaid (run_all es (format hd))
+RunsSayIncludes = (hd : Header) (ms : List Move) → Holds hd IncludesAreSaid (world_by hd ms)

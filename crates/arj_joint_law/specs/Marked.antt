@@ -12,8 +12,8 @@ use Rattle.arj_protocol.specs.Commit.{Confirming, Machine, Preparing, Voting, is
 use Rattle.arj_protocol.specs.Coord.{Committing, Doing, doing_of}
 use Rattle.arj_protocol.specs.Node.{Parts}
 use Rattle.arj_protocol.specs.Step.{Node}
-use Rattle.arj_protocol.specs.World.{Asked, format, run_all}
 use Rattle.arj_view_law.specs.Keeps.{Holds}
+use Rattle.arj_view_law.specs.Moves.{Move, world_by}
 use Rattle.arj_view_law.specs.Seen.{In, Post, Seen}
 use Rattle.arj_line_law.specs.Book.{book}
 
@@ -41,9 +41,9 @@ SaysMarks lines d = (m : Machine) → d.now ≡ Committing m → FitsMarks (was_
 abbrev pub MarksAreSaid : Seen → Type 0
 MarksAreSaid M = (j : ℕ) (n : Node) (t : Parts) (u : Uid) (d : Doing) → M.nodes j ≡ Some n → n.live ≡ Some t → doing_of u t.coord ≡ Some d → SaysMarks M.lines d
 
--- So it is in every run.
+-- So it is after all moves.
 abbrev pub RunsSayMarks : Type 0
-RunsSayMarks = (hd : Header) (es : List Asked) → Holds hd MarksAreSaid (run_all es (format hd))
+RunsSayMarks = (hd : Header) (ms : List Move) → Holds hd MarksAreSaid (world_by hd ms)
 
 -- ---- what naming is asked
 
@@ -69,9 +69,9 @@ pub record WasAsked (lines : List Line) (sent : List Post) (l : List ℕ) : Type
 abbrev pub MarksAreAsked : Seen → Type 0
 MarksAreAsked M = (l : List ℕ) (x s : ℕ) → was_marked M.lines l x s ≡ true → WasAsked M.lines M.sent l
 
--- So it is in every run.
+-- So it is after all moves.
 abbrev pub RunsAskMarks : Type 0
-RunsAskMarks = (hd : Header) (es : List Asked) → Holds hd MarksAreAsked (run_all es (format hd))
+RunsAskMarks = (hd : Header) (ms : List Move) → Holds hd MarksAreAsked (world_by hd ms)
 
 -- The lines have the action, and none of them says an exclusion of it.
 pub record IsSpared (lines : List Line) (u : Uid) : Type 0 where

@@ -1,18 +1,16 @@
 -- In which order an object's machine decides tops, against the journal.
-use Rattle.std.specs.Prelude.{⊤, ◌≡◌, ◌≢◌, ◌⊎◌, ◌≤◌, ◌++◌, ◌&&◌, ℕ, Bool, true, false, not, filter, List, [], ◌∷◌, None, Contains, is_some, length}
+use Rattle.std.specs.Prelude.{⊤, ◌≡◌, ◌≢◌, ◌⊎◌, ◌++◌, ◌&&◌, ℕ, Bool, true, false, not, filter, List, [], ◌∷◌, None, Contains, is_some}
 use Rattle.arj_base.specs.Rows.{is_on}
-use Rattle.arj_journal.specs.ScriptForm.{HeaderInForm}
 use Rattle.arj_model.specs.Actions.{Act, acts, path, uids}
 use Rattle.arj_model.specs.Last.{increasing, is_among, joins_of, leaves_of, object_line}
 use Rattle.arj_protocol.specs.Words.{Header, Line, Uid, first_uid}
 use Rattle.arj_protocol.specs.Order.{uid_number}
-use Rattle.arj_protocol.specs.World.{Asked, format, run_all}
 use Rattle.arj_disk_law.specs.Effects.{World}
 use Rattle.arj_disk_law.specs.State.{Done, State, decided, target}
 use Rattle.arj_disk_law.specs.Words.{In, has}
 use Rattle.arj_view_law.specs.Keeps.{Holds}
+use Rattle.arj_view_law.specs.Moves.{Move, world_by}
 use Rattle.arj_view_law.specs.Seen.{Seen}
-use Rattle.arj_binding_law.specs.Scripts.{most_events}
 use Rattle.arj_disk_run_law.specs.Decided.{AreCalled, AreOnce}
 use Rattle.arj_disk_line_law.specs.Said.{IsPlain}
 use Rattle.arj_line_law.specs.Book.{book, is_decided, is_top}
@@ -20,7 +18,7 @@ use Rattle.arj_line_law.specs.Idle.{HasNothing}
 use Rattle.arj_line_law.specs.Laws.{IsDone}
 use Rattle.arj_joint_law.specs.SaidFirst.{IncludersKnow}
 use Rattle.arj_joint_law.specs.Begun.{IsBegunSo}
-use Rattle.arj_joint_law.specs.FitRuns.{AreEventsInForm}
+use Rattle.arj_joint_law.specs.FitRuns.{IsInForm}
 
 -- ---- against the journal
 
@@ -114,4 +112,4 @@ pub record IsOrderedSo (hd : Header) (x : ℕ) (M : Seen) : Type 0 where
 
 -- So it is in the run of every script in form, of each object of the header.
 abbrev pub RunsAreOrdered : Type 0
-RunsAreOrdered = (hd : Header) (x : ℕ) → HeaderInForm hd → is_some (object_line hd x) ≡ true → (es : List Asked) → AreEventsInForm es → length es ≤ most_events → Holds hd (IsOrderedSo hd x) (run_all es (format hd))
+RunsAreOrdered = (hd : Header) (ms : List Move) → IsInForm hd ms → (x : ℕ) → is_some (object_line hd x) ≡ true → Holds hd (IsOrderedSo hd x) (world_by hd ms)

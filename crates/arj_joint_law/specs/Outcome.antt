@@ -13,7 +13,7 @@ use Rattle.arj_journal.specs.declared.header.Header.{Header}
 use Rattle.arj_model.specs.Actions.{Act, acts, committed, halts, is_committed, recovered, top_in}
 use Rattle.arj_model.specs.Calls.{committings}
 use Rattle.arj_model.specs.Last.{excluded}
-use Rattle.arj_protocol.specs.World.{Asked, journal}
+use Rattle.arj_view_law.specs.Moves.{Move, journal_by}
 
 -- a test that holds of each line, by the lines before it
 abbrev pub each_behind : (List Line → Body → Bool) → List Line → List Line → Bool
@@ -85,6 +85,6 @@ pub record ShowsOneOutcome (lines : List Line) : Type 0 where
 
 -- ---- runs
 
--- of the commits, in every run
+-- of the commits, after all moves
 abbrev pub CommitsAreBehind : Type 0
-CommitsAreBehind = (hd : Header) (es : List Asked) → commits_are_behind (journal hd es) ≡ true
+CommitsAreBehind = (hd : Header) (ms : List Move) → commits_are_behind (journal_by hd ms) ≡ true

@@ -2,10 +2,10 @@
 ghost use Rattle.arj_joint_law.specs.FitRuns.{RunsFit};
 ghost use Rattle.arj_joint_law.specs.Forms.{FormsAreKept, RunsHaveForm};
 
-/// After the run of each script whose header is in form, with all frames that came in any order, again or never, all stops, crashes and
-/// restarts, each state of an object that a store holds is of its first value's class, and what naming holds of its entry is an entry with
-/// the header's servers. So it is of what is prepared, of copies, of what coordinators have, and of every message that was ever sent: each
-/// handler keeps it. It does nothing when it runs.
+/// After each run whose header is in form, with all frames that came in any order, again or never, all crashes and restarts, and stops
+/// wherever disks make them, each state of an object that a store holds is of its first value's class, and what naming holds of its entry
+/// is an entry with the header's servers. So it is of what is prepared, of copies, of what coordinators have, and of every message that was
+/// ever sent: each handler keeps it. It does nothing when it runs.
 pub fn runs_have_form()
     ensures handlers { FormsAreKept }
     ensures runs { RunsHaveForm }

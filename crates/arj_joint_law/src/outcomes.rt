@@ -5,8 +5,8 @@ ghost use Rattle.arj_joint_law.specs.InTime.{RunsExcludeInTime};
 ghost use Rattle.arj_joint_law.specs.Outcome.{CommitsAreBehind, ShowsOneOutcome, aborts_have_cause, commits_are_behind};
 ghost use Rattle.arj_joint_law.specs.Samples.{decided_lines, found_commit, halted_abort, header, its_top, naming_late, naming_node, right_end, store_three, store_two, wrong_abort, wrong_commit, wrong_names_abort};
 
-/// In each run, with all frames in any order, again or never, all stops, crashes and restarts, each line that a commit was done, by a
-/// store or by naming, stands behind the `committed` line of its action, or behind the line that a restart found its record. It does
+/// In each run, with all frames in any order, again or never, all crashes and restarts, and stops wherever disks make them, each line that a
+/// commit was done, by a store or by naming, stands behind the `committed` line of its action, or behind the line that a restart found its record. It does
 /// nothing when it runs.
 pub fn commits_are_done_behind_decisions()
     ensures runs { CommitsAreBehind }

@@ -9,10 +9,10 @@ ghost use Rattle.arj_joint_law.specs.Marked.{RunsAskMarks, RunsSayMarks};
 ghost use Rattle.arj_joint_law.specs.Ordered.{RunsAreOrdered};
 ghost use Rattle.arj_joint_law.specs.Shown.{FilesShowDisks, IncludesAreListed};
 
-/// After the run of each script whose header and events are in form, of at most 1,000,000 events, with all frames that came in any order,
-/// again or never, all stops, crashes and restarts, there is for each object of the header a state of its disk machine in which it is seen,
-/// whose decisions are those of the journal, and whose first state and entry are the header's: no step changes them. A header in form has
-/// each of its objects by one line, with a store. It does nothing when it runs.
+/// After each run whose header and events are in form, of at most 1,000,000 events, with all frames that came in any order, again or never,
+/// all crashes and restarts, and stops wherever disks make them, there is for each object of the header a state of its disk machine in which
+/// it is seen, whose decisions are those of the journal, and whose first state and entry are the header's: no step changes them. A header in
+/// form has each of its objects by one line, with a store. It does nothing when it runs.
 pub fn runs_begin_as_the_header_says()
     ensures begun { RunsBeginSo }
     ensures objects { ObjectsAreThere }
@@ -47,41 +47,41 @@ pub fn runs_are_clean()
     ensures listed { IncludesAreListed }
 {}
 
-/// After the run of each script whose header and events are in form, of at most 1,000,000 events, there are for each object of the header states
-/// of both of its machines at once: of the disk machine, as `decisions_come_behind_calls` has it; and of the lock machine, to which the journal is tied, in
-/// which commits under way have the votes that came. Each top that is decided, or has a record, has in the disk machine the plan with which it
-/// waited for naming in an earlier state of the lock machine: what it changes the object to is what the server voted that was called, over a state that
-/// was the last one once; and so it is known of copies and votes, and of committed tops with surviving writes (`AreBasedSo`). So each
-/// decided top of the journal gave to the stores what it wrote, and one whose commit ended without a record wrote nothing; the object's
-/// copies agree, and who waits to load it for a binding that naming made last and didn't record yet asks stores that hold what they agree on;
-/// and so the journal is tied to the lock machine of each object of which a call was answered, and the run is serial. Of the disk half nothing is
-/// taken: by which version naming takes a top's Confirm the lock half gives. Nor is anything taken of the lock half: that commits of tops with
-/// surviving writes were recorded is given here, and so is that what a store gives to a call that waits for it, under a binding that is current, is the last committed
-/// state: it is the last one of the disk machine, which the newest surviving write left, and that is read back, since operations are in form. It
-/// does nothing when it runs.
+/// After each run whose header and events are in form, of at most 1,000,000 events, wherever disks stop, there are for each object of the
+/// header states of both of its machines at once: of the disk machine, as `decisions_come_behind_calls` has it; and of the lock machine, to
+/// which the journal is tied, in which commits under way have the votes that came. Each top that is decided, or has a record, has in the disk
+/// machine the plan with which it waited for naming in an earlier state of the lock machine: what it changes the object to is what the server
+/// voted that was called, over a state that was the last one once; and so it is known of copies and votes, and of committed tops with
+/// surviving writes (`AreBasedSo`). So each decided top of the journal gave to the stores what it wrote, and one whose commit ended without a
+/// record wrote nothing; the object's copies agree, and who waits to load it for a binding that naming made last and didn't record yet asks
+/// stores that hold what they agree on; and so the journal is tied to the lock machine of each object of which a call was answered, and the
+/// run is serial. Of the disk half nothing is taken: by which version naming takes a top's Confirm the lock half gives. Nor is anything taken
+/// of the lock half: that commits of tops with surviving writes were recorded is given here, and so is that what a store gives to a call that
+/// waits for it, under a binding that is current, is the last committed state: it is the last one of the disk machine, which the newest
+/// surviving write left, and that is read back, since operations are in form. It does nothing when it runs.
 pub fn runs_have_both_machines()
     ensures joined { RunsAreJoined }
     ensures tied { JoinedRunsAreTied }
     ensures serial { JoinedRunsAreSerial }
 {}
 
-/// In the run of every script each commit under way at a node that is up has said what it excludes: while its votes are collected, and while
-/// its prepare step runs, no line says an exclusion of it; and behind that the lines say exactly the stores that its plan has marked, by
-/// object. And of whom a line says an exclusion naming was asked to confirm its commit. It does nothing when it runs.
+/// In each run, wherever disks stop, each commit under way at a node that is up has said what it excludes: while its votes are collected, and
+/// while its prepare step runs, no line says an exclusion of it; and behind that the lines say exactly the stores that its plan has marked,
+/// by object. And of whom a line says an exclusion naming was asked to confirm its commit. It does nothing when it runs.
 pub fn commits_say_what_they_exclude()
     ensures said { RunsSayMarks }
     ensures asked { RunsAskMarks }
 {}
 
-/// In the run of every script, of one root one commit at most goes on: where a line calls the commit of a top, each other action of its root
-/// whose commit was called before has its `committed` line by then, or was aborted. It does nothing when it runs.
+/// In each run, wherever disks stop, of one root one commit at most goes on: where a line calls the commit of a top, each other action of its
+/// root whose commit was called before has its `committed` line by then, or was aborted. It does nothing when it runs.
 pub fn commits_of_a_root_go_on_alone()
     ensures { RunsCallAlone }
 {}
 
-/// In the run of every script each commit under way at a node that is up includes, of each object, exactly the stores of its top's surviving
-/// includes by the journal so far, each once and in increasing order; and each answered include of an action of a coordinator is noted by
-/// the action's root as an include. It does nothing when it runs.
+/// In each run, wherever disks stop, each commit under way at a node that is up includes, of each object, exactly the stores of its top's
+/// surviving includes by the journal so far, each once and in increasing order; and each answered include of an action of a coordinator is
+/// noted by the action's root as an include. It does nothing when it runs.
 pub fn commits_include_what_survives()
     ensures { RunsSayIncludes }
 {}

@@ -1,8 +1,10 @@
-use Rattle.arj_joint_law.proofs.FormRuns.{kept_forms, runs_have_form}
+use Rattle.arj_joint_law.proofs.FormRuns.{kept_forms, kept_have_form}
+use Rattle.arj_call_law.proofs.Reaching.{moves_keep}
+use Rattle.arj_view_law.specs.Moves.{world_by}
 use Rattle.arj_joint_law.proofs.forms.runs_have_form.Goals as goal
 
 pub returns-clause-handlers : goal.returns-clause-handlers
 returns-clause-handlers c = kept_forms
 
 pub returns-clause-runs : goal.returns-clause-runs
-returns-clause-runs c = runs_have_form
+returns-clause-runs c = λ hd x form ms. kept_have_form hd x form (world_by hd ms) (moves_keep hd ms)
