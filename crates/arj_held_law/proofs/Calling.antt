@@ -34,7 +34,7 @@ NoCommit b = calls_commit b ≡ false
 abbrev pub NoAnswer : Body → Type 0
 NoAnswer b = answers_call b ≡ false
 
-apart_commit : (b : Body) → is_apart b ≡ false → NoCommit b
+pub apart_commit : (b : Body) → is_apart b ≡ false → NoCommit b
 apart_commit (body.Committing l) none = absurd (cc none)
 apart_commit b none = refl
 

@@ -40,6 +40,7 @@ use Rattle.arj_held_law.specs.Shown.{AreShown, ShowsLocks, TablesShowLocks}
 use Rattle.arj_held_law.proofs.Facts.{are_entries, facts_of, on_path, someone}
 use Rattle.arj_held_law.proofs.Keeping.{same_shown}
 use Rattle.arj_held_law.proofs.Lines.{Since, halted_table, quiet_table, since_all}
+use Rattle.arj_held_law.proofs.Restarts.{Restarts, restarts}
 use Rattle.arj_held_law.proofs.Running.{Known, Showing, showing_kept}
 use Rattle.arj_held_law.proofs.Starts.{restart_shows}
 use Rattle.arj_held_law.proofs.Writes.{RestartsOther, Writes, most_starts, none_starts, runs_write}
@@ -96,13 +97,13 @@ module _ (w : World) (n : ℕ) (d : Disk) (there : at_place n w.nodes ≡ Some (
 -- ---- events
 
 -- what is known
-abbrev Base : Seen → Type 0
+abbrev pub Base : Seen → Type 0
 Base M = (begun : List Action) × Known begun M
 
-record IsShown (hd : Header) (w : World) : Type 0 where
-  known : Holds hd Base w
-  shown : AreShown w
-  early : (j : ℕ) → up_of j w.lines ≤ w.event
+pub record IsShown (hd : Header) (w : World) : Type 0 where
+  pub known : Holds hd Base w
+  pub shown : AreShown w
+  pub early : (j : ℕ) → up_of j w.lines ≤ w.event
 
 -- a number that comes later
 later_off : (u e : ℕ) → u ≤ e → (e + 1 == u) ≡ false
@@ -189,6 +190,10 @@ module _ (hd : Header) (w : World) (h : IsShown hd w) where
 
     its_entries : AreEntries (let p = its_disk.names in p.held)
     its_entries = let u = known.1.1.0 n node there in let p = u.names in are_entries (let q = its_disk.names in q.held) p.held (known.1.1.1 n node there)
+
+    -- what its restart leaves
+    pub its_restart : Restarts n (counted w) (steps n input.Restart (counted w))
+    its_restart = let p = known.1.0.0.nodes n node there in restarts (counted w) n its_disk there its_records (its_prepared its_disk.store p.store) (its_prepared its_disk.names p.names)
 
     itself : ShowsLocks n (steps n input.Restart (counted w)).lines (memory_of (at_place n (steps n input.Restart (counted w)).nodes))
     itself = let p = known.1.0.0.nodes n node there in restarted (counted w) n its_disk there (λ is. its_entries) its_records (its_prepared its_disk.store p.store) (its_prepared its_disk.names p.names)

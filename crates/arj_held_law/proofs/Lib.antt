@@ -8,6 +8,7 @@ pub mod Running
 pub mod Writes
 pub mod Telling
 pub mod Starts
+pub mod Restarts
 pub mod Events
 pub mod Holding
 pub mod Machine
@@ -22,3 +23,4 @@ pub mod Points
 pub mod OnLines
 pub mod AlongSteps
 pub mod AlongMessages
+pub mod RestartPlaces

@@ -25,7 +25,7 @@ never b holds fails = let no_way : true ≡ false = sym holds ∙ fails in cc
 pub itself : (n : ℕ) → (n == n) ≡ true
 itself n = eq-eqb n n refl
 
-next_off : (n : ℕ) → (n == suc n) ≡ false
+pub next_off : (n : ℕ) → (n == suc n) ≡ false
 next_off n = by (n == suc n) refl
   where
     by : (b : Bool) → (n == suc n) ≡ b → b ≡ false

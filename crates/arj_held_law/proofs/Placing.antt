@@ -1,5 +1,5 @@
 -- A call is locked for at each place at which the machine was seen, also where a few lines stand between the two.
-use Rattle.std.proofs.Common.{◌≡◌, ◌⊎◌, ◌≤◌, ◌<◌, ◌∙◌, ◌==◌, ◌+◌, ℕ, zero, suc, List, [], ◌∷◌, Bool, true, false, Option, Some, None, length, slice_get, refl, sym, ap, subst, inl, inr, arith, ⊎_elim, Contains}
+use Rattle.std.proofs.Common.{◌≡◌, ◌⊎◌, ◌≤◌, ◌<◌, ◌∙◌, ◌+◌, ℕ, suc, List, [], ◌∷◌, Bool, true, false, Option, Some, None, slice_get, refl, sym, ap, subst, inl, inr, arith, ⊎_elim, Contains}
 use Rattle.std.specs.List.{list_any}
 use Rattle.arj_base.specs.Rows.{Row}
 use Rattle.arj_base.specs.Uid.{object}
@@ -7,22 +7,20 @@ use Rattle.arj_lock.proofs.Members.{In}
 use Rattle.arj_protocol.specs.Words.{Body, Line}
 use Rattle.arj_protocol.specs.Words.body
 use Rattle.arj_model.specs.Actions.{Act, Placed, acts_after, put, read, uids}
-use Rattle.arj_model.specs.Calls.{Call, Said, Top, said, said_of}
+use Rattle.arj_model.specs.Calls.{Call, Said, said_of}
 use Rattle.arj_model.specs.Serial.{Values}
 use Rattle.arj_law.specs.Held.{unit_end}
 use Rattle.arj_line_law.specs.Book.{new_book}
 use Rattle.arj_line_law.specs.Laws.{called_of}
 use Rattle.arj_line_law.specs.Right.{AreRight}
-use Rattle.arj_lock_law.specs.Actions.{on}
 use Rattle.arj_lock_law.specs.Rows.{mode}
 use Rattle.arj_lock_law.specs.State.{Server, State}
 use Rattle.arj_lock_law.specs.Machine.{Run}
-use Rattle.arj_lock_law.proofs.Order.{start_holds}
 use Rattle.arj_lock_law.proofs.Roots.{roots_low, start_low}
 use Rattle.arj_lock_view_law.specs.Rows.{SeesRows}
 use Rattle.arj_serial_law.specs.Locked.{IsSeenAt, locks_call, ran_at}
 use Rattle.arj_serial_law.specs.Tied.{Began, IsTied, path_of}
-use Rattle.arj_serial_law.proofs.Locks.{S, closes, d, found_call, here, last_top, m, objects_by, same_node, survives_on, tie, zero_yet}
+use Rattle.arj_serial_law.proofs.Locks.{closes, found_call, here, last_top, m, objects_by, same_node, survives_on, tie, zero_yet}
 use Rattle.arj_serial_law.proofs.Order.{IsShown, top_item}
 use Rattle.arj_lock_whole_law.proofs.CalledSays.{calls_commit}
 use Rattle.arj_held_law.proofs.Calling.{answers_call}

@@ -69,7 +69,7 @@ module _ (hd : Header) (first event : ℕ) where
   coord_all k outs = kind_says (is_of k) is_coord_effect is_coord_line (λ b. refl) (coord_of k) outs
 
   -- what a restart says is of its node
-  restart_of : (k inc : ℕ) (d : Disk) → All (is_of k) (restart_outs hd k inc d)
+  pub restart_of : (k inc : ℕ) (d : Disk) → All (is_of k) (restart_outs hd k inc d)
   restart_of k inc d = restart_says (is_of k) hd k inc d (coord_of k) (λ one u o how. ap (λ j. 1 == j) (eqb-true k 1 one) ∙ refl) (λ u. refl) (itself k)
 
   module _ (e k : ℕ) (d : Disk) where

@@ -189,7 +189,7 @@ module _ (n : ℕ) where
   handled_tells d t from (message.Confirm m) is = absurd is
   handled_tells d t from (message.Confirmed m) is = absurd is
 
-  taken_tells : (d : Disk) (t : Parts) (from : ℕ) (m : Message) → IsTelling m → Tells n (outs_of (taken n d t from m))
+  pub taken_tells : (d : Disk) (t : Parts) (from : ℕ) (m : Message) → IsTelling m → Tells n (outs_of (taken n d t from m))
   taken_tells d t from m is = by (is_meant t m)
     where
       by : (b : Bool) → Tells n (outs_of (cond b (handle n d t from m) (Void [])))

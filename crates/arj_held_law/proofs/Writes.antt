@@ -119,7 +119,7 @@ module _ (j : ℕ) where
   with_event k n s w None = refl
   with_event k n s w (Some a) = armed_event k n s w a (nat_lt (count_works s.halting) a.works)
 
-  node_event : (k : ℕ) (i : Input) (w : World) (n : Option Node) → (step_node k i w n).event ≡ w.event
+  pub node_event : (k : ℕ) (i : Input) (w : World) (n : Option Node) → (step_node k i w n).event ≡ w.event
   node_event k i w None = refl
   node_event k i w (Some n) = with_event k n (step w.header n i) w (at_number k w.arms)
 
