@@ -10,9 +10,8 @@ use Rattle.arj_protocol.specs.Words.{Header, Line}
 use Rattle.arj_protocol.specs.World.{World}
 use Rattle.arj_view_law.specs.Keeps.{Holds}
 use Rattle.arj_line_law.specs.Book.{new_book}
-use Rattle.arj_line_law.specs.Knows.{IsKept}
 use Rattle.arj_line_law.specs.Right.{AreRight}
-use Rattle.arj_line_law.proofs.Runs.{lines_keep}
+use Rattle.arj_line_law.proofs.Runs.{kept_right}
 use Rattle.arj_lock_fact_law.specs.Entries.{HasObject}
 use Rattle.arj_lock_whole_law.proofs.CalledWalks.{called_there, calls_keep}
 use Rattle.arj_serial_law.specs.Seen.{IsCalled, IsLockedApart}
@@ -23,10 +22,11 @@ use Rattle.arj_serial_law.proofs.Values.{are_answered}
 use Rattle.arj_joint_law.specs.Fit.{OpsFit}
 use Rattle.arj_joint_law.specs.Joined.{IsJoinedSo}
 use Rattle.arj_joint_law.proofs.Clean.{object_some}
-use Rattle.arj_nodes_law.specs.Reached.{IsReached}
-use Rattle.arj_nodes_law.proofs.Joined.{is_joined}
-use Rattle.arj_nodes_law.specs.Moves.{MovesAreSerial, world_by}
-use Rattle.arj_nodes_law.proofs.Reaching.{moves_keep, reached_holds}
+use Rattle.arj_view_law.specs.Moves.{world_by}
+use Rattle.arj_call_law.specs.Reached.{IsReached}
+use Rattle.arj_call_law.proofs.Reaching.{moves_keep}
+use Rattle.arj_joint_law.proofs.JoinedRuns.{reached_joined}
+use Rattle.arj_nodes_law.specs.Moves.{MovesAreSerial}
 
 -- each object of which a call was answered is one of the header
 pub objects_there : (hd : Header) (w : World) → IsReached hd w → (x : ℕ) → IsCalled x w.lines → HasObject hd x
@@ -34,9 +34,6 @@ objects_there hd w reached x called =
     let h = reached.keeping _ (calls_keep hd) in
     let z = h.holds.1 in
     called_there hd x w.lines z.lines called
-
-pub lines_right : (hd : Header) (w : World) → IsReached hd w → AreRight new_book w.lines
-lines_right hd w reached = let r = reached_holds hd w reached IsKept (lines_keep hd) in let k = r.holds in let z = k.1 in z.right
 
 -- so are those that are tied to their lock machines
 pub serial_where : (hd : Header) (w : World) → AreRight new_book w.lines → ((x : ℕ) → IsCalled x w.lines → Holds hd (IsLockedApart (first_values hd) x) w) → Serial (first_values hd) w.lines × Answers (first_values hd) (nested_calls w.lines)
@@ -58,10 +55,10 @@ serial_where hd w right locked = (
     serial = order_law values lines (all_in_order values lines right tied) (are_answered values lines right tied)
 
 pub reached_serial : (hd : Header) → HeaderInForm hd → (w : World) → IsReached hd w → ((x : ℕ) → OpsFit x w.lines) → Serial (first_values hd) w.lines × Answers (first_values hd) (nested_calls w.lines)
-reached_serial hd form w reached fit = serial_where hd w (lines_right hd w reached) locked
+reached_serial hd form w reached fit = serial_where hd w (kept_right hd w reached.keeping) locked
   where
     joined : (x : ℕ) → is_some (object_line hd x) ≡ true → Holds hd (IsJoinedSo hd x) w
-    joined x there = is_joined hd x form there w reached (fit x)
+    joined x there = reached_joined hd x form there w reached (fit x)
 
     locked : (x : ℕ) → IsCalled x w.lines → Holds hd (IsLockedApart (first_values hd) x) w
     locked x called =

@@ -1,14 +1,8 @@
 // What nodes run of a script, whatever stops their disks make.
-ghost use Rattle.arj_nodes_law.specs.Moves.{MovesAreSerial, MovesKeep, MovesShowOneOutcome};
+ghost use Rattle.arj_nodes_law.specs.Moves.{MovesAreSerial, MovesShowOneOutcome};
 
-/// Whatever each handler keeps, wherever a stop falls into it, holds after each run in which disks stop of their own, at any of their works,
-/// whatever the script armed. So nodes over disks may run: which stops fall in an event is known behind it. It does nothing when it runs.
-pub fn moves_keep_what_handlers_keep()
-    ensures { MovesKeep }
-{}
-
-/// The journal of such a run of a header in form is serial, where naming made few bindings, no more labels were given than there may be, and
-/// the operations that it answers are in form. It does nothing when it runs.
+/// The journal of each run in which disks stop of their own, of a header in form, is serial, where naming made few bindings, no more labels
+/// were given than there may be, and the operations that it answers are in form. It does nothing when it runs.
 pub fn moves_are_serial()
     ensures { MovesAreSerial }
 {}
