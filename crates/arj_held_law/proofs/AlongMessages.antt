@@ -1,5 +1,5 @@
 -- A message leaves the object's machine seen at each place of the journal: behind some of the ends that it brings, or behind all of it.
-use Rattle.std.proofs.Common.{◌≡◌, ◌∙◌, ◌==◌, ◌++◌, ◌||◌, ℕ, List, [], ◌∷◌, Bool, true, false, Option, Some, None, refl, sym, ap, subst, inl, inr, ⊎_elim, Contains}
+use Rattle.std.proofs.Common.{◌≡◌, ◌∙◌, ◌==◌, ◌++◌, ◌||◌, ℕ, List, [], ◌∷◌, Bool, true, false, Option, Some, None, refl, sym, ap, subst, inl, inr, ⊎_elim}
 use Rattle.std.specs.Prelude.{if◌then◌else◌, is_some}
 use Rattle.std.specs.List.{AllByRecursion}
 use Rattle.std.proofs.lemmas.Bool.{or_parts}
@@ -7,7 +7,6 @@ use Rattle.arj_base.specs.Rows.{Row}
 use Rattle.arj_base.specs.Uid.{object}
 use Rattle.arj_journal.specs.declared.body.Part.TheVariants as part
 use Rattle.arj_model.specs.Actions.{acts}
-use Rattle.arj_model.specs.Serial.{Values}
 use Rattle.arj_model.specs.Table.{table}
 use Rattle.arj_protocol.specs.Words.{Ask, Asked, Body, End, Head, Message, Uid, asks}
 use Rattle.arj_protocol.specs.Words.message
@@ -24,10 +23,12 @@ use Rattle.arj_part_law.specs.Actions.{Action, AreBegun}
 use Rattle.arj_part_law.specs.Messages.{FitsMessage}
 use Rattle.arj_view_law.specs.Seen.{Seen, is_quiet_line, up}
 use Rattle.arj_view_law.specs.Walks.{Up, Walks}
+use Rattle.arj_view_law.proofs.Together.{walks_to}
 use Rattle.arj_line_law.specs.Paths.{AreAlike}
 use Rattle.arj_past_law.specs.Told.{SaysPast}
 use Rattle.arj_disk_run_law.specs.Places.{HasNaming}
-use Rattle.arj_lock_run_law.specs.Fixed.{AgreesAs, Fixed, view_of}
+use Rattle.arj_lock_law.specs.State.{State}
+use Rattle.arj_lock_run_law.specs.Fixed.{Fixed, view_of}
 use Rattle.arj_lock_run_law.specs.World.{is_for_parts}
 use Rattle.arj_lock_run_law.proofs.KeptSteps.{handled_answer, is_answer, response_is, took_heard}
 use Rattle.arj_lock_whole_law.specs.Called.{SayOf}
@@ -41,7 +42,7 @@ use Rattle.arj_held_law.proofs.Keeping.{Shown}
 use Rattle.arj_held_law.proofs.Lines.{itself}
 use Rattle.arj_held_law.proofs.Marks.{Guard}
 use Rattle.arj_held_law.proofs.Messages.{coord_or_steady, message_fits, message_follows, own_lines}
-use Rattle.arj_held_law.proofs.OnLines.{From, IsFrontOrEnd, LocksAlong, Stop, Trace, end_along, end_fronts, stop_along}
+use Rattle.arj_held_law.proofs.OnLines.{IsFrontOrEnd, Onward, Still, Stop, Trace, WasAlong, end_fronts, end_onward, stop_onward}
 use Rattle.arj_held_law.proofs.Points.{AtFront, quiet_answers, quiet_commits}
 use Rattle.arj_held_law.proofs.Prefixes.{Along, ends_by, message_runs}
 use Rattle.arj_held_law.proofs.Traces.{Rem, rem_along, rem_coord, trace_walk, traces_first}
@@ -92,7 +93,7 @@ coord_same k d t v from m outs off is = by (answers m) refl (is_answer m refl of
         let q = took_heard t v (heard from a.0 a.1 d.intents t.coord) outs (sym (handled_answer k d t from a.0 a.1) ∙ n) in
         ap (λ (z : Parts). z.server) (sym q.0)
 
-module _ (values : Values) (x : ℕ) (R : List Action → Seen → Type 0) (first event : ℕ) (M : Seen) (e k : ℕ) (d : Disk) (t v : Parts) (from : ℕ) (m : Message) (outs : List Effect) (showing : Shown first event (up k d t M)) (z : LocksAlong values x R first event (up k d t M))
+module _ (Apt : Fixed → Type 0) (x : ℕ) (R : Fixed → List Action → State → Seen → Type 0) (first event : ℕ) (M : Seen) (e k : ℕ) (d : Disk) (t v : Parts) (from : ℕ) (m : Message) (outs : List Effect) (showing : Shown first event (up k d t M))
     (begun : List Action) (all : AreBegun begun) (numbers : HaveNumbers begun) (alike : AreAlike begun (acts M.lines)) (place : HasNaming k t) (lives : ℕ → Option Parts) (fits : FitsMessage begun m) (says : SaysPast begun lives (record { from = from; to = k; message = m })) (is : handle k d t from m ≡ Took v outs) where
   abbrev Here : Seen
   Here = up k d t M
@@ -104,7 +105,7 @@ module _ (values : Values) (x : ℕ) (R : List Action → Seen → Type 0) (firs
   ends = ends_by m (asks m)
 
   abbrev Ok : List Row → Type 0
-  Ok rows = IsFrontOrEnd values x R first event k t.server v.server ends rows
+  Ok rows = IsFrontOrEnd Apt x R first event k t.server v.server ends rows
 
   follows : TablesFollow H k x t outs v
   follows = message_follows first event e k d t v M begun all numbers alike place from m outs lives fits says is x
@@ -127,21 +128,17 @@ module _ (values : Values) (x : ℕ) (R : List Action → Seen → Type 0) (firs
   others_first : (n : ℕ) → (n == k) ≡ false → memory_of (M.nodes n) ≡ memory_of (Here.nodes n)
   others_first n off = ap (λ b. memory_of (if b then Some (record { number = k; disk = d; live = Some t }) else M.nodes n)) (sym off)
 
-  abbrev same_wider : (a : Action) → Contains z.0 a → Contains z.0 a
-  same_wider a i = i
+  abbrev StillHere : Seen → Type 0
+  StillHere N = Still Apt x R first event Here N
 
-  abbrev same_less : (f : Fixed) → AgreesAs values f x z.0 M.sent → AgreesAs values f x z.0 M.sent
-  same_less f a = a
+  abbrev Goes : Seen → Type 0
+  Goes N = Onward Apt x R first event Here N
 
-  abbrev FromHere : Seen → Type 0
-  FromHere N = From values x R first event Here showing z z.0 same_wider same_less e N
-
-  module _ (fronts : (f : Fixed) (a : AgreesAs values f x z.0 M.sent) → is_for_parts m ≡ true → (pre post : List (Uid × End)) → ends ≡ pre ++ post → AtFront (view_of f x z.0 k) t.server (let g = z.3 f a in g.0) pre) where
-    for_coord : is_for_parts m ≡ false → Walks FromHere e k outs (Up FromHere k v) d M → Walks (LocksAlong values x R first event) e k outs (Up (LocksAlong values x R first event) k v) d M
-    for_coord off walk = together FromHere (Stop values x R first event Here showing z z.0 same_wider same_less e k calls_commit quiet_commits refl Ok) (LocksAlong values x R first event) (Trace values x R first event Here showing z z.0 same_wider same_less e k calls_commit quiet_commits refl Ok) e k outs v d M
-        (stop_along values x R first event Here showing z z.0 same_wider same_less e k calls_commit quiet_commits refl Ok (λ b none. none))
-        (λ c L y tr. end_along values x R first event Here showing z z.0 same_wider same_less e k calls_commit quiet_commits refl Ok v c L tr (λ b none. none) same y)
-        walk
+  module _ (fronts : (f : Fixed) (S : State) (was : WasAlong Apt x R first event Here f S) → is_for_parts m ≡ true → (pre post : List (Uid × End)) → ends ≡ pre ++ post → AtFront (view_of f x was.begun k) t.server was.state pre) where
+    for_coord : is_for_parts m ≡ false → Walks Goes e k outs (Up Goes k v) d M
+    for_coord off = walks_to (Stop Apt x R first event Here showing e k calls_commit quiet_commits refl Ok) Goes e k outs (λ c L. Trace Apt x R first event Here showing e k calls_commit quiet_commits refl Ok L) (Up Goes k v) d M
+        (stop_onward Apt x R first event Here showing e k calls_commit quiet_commits refl Ok (λ b none. none))
+        (λ c L tr. end_onward Apt x R first event Here showing e k calls_commit quiet_commits refl Ok v c L tr (λ b none. none) same)
         (trace_walk first event e k x M.lines Here.nodes calls_commit quiet_commits refl Ok showing.long outs d M (own_lines k d t v place from m outs is) (message_commits k d t v from m outs is) rem
         (traces_first first event e k x M.lines Here.nodes calls_commit quiet_commits refl Ok showing.long M refl others_first (λ g. inl ([], ends, refl, now g))))
       where
@@ -149,18 +146,18 @@ module _ (values : Values) (x : ℕ) (R : List Action → Seen → Type 0) (firs
         same rows (inr end) = end
         same rows (inl front) = front.3 ∙ ap (λ (pre : List (Uid × End)). server_rows x (let q = apply_ends k pre t.server in q.part)) (none_front front.0 front.1 (sym (no_ends m off) ∙ front.2)) ∙ ap (server_rows x) (sym (coord_same k d t v from m outs off is))
 
-    for_parts : is_for_parts m ≡ true → Walks FromHere e k outs (Up FromHere k v) d M → Walks (LocksAlong values x R first event) e k outs (Up (LocksAlong values x R first event) k v) d M
-    for_parts mine walk = together FromHere (Stop values x R first event Here showing z z.0 same_wider same_less e k is_marked quiet_marks refl Ok) (LocksAlong values x R first event) (Trace values x R first event Here showing z z.0 same_wider same_less e k is_marked quiet_marks refl Ok) e k outs v d M
-        (stop_along values x R first event Here showing z z.0 same_wider same_less e k is_marked quiet_marks refl Ok (λ b none. (or_parts (calls_commit b) (answers_call b) none).0))
-        (λ c L y tr. end_fronts values x R first event Here showing z e k is_marked quiet_marks refl (λ b none. (or_parts (calls_commit b) (answers_call b) none).1) t.server ends (λ f a. fronts f a mine) (λ b none. (or_parts (calls_commit b) (answers_call b) none).0) v c L tr y)
+    for_parts : is_for_parts m ≡ true → Walks StillHere e k outs (Up StillHere k v) d M → Walks Goes e k outs (Up Goes k v) d M
+    for_parts mine walk = together StillHere (Stop Apt x R first event Here showing e k is_marked quiet_marks refl Ok) Goes (Trace Apt x R first event Here showing e k is_marked quiet_marks refl Ok) e k outs v d M
+        (λ L still s. stop_onward Apt x R first event Here showing e k is_marked quiet_marks refl Ok (λ b none. (or_parts (calls_commit b) (answers_call b) none).0) L s)
+        (λ c L still tr. end_fronts Apt x R first event Here showing e k is_marked quiet_marks refl (λ b none. (or_parts (calls_commit b) (answers_call b) none).1) t.server ends (λ f S was. fronts f S was mine) (λ b none. (or_parts (calls_commit b) (answers_call b) none).0) v c L tr still)
         walk
         (trace_walk first event e k x M.lines Here.nodes is_marked quiet_marks refl Ok showing.long outs d M (own_lines k d t v place from m outs is) (all_marked outs (message_commits k d t v from m outs is) (message_answers k d t v from m outs mine is)) rem
         (traces_first first event e k x M.lines Here.nodes is_marked quiet_marks refl Ok showing.long M refl others_first (λ g. inl ([], ends, refl, now g))))
 
     -- a message
-    pub message_along : Walks FromHere e k outs (Up FromHere k v) d M → Walks (LocksAlong values x R first event) e k outs (Up (LocksAlong values x R first event) k v) d M
+    pub message_along : Walks StillHere e k outs (Up StillHere k v) d M → Walks Goes e k outs (Up Goes k v) d M
     message_along walk = by (is_for_parts m) refl
       where
-        by : (b : Bool) → is_for_parts m ≡ b → Walks (LocksAlong values x R first event) e k outs (Up (LocksAlong values x R first event) k v) d M
+        by : (b : Bool) → is_for_parts m ≡ b → Walks Goes e k outs (Up Goes k v) d M
         by true mine = for_parts mine walk
-        by false off = for_coord off walk
+        by false off = for_coord off

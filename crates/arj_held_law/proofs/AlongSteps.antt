@@ -1,41 +1,45 @@
 -- Each handler leaves the object's machine seen at each place of the journal, from the beginning of an event on.
-use Rattle.std.proofs.Common.{◌≡◌, ◌∙◌, ◌==◌, ℕ, List, false, Option, Some, refl, sym, ap, subst, Contains}
-use Rattle.std.specs.Prelude.{if◌then◌else◌}
-use Rattle.std.specs.List.{AllByRecursion}
+use Rattle.std.proofs.Common.{◌≡◌, ◌∙◌, ◌==◌, ◌++◌, ◌+◌, ℕ, List, [], ◌∷◌, Bool, false, Option, Some, None, refl, sym, ap, subst, arith, length, append_assoc, length-append}
+use Rattle.std.specs.Prelude.{⊤, ◌≤◌, if◌then◌else◌}
+use Rattle.std.specs.List.{AllByRecursion, list_all}
+use Rattle.std.proofs.lemmas.Bool.{and_parts}
 use Rattle.arj_base.specs.Rows.{Row}
 use Rattle.arj_base.specs.Uid.{object}
-use Rattle.arj_model.specs.Serial.{Values}
 use Rattle.arj_model.specs.Table.{table}
-use Rattle.arj_protocol.specs.Words.{Body}
-use Rattle.arj_protocol.specs.Effect.{Disk, Effect}
+use Rattle.arj_protocol.specs.Words.{Body, Header, Line}
+use Rattle.arj_protocol.specs.Words.body
+use Rattle.arj_protocol.specs.Effect.{Disk, Do, Effect, Look, PutInc, Say, Send, stopped}
 use Rattle.arj_protocol.specs.Laws.{server_rows}
 use Rattle.arj_protocol.specs.Node.{Parts}
 use Rattle.arj_protocol.specs.Says.{AreAll, is_coord_effect}
-use Rattle.arj_protocol.specs.Step.{Node}
+use Rattle.arj_protocol.specs.Step.{Node, parts_in, restart_outs}
+use Rattle.arj_protocol.specs.World.{numbered}
 use Rattle.arj_part_law.specs.Actions.{Action}
-use Rattle.arj_view_law.specs.Seen.{Seen, up}
-use Rattle.arj_view_law.specs.Walks.{Up, Walks}
+use Rattle.arj_view_law.specs.Seen.{Seen, at, down, said, up}
+use Rattle.arj_view_law.specs.Walks.{Up, Walks, halted}
 use Rattle.arj_view_law.proofs.Together.{walks_both, walks_to}
-use Rattle.arj_lock_run_law.specs.Fixed.{AgreesAs, Fixed}
+use Rattle.arj_lock_law.specs.State.{State}
+use Rattle.arj_lock_run_law.specs.Fixed.{Fixed}
 use Rattle.arj_lock_whole_law.specs.Called.{SayOf}
 use Rattle.arj_lock_whole_law.specs.Held.{locks_in, memory_of}
 use Rattle.arj_lock_whole_law.proofs.CalledSays.{calls_commit}
-use Rattle.arj_table_law.specs.Tables.{rows_on}
+use Rattle.arj_table_law.specs.Tables.{rows_on, up_of}
 use Rattle.arj_held_law.proofs.Calling.{answers_call}
 use Rattle.arj_held_law.proofs.Keeping.{Shown}
-use Rattle.arj_held_law.proofs.Lines.{itself}
-use Rattle.arj_held_law.proofs.Marks.{Guard}
-use Rattle.arj_held_law.proofs.OnLines.{From, LocksAlong, Stop, Trace, end_along, end_unanswered, stop_along, stop_unanswered}
+use Rattle.arj_held_law.proofs.Lines.{itself, never, since_last, ups_on}
+use Rattle.arj_held_law.proofs.Marks.{Guard, guard_less}
+use Rattle.arj_held_law.proofs.OnLines.{Onward, Still, Stop, Trace, end_onward, end_unanswered, next_onward, stop_onward, stop_unanswered}
 use Rattle.arj_held_law.proofs.Points.{quiet_answers, quiet_commits}
-use Rattle.arj_held_law.proofs.Says.{All}
+use Rattle.arj_held_law.proofs.Running.{behind_three, restart_of}
+use Rattle.arj_held_law.proofs.Says.{All, says}
 use Rattle.arj_held_law.proofs.Sorts.{is_of}
-use Rattle.arj_held_law.proofs.Traces.{Rem, rem_coord, trace_walk, traces_first}
+use Rattle.arj_held_law.proofs.Traces.{Rem, Stopped, Traced, Traces, rem_coord, stopped_from, trace_walk, traces_first}
 
 -- two walks, and what they give together
 pub together : (F S A : Seen → Type 0) (T : Seen → Type 0) (e k : ℕ) (outs : List Effect) (v : Parts) (d : Disk) (N : Seen) → ((L : Seen) → F L → S L → A L) → ((c : Disk) (L : Seen) → F (up k c v L) → T L → A (up k c v L)) → Walks F e k outs (Up F k v) d N → Walks S e k outs (λ c L. T L) d N → Walks A e k outs (Up A k v) d N
 together F S A T e k outs v d N stop end one two = walks_to (λ L. F L × S L) A e k outs (λ c L. Up F k v c L × T L) (Up A k v) d N (λ L h. stop L h.0 h.1) (λ c L h. end c L h.0 h.1) (walks_both F S e k outs (Up F k v) (λ c L. T L) d N one two)
 
-module _ (values : Values) (x : ℕ) (R : List Action → Seen → Type 0) (first event : ℕ) (M : Seen) (e k : ℕ) (d : Disk) (t v : Parts) (outs : List Effect) (showing : Shown first event (up k d t M)) (z : LocksAlong values x R first event (up k d t M))
+module _ (Apt : Fixed → Type 0) (x : ℕ) (R : Fixed → List Action → State → Seen → Type 0) (first event : ℕ) (M : Seen) (e k : ℕ) (d : Disk) (t v : Parts) (outs : List Effect) (showing : Shown first event (up k d t M))
     (N : Seen) (same_lines : N.lines ≡ M.lines) (same_nodes : N.nodes ≡ M.nodes) (own : AreAll is_coord_effect outs) (of : All (is_of k) outs) where
   abbrev Here : Seen
   Here = up k d t M
@@ -50,12 +54,10 @@ module _ (values : Values) (x : ℕ) (R : List Action → Seen → Type 0) (firs
   locks_are = ap (λ b. locks_in x (memory_of (if b then Some (record { number = k; disk = d; live = Some t }) else M.nodes k))) (itself k)
 
   -- what the coordinator does, where it calls no commit
-  pub coord_along : (begun : List Action) (wider : (a : Action) → Contains z.0 a → Contains begun a) (less : (f : Fixed) → AgreesAs values f x begun M.sent → AgreesAs values f x z.0 M.sent) → v.server ≡ t.server → AllByRecursion (SayOf (λ (b : Body). calls_commit b ≡ false)) outs
-      → Walks (From values x R first event Here showing z begun wider less e) e k outs (Up (From values x R first event Here showing z begun wider less e) k v) d N → Walks (LocksAlong values x R first event) e k outs (Up (LocksAlong values x R first event) k v) d N
-  coord_along begun wider less server none walk = together (From values x R first event Here showing z begun wider less e) (Stop values x R first event Here showing z begun wider less e k calls_commit quiet_commits refl Ok) (LocksAlong values x R first event) (Trace values x R first event Here showing z begun wider less e k calls_commit quiet_commits refl Ok) e k outs v d N
-      (stop_along values x R first event Here showing z begun wider less e k calls_commit quiet_commits refl Ok (λ b is. is))
-      (λ c L y tr. end_along values x R first event Here showing z begun wider less e k calls_commit quiet_commits refl Ok v c L tr (λ b is. is) (λ rows is. is) y)
-      walk
+  pub coord_along : v.server ≡ t.server → AllByRecursion (SayOf (λ (b : Body). calls_commit b ≡ false)) outs → Walks (Onward Apt x R first event Here) e k outs (Up (Onward Apt x R first event Here) k v) d N
+  coord_along server none = walks_to (Stop Apt x R first event Here showing e k calls_commit quiet_commits refl Ok) (Onward Apt x R first event Here) e k outs (λ c L. Trace Apt x R first event Here showing e k calls_commit quiet_commits refl Ok L) (Up (Onward Apt x R first event Here) k v) d N
+      (stop_onward Apt x R first event Here showing e k calls_commit quiet_commits refl Ok (λ b is. is))
+      (λ c L tr. end_onward Apt x R first event Here showing e k calls_commit quiet_commits refl Ok v c L tr (λ b is. is) (λ rows is. is))
       (trace_walk first event e k x M.lines Here.nodes calls_commit quiet_commits refl Ok showing.long outs d N of none
       (subst (λ ls. Rem first event e k x Ok outs ls) (sym same_lines) (rem_coord first event e k x Ok outs M.lines (server_rows x v.server) own now showing.long refl))
       (traces_first first event e k x M.lines Here.nodes calls_commit quiet_commits refl Ok showing.long N same_lines others_first now))
@@ -66,22 +68,98 @@ module _ (values : Values) (x : ℕ) (R : List Action → Seen → Type 0) (firs
       now : Guard event first M.lines → rows_on (object x) (table k M.lines) ≡ server_rows x v.server
       now g = locks_now g ∙ locks_are ∙ ap (server_rows x) (sym server)
 
-  abbrev same_wider : (a : Action) → Contains z.0 a → Contains z.0 a
-  same_wider a i = i
-
-  abbrev same_less : (f : Fixed) → AgreesAs values f x z.0 M.sent → AgreesAs values f x z.0 M.sent
-  same_less f a = a
-
   abbrev Same : List Row → Type 0
   Same rows = rows ≡ locks_in x (memory_of (Here.nodes k))
 
+  abbrev pub StillHere : Seen → Type 0
+  StillHere L = Still Apt x R first event Here L
+
   -- and where it answers no call
-  pub coord_unanswered : AllByRecursion (SayOf (λ (b : Body). answers_call b ≡ false)) outs
-      → Walks (From values x R first event Here showing z z.0 same_wider same_less e) e k outs (Up (From values x R first event Here showing z z.0 same_wider same_less e) k v) d N → Walks (LocksAlong values x R first event) e k outs (Up (LocksAlong values x R first event) k v) d N
-  coord_unanswered none walk = together (From values x R first event Here showing z z.0 same_wider same_less e) (Stop values x R first event Here showing z z.0 same_wider same_less e k answers_call quiet_answers refl Same) (LocksAlong values x R first event) (Trace values x R first event Here showing z z.0 same_wider same_less e k answers_call quiet_answers refl Same) e k outs v d N
-      (stop_unanswered values x R first event Here showing z e k answers_call quiet_answers refl (λ b is. is))
-      (λ c L y tr. end_unanswered values x R first event Here showing z e k answers_call quiet_answers refl (λ b is. is) v c L tr y)
+  pub coord_unanswered : AllByRecursion (SayOf (λ (b : Body). answers_call b ≡ false)) outs → Walks StillHere e k outs (Up StillHere k v) d N → Walks (Onward Apt x R first event Here) e k outs (Up (Onward Apt x R first event Here) k v) d N
+  coord_unanswered none walk = together StillHere (Stop Apt x R first event Here showing e k answers_call quiet_answers refl Same) (Onward Apt x R first event Here) (Trace Apt x R first event Here showing e k answers_call quiet_answers refl Same) e k outs v d N
+      (stop_unanswered Apt x R first event Here showing e k answers_call quiet_answers refl (λ b is. is))
+      (λ c L still tr. end_unanswered Apt x R first event Here showing e k answers_call quiet_answers refl (λ b is. is) v c L tr still)
       walk
       (trace_walk first event e k x M.lines Here.nodes answers_call quiet_answers refl Same showing.long outs d N of none
       (subst (λ ls. Rem first event e k x Same outs ls) (sym same_lines) (rem_coord first event e k x Same outs M.lines (locks_in x (memory_of (Here.nodes k))) own locks_now showing.long refl))
       (traces_first first event e k x M.lines Here.nodes answers_call quiet_answers refl Same showing.long N same_lines others_first locks_now))
+
+-- ---- stops, and restarts
+
+-- whatever rows there are
+abbrev pub AnyRows : List Row → Type 0
+AnyRows rows = ⊤
+
+-- such they are behind all lines
+rem_any : (first event e k x : ℕ) (outs : List Effect) (ls : List Line) → Rem first event e k x AnyRows outs ls
+rem_any first event e k x [] ls = tt
+rem_any first event e k x (Say b ∷ es) ls = ((λ g. tt), rem_any first event e k x es (ls ++ numbered e (b ∷ [])))
+rem_any first event e k x (Send to m ∷ es) ls = λ more quiet. rem_any first event e k x es (ls ++ numbered e more)
+rem_any first event e k x (Do w ∷ es) ls = rem_any first event e k x es ls
+
+-- lines of no sort that is asked for
+abbrev none_such : Body → Bool
+none_such b = false
+
+none_such_said : (outs : List Effect) → AllByRecursion (SayOf (λ (b : Body). none_such b ≡ false)) outs
+none_such_said [] = tt
+none_such_said (Say b ∷ es) = (refl, none_such_said es)
+none_such_said (Send to m ∷ es) = (tt, none_such_said es)
+none_such_said (Do w ∷ es) = (tt, none_such_said es)
+
+module _ (Apt : Fixed → Type 0) (x : ℕ) (R : Fixed → List Action → State → Seen → Type 0) (first event : ℕ) (M : Seen) (e k : ℕ) (d : Disk) (live : Option Parts) (showing : Shown first event (at k d live M)) where
+  abbrev There : Seen
+  There = at k d live M
+
+  -- a node stops, with whatever disk
+  pub stop_along : (c : Disk) → Onward Apt x R first event There (halted e k c M)
+  stop_along c = stop_onward Apt x R first event There showing e k calls_commit quiet_commits refl AnyRows (λ b is. is) (halted e k c M)
+      (stopped_from first event e k x M.lines There.nodes calls_commit quiet_commits refl AnyRows showing.long c M
+      (traces_first first event e k x M.lines There.nodes calls_commit quiet_commits refl AnyRows showing.long M refl (λ n off. ap (λ b. memory_of (if b then Some (record { number = k; disk = d; live = live }) else M.nodes n)) (sym off)) (λ g. tt)))
+
+-- A node restarts: behind the line of its start no node has started in the event, or none is to be shown.
+module _ (Apt : Fixed → Type 0) (x : ℕ) (R : Fixed → List Action → State → Seen → Type 0) (hd : Header) (first event : ℕ) (M : Seen) (e k : ℕ) (d : Disk) (showing : Shown first event (down k d M)) where
+  abbrev Down : Seen
+  Down = down k d M
+
+  abbrev start : Body
+  start = body.Up k (d.inc + 1)
+
+  abbrev base : List Line
+  base = M.lines ++ numbered e (start ∷ [])
+
+  no_guard : Guard event first base → ⊥
+  no_guard g =
+      let same : e ≡ event = since_last event first e start M.lines showing.long g.0 in
+      never (event == event) (itself event)
+      ((λ i. event == sym same i) ∙ (λ i. event == (if sym (itself k) i then e else up_of k M.lines)) ∙ (λ i. event == sym (ups_on k 0 M.lines (numbered e (start ∷ []))) i) ∙ g.1 k)
+
+  base_long : first ≤ length base
+  base_long = let q = length-append M.lines (numbered e (start ∷ [])) in let long = showing.long in omega (arith, q, long)
+
+  -- behind it
+  from_start : (N : Seen) (more : List Body) → N.lines ≡ base ++ numbered e more → Onward Apt x R first event Down N
+  from_start N more are = next_onward Apt x R first event Down showing e N (start ∷ more) (are ∙ append_assoc M.lines (numbered e (start ∷ [])) (numbered e more))
+      (λ f begun S alike names agrees sees tied before guard has p le within. absurd (no_guard (guard_less event first e more base base_long (subst (Guard event first) are guard))))
+
+  abbrev rest : List Effect
+  rest = behind_three (restart_outs hd k (d.inc + 1) d)
+
+  abbrev T : Seen → Type 0
+  T N = Traces first event e k x base M.nodes none_such (λ b is. refl) refl AnyRows base_long N
+
+  abbrev Started : Seen → Type 0
+  Started N = Traced first event e k x base M.nodes none_such (λ b is. refl) refl N
+
+  pub restart_along : Walks (Onward Apt x R first event Down) e k (restart_outs hd k (d.inc + 1) d) (Up (Onward Apt x R first event Down) k (parts_in k (d.inc + 1) d)) d M
+  restart_along = (
+    (λ how. stop_along Apt x R first event M e k d None showing (stopped how Look d)),
+    (
+      (λ how. stop_along Apt x R first event M e k d None showing (stopped how (PutInc (d.inc + 1)) d)),
+      walks_to (λ N. Stopped first event e k x base M.nodes none_such (λ b is. refl) refl AnyRows base_long N) (Onward Apt x R first event Down) e k rest (λ c N. T N) (Up (Onward Apt x R first event Down) k (parts_in k (d.inc + 1) d)) (record d { inc = d.inc + 1 }) (said e (start ∷ []) M)
+          (λ N s. let r : Started N = s.traced in from_start N r.more r.lines)
+          (λ c N s. let r : Started N = s.traced in from_start (up k c (parts_in k (d.inc + 1) d) N) r.more r.lines)
+          (trace_walk first event e k x base M.nodes none_such (λ b is. refl) refl AnyRows base_long rest (record d { inc = d.inc + 1 }) (said e (start ∷ []) M) (and_parts (k == k) (list_all (says (is_of k)) rest) (restart_of hd first event k (d.inc + 1) d)).1 (none_such_said rest) (rem_any first event e k x rest base)
+          (traces_first first event e k x base M.nodes none_such (λ b is. refl) refl AnyRows base_long (said e (start ∷ []) M) refl (λ n off. refl) (λ g. tt))),
+    ),
+  )

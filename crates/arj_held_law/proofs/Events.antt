@@ -100,13 +100,14 @@ module _ (w : World) (n : ℕ) (d : Disk) (there : at_place n w.nodes ≡ Some (
 abbrev pub Base : Seen → Type 0
 Base M = (begun : List Action) × Known begun M
 
+-- it is known, tables show locks, and no node started in an event to come
 pub record IsShown (hd : Header) (w : World) : Type 0 where
   pub known : Holds hd Base w
   pub shown : AreShown w
   pub early : (j : ℕ) → up_of j w.lines ≤ w.event
 
 -- a number that comes later
-later_off : (u e : ℕ) → u ≤ e → (e + 1 == u) ≡ false
+pub later_off : (u e : ℕ) → u ≤ e → (e + 1 == u) ≡ false
 later_off u e le = by (e + 1 == u) refl
   where
     by : (b : Bool) → (e + 1 == u) ≡ b → b ≡ false
@@ -267,7 +268,7 @@ module _ (hd : Header) (w : World) (h : IsShown hd w) where
       by true f = (h.shown, h.early)
       by false f = unless_shown e.event e.arm (first_reason (reasons e.event w)) refl f
 
-  event_shown : (e : Asked) → IsShown hd (run_event e w)
+  pub event_shown : (e : Asked) → IsShown hd (run_event e w)
   event_shown e =
       let start : Holds hd (Showing hd (length w.lines) N) w = record { sent = base.sent; stands = base.stands; holds = (base.holds.0, base.holds.1, record { long = omega arith; shown = λ since n off. h.shown n }) } in
       let z = event_asked hd (Showing hd (length w.lines) N) (showing_kept hd (length w.lines) N ⊤ tt) e w start in
@@ -300,12 +301,16 @@ first_shown hd n = by (at_place n (format hd).nodes) refl
     by None is = record { server = λ x. refl; naming = λ x one. refl }
     by (Some a) is = subst (λ (z : Node). ShowsLocks n [] z.live) (first_at hd n a is) (record { server = λ x. refl; naming = λ x one. sym (named x (n == 1)) })
 
-pub tables_show : TablesShowLocks
-tables_show hd es = all_shown hd es (format hd) (record {
-  known = let z = first_asked hd (Showing hd 0 0) (showing_kept hd 0 0 (Showing hd 0 0 (see [] (format hd))) at_first) in record { sent = z.sent; stands = z.stands; holds = (z.holds.0, z.holds.1) };
+-- so it begins
+pub first_showing : (hd : Header) (event : ℕ) → Showing hd 0 event (see [] (format hd))
+first_showing hd event = ([], (first_pathed hd, (let f = facts_of hd in f.first)), record { long = omega arith; shown = λ since n off. first_shown hd n })
+
+pub first_is_shown : (hd : Header) → IsShown hd (format hd)
+first_is_shown hd = record {
+  known = let z = first_asked hd (Showing hd 0 0) (showing_kept hd 0 0 (Showing hd 0 0 (see [] (format hd))) (first_showing hd 0)) in record { sent = z.sent; stands = z.stands; holds = (z.holds.0, z.holds.1) };
   shown = first_shown hd;
   early = λ j. omega arith;
-})
-  where
-    at_first : Showing hd 0 0 (see [] (format hd))
-    at_first = ([], (first_pathed hd, (let f = facts_of hd in f.first)), record { long = omega arith; shown = λ since n off. first_shown hd n })
+}
+
+pub tables_show : TablesShowLocks
+tables_show hd es = all_shown hd es (format hd) (first_is_shown hd)

@@ -15,6 +15,7 @@ pub mod Machine
 pub mod Prefixes
 pub mod Calling
 pub mod Marks
+pub mod Acted
 pub mod Places
 pub mod Placing
 pub mod Fronts
@@ -24,3 +25,5 @@ pub mod OnLines
 pub mod AlongSteps
 pub mod AlongMessages
 pub mod RestartPlaces
+pub mod AlongKept
+pub mod AlongEvents

@@ -1,5 +1,5 @@
 -- Places of a journal at which the lock machine was seen, with rows of the tables there.
-use Rattle.std.proofs.Common.{◌≡◌, ◌⊎◌, ◌≤◌, ◌++◌, ℕ, List, [], ◌∷◌, Bool, true, Option, Some, None, length, take, refl, sym, ap, subst, inl, inr, arith, Contains}
+use Rattle.std.proofs.Common.{◌≡◌, ◌⊎◌, ◌≤◌, ◌∙◌, ◌++◌, ℕ, List, [], ◌∷◌, Bool, true, Option, Some, None, length, take, refl, sym, ap, subst, inl, inr, arith, Contains}
 use Rattle.std.specs.List.{list_any}
 use Rattle.arj_base.specs.Rows.{Row}
 use Rattle.arj_base.specs.Uid.{object}
@@ -27,6 +27,7 @@ use Rattle.arj_lock_run_law.specs.Sees.{SeesDown, SeesLocks, SeesMemory}
 use Rattle.arj_lock_run_law.specs.Tied.{AreTied}
 use Rattle.arj_lock_whole_law.specs.Held.{locks_in, memory_of}
 use Rattle.arj_lock_whole_law.proofs.CalledSays.{calls_commit}
+use Rattle.arj_held_law.proofs.Acted.{AreWider}
 use Rattle.arj_held_law.proofs.Calling.{answers_call}
 use Rattle.arj_held_law.proofs.Marks.{NoneBetween, none_more, take_front}
 
@@ -49,8 +50,31 @@ pub record IsPlaced (f : Fixed) (x : ℕ) (begun : List Action) (S : State) (lin
   pub known : (n : ℕ) (r : Row) → Contains (rows n) r → (a : Action) × Contains begun a × (r.holder ≡ uids_of a.path)
   pub shown : (n : ℕ) (test : Row → Bool) → list_any test (rows n) ≡ true → list_any test (table n (take p lines)) ≡ true
 
--- so it stays
-pub placed_later : (f : Fixed) (x : ℕ) (begun more : List Action) (S T : State) (lines behind : List Line) (p : ℕ) → ((a : Action) → Contains begun a → Contains more a) → Run S T → p ≤ length lines → IsPlaced f x begun S lines p → IsPlaced f x more T (lines ++ behind) p
+known_wider : (begun more : List Action) → AreWider begun more → (r : Row) → ((a : Action) × Contains begun a × (r.holder ≡ uids_of a.path)) → (a : Action) × Contains more a × (r.holder ≡ uids_of a.path)
+known_wider begun more wider r k = let w = wider k.0 k.1 in (w.0, w.1, k.2 ∙ w.2)
+
+-- so it is with more actions
+pub placed_wider : (f : Fixed) (x : ℕ) (begun more : List Action) (S : State) (lines : List Line) (p : ℕ) → AreWider begun more → IsPlaced f x begun S lines p → IsPlaced f x more S lines p
+placed_wider f x begun more S lines p wider h = record {
+  front = h.front;
+  within = h.within;
+  state = h.state;
+  run = h.run;
+  behind = h.behind;
+  tied = h.tied;
+  place = h.place;
+  servers = h.servers;
+  to = h.to;
+  incs = h.incs;
+  actives = h.actives;
+  rows = h.rows;
+  sees = h.sees;
+  known = λ n r i. known_wider begun more wider r (h.known n r i);
+  shown = h.shown;
+}
+
+-- and so it stays
+pub placed_later : (f : Fixed) (x : ℕ) (begun more : List Action) (S T : State) (lines behind : List Line) (p : ℕ) → AreWider begun more → Run S T → p ≤ length lines → IsPlaced f x begun S lines p → IsPlaced f x more T (lines ++ behind) p
 placed_later f x begun more S T lines behind p wider run le h = record {
   front = h.front;
   within = longer lines behind h.front h.within;
@@ -65,7 +89,7 @@ placed_later f x begun more S T lines behind p wider run le h = record {
   actives = h.actives;
   rows = h.rows;
   sees = h.sees;
-  known = λ n r i. let k = h.known n r i in (k.0, wider k.0 k.1, k.2);
+  known = λ n r i. known_wider begun more wider r (h.known n r i);
   shown = λ n test any. subst (λ ls. list_any test (table n ls) ≡ true) (sym (take_front lines behind p le)) (h.shown n test any);
 }
   where

@@ -43,7 +43,7 @@ abbrev pub behind_three : List Effect → List Effect
 behind_three (a ∷ b ∷ c ∷ es) = es
 behind_three es = es
 
-node_there : (M : Seen) (k : ℕ) (n : Node) → (if k == k then Some n else M.nodes k) ≡ Some n
+pub node_there : (M : Seen) (k : ℕ) (n : Node) → (if k == k then Some n else M.nodes k) ≡ Some n
 node_there M k n = λ i. if itself k i then Some n else M.nodes k
 
 module _ (hd : Header) (first event : ℕ) where
@@ -62,10 +62,10 @@ module _ (hd : Header) (first event : ℕ) where
       walks_to (λ Z. Known begun Z × Shown first event Z) Showing e k outs (λ x Z. (Up (IsPathedOf begun) k v x Z × Up (Facts begun) k v x Z) × Up (Shown first event) k v x Z) (Up Showing k v) d N (λ Z h. (begun, h.0, h.1)) (λ x Z h. (begun, h.0, h.1)) abc
 
   -- the journal's actions are those that were begun
-  alike_of : (begun : List Action) (M : Seen) → IsPathedOf begun M → AreAlike begun (acts M.lines)
+  pub alike_of : (begun : List Action) (M : Seen) → IsPathedOf begun M → AreAlike begun (acts M.lines)
   alike_of begun M h = let w = h.1.2 in subst (AreAlike begun) (its_acts M.lines w.right) h.1.1
 
-  coord_all : (k : ℕ) (outs : List Effect) → AreAll is_coord_effect outs → All (is_of k) outs
+  pub coord_all : (k : ℕ) (outs : List Effect) → AreAll is_coord_effect outs → All (is_of k) outs
   coord_all k outs = kind_says (is_of k) is_coord_effect is_coord_line (λ b. refl) (coord_of k) outs
 
   -- what a restart says is of its node

@@ -29,15 +29,15 @@ abbrev pub HasLines : Seen → Type 0
 HasLines M = M.lines ≡ [] → ⊥
 
 -- there are more lines, and the labels as they are
-record IsGrown (M N : Seen) : Type 0 where
-  more : List Line
-  lines : N.lines ≡ M.lines ++ more
-  labels : N.labels ≡ M.labels
+pub record IsGrown (M N : Seen) : Type 0 where
+  pub more : List Line
+  pub lines : N.lines ≡ M.lines ++ more
+  pub labels : N.labels ≡ M.labels
 
-grown_said : (e : ℕ) (bs : List Body) (M N : Seen) → IsGrown M N → IsGrown M (said e bs N)
+pub grown_said : (e : ℕ) (bs : List Body) (M N : Seen) → IsGrown M N → IsGrown M (said e bs N)
 grown_said e bs M N g = record { more = g.more ++ numbered e bs; lines = ap (λ ls. ls ++ numbered e bs) g.lines ∙ append_assoc M.lines g.more (numbered e bs); labels = g.labels }
 
-as_it_is : (M : Seen) → IsGrown M M
+pub as_it_is : (M : Seen) → IsGrown M M
 as_it_is M = record { more = []; lines = nothing_more M.lines; labels = refl }
 
 -- so it is along a walk
@@ -56,8 +56,20 @@ grown_walk M e k v (Send to m ∷ es) d N g = λ more quiet.
 abbrev pub AreFew : Seen → Type 0
 AreFew M = HasFewBindings M.lines × HasFewLabels M
 
-few_first : (M N : Seen) → IsGrown M N → AreFew N → AreFew M
+pub few_first : (M N : Seen) → IsGrown M N → AreFew N → AreFew M
 few_first M N g few = (few_before M.lines g.more (subst HasFewBindings g.lines few.0), subst (λ ls. length ls ≤ most_labels) g.labels few.1)
+
+-- so it is where so few are, along a walk from where they are
+pub few_walk : (P : Seen → Type 0) (M : Seen) (e k : ℕ) (outs : List Effect) (v : Parts) (d : Disk) (N : Seen) → IsGrown M N → (AreFew M → Walks P e k outs (Up P k v) d N) → Walks (λ Z. AreFew Z → P Z) e k outs (Up (λ Z. AreFew Z → P Z) k v) d N
+few_walk P M e k outs v d N g each =
+    let F : Type 0 = AreFew M in
+    walks_to (λ Z. IsGrown M Z × (F → P Z)) (λ Z. AreFew Z → P Z) e k outs (λ c Z. Up (IsGrown M) k v c Z × (F → Up P k v c Z)) (Up (λ Z. AreFew Z → P Z) k v) d N
+    (λ Z h few. h.1 (few_first M Z h.0 few)) (λ c Z h few. h.1 (few_first M (up k c v Z) h.0 few))
+    (walks_both (IsGrown M) (λ Z. F → P Z) e k outs (Up (IsGrown M) k v) (λ c Z. F → Up P k v c Z) d N (grown_walk M e k v outs d N g) (walks_where F P e k outs (Up P k v) d N each))
+
+-- a new label leaves fewer before it
+pub fewer_labels : (a b : ℕ) → b ≡ suc a → b ≤ most_labels → a ≤ most_labels
+fewer_labels a b is le = omega (arith, is, le)
 
 lines_then : (M N : Seen) → HasLines M → IsGrown M N → HasLines N
 lines_then M N has g empty = has (front M.lines g.more (sym g.lines ∙ empty))
@@ -78,11 +90,10 @@ module _ (hd : Header) (C P : Seen → Type 0) (calm : Keeps hd C) (know : (M : 
 
   walk : (M : Seen) → HasLines M → (e k : ℕ) (outs : List Effect) (v : Parts) (d : Disk) (N : Seen) → IsGrown M N → Walks C e k outs (Up C k v) d N → (AreFew M → Walks P e k outs (Up P k v) d N) → Walks (GoesOn C P) e k outs (Up (GoesOn C P) k v) d N
   walk M has e k outs v d N g calms each =
-      let F : Type 0 = AreFew M in
-      walks_to (λ Z. (IsGrown M Z × C Z) × (F → P Z)) (GoesOn C P) e k outs (λ c Z. (Up (IsGrown M) k v c Z × Up C k v c Z) × (F → Up P k v c Z)) (Up (GoesOn C P) k v) d N
-      (λ Z h. goes M Z has h.0.0 h.0.1 h.1) (λ c Z h. goes M (up k c v Z) has h.0.0 h.0.1 h.1)
-      (walks_both (λ Z. IsGrown M Z × C Z) (λ Z. F → P Z) e k outs (λ c Z. Up (IsGrown M) k v c Z × Up C k v c Z) (λ c Z. F → Up P k v c Z) d N
-      (walks_both (IsGrown M) C e k outs (Up (IsGrown M) k v) (Up C k v) d N (grown_walk M e k v outs d N g) calms) (walks_where F P e k outs (Up P k v) d N each))
+      walks_to (λ Z. (IsGrown M Z × C Z) × (AreFew Z → P Z)) (GoesOn C P) e k outs (λ c Z. (Up (IsGrown M) k v c Z × Up C k v c Z) × Up (λ Y. AreFew Y → P Y) k v c Z) (Up (GoesOn C P) k v) d N
+      (λ Z h. ((h.0.1, lines_then M Z has h.0.0), h.1)) (λ c Z h. ((h.0.1, lines_then M (up k c v Z) has h.0.0), h.1))
+      (walks_both (λ Z. IsGrown M Z × C Z) (λ Z. AreFew Z → P Z) e k outs (λ c Z. Up (IsGrown M) k v c Z × Up C k v c Z) (Up (λ Y. AreFew Y → P Y) k v) d N
+      (walks_both (IsGrown M) C e k outs (Up (IsGrown M) k v) (Up C k v) d N (grown_walk M e k v outs d N g) calms) (few_walk P M e k outs v d N g each))
 
   -- what is known where so few are
   knows : (M : Seen) → GoesOn C P M → AreFew M → KnowsScript M × HasLines M
@@ -98,7 +109,7 @@ module _ (hd : Header) (C P : Seen → Type 0) (calm : Keeps hd C) (know : (M : 
         let did = begin_action l how parent (parent_of parent t.coord) t.coord in
         let N = given l (record { node = k; serial = is_serial_kind how }) M in
         walk N h.0.1 e k did.outs (with_coord t did.part) d N (as_it_is N) (calm.begin e k d t l how parent M new may free h.0.0) (λ few.
-        let less : AreFew (up k d t M) = (few.0, fewer (length M.labels) (length N.labels) (one_more l (record { node = k; serial = is_serial_kind how }) M.labels new) few.1) in
+        let less : AreFew (up k d t M) = (few.0, fewer_labels (length M.labels) (length N.labels) (one_more l (record { node = k; serial = is_serial_kind how }) M.labels new) few.1) in
         keeps.begin e k d t l how parent M new may free (knows (up k d t M) h less) (h.1 less));
     tick = λ e k d t M h. walk (up k d t M) h.0.1 e k (tick_outs (record { number = k; disk = d; live = Some t }) t) (with_coord t (let q = again_all t.coord.doings t.coord in q.part)) d M (here_up k d t M) (calm.tick e k d t M h.0.0) (λ few. keeps.tick e k d t M (knows (up k d t M) h few) (h.1 few));
     restart = λ e k d M h. walk (down k d M) h.0.1 e k (restart_outs hd k (d.inc + 1) d) (parts_in k (d.inc + 1) d) d M (here_down k d M) (calm.restart e k d M h.0.0) (λ few. keeps.restart e k d M (knows (down k d M) h few) (h.1 few));
@@ -113,6 +124,3 @@ module _ (hd : Header) (C P : Seen → Type 0) (calm : Keeps hd C) (know : (M : 
 
       here : (k : ℕ) (d : Disk) (live : Option Parts) (M : Seen) → IsGrown (at k d live M) (down k d M)
       here k d live M = record { more = []; lines = nothing_more M.lines; labels = refl }
-
-      fewer : (a b : ℕ) → b ≡ suc a → b ≤ most_labels → a ≤ most_labels
-      fewer a b is le = omega (arith, is, le)

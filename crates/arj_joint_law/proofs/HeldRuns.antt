@@ -116,7 +116,7 @@ module _ (hd : Header) (x : ℕ) (form : HeaderInForm hd) (there : is_some (obje
   abbrev pub Calm : Seen → Type 0
   Calm M = WhileFew IsGood M
 
-  calm : Keeps hd Calm
+  pub calm : Keeps hd Calm
   calm = few_go hd IsGood (keeps_given hd KnowsFew IsGood (parts_good hd))
 
   pub know : (M : Seen) → Calm M → HasFewBindings M.lines → KnowsFew M
