@@ -38,7 +38,7 @@ pub apart_commit : (b : Body) → is_apart b ≡ false → NoCommit b
 apart_commit (body.Committing l) none = absurd (cc none)
 apart_commit b none = refl
 
-apart_answer : (b : Body) → is_apart b ≡ false → NoAnswer b
+pub apart_answer : (b : Body) → is_apart b ≡ false → NoAnswer b
 apart_answer (body.Ok l x o a) none = absurd (cc none)
 apart_answer b none = refl
 

@@ -22,15 +22,16 @@ use Rattle.arj_lock_run_law.specs.Tied.{AreTied}
 use Rattle.arj_lock_whole_law.specs.Held.{locks_in, memory_of}
 use Rattle.arj_lock_whole_law.proofs.CalledSays.{calls_commit}
 use Rattle.arj_held_law.specs.Shown.{AreShown}
+use Rattle.arj_held_law.proofs.Calling.{answers_call}
 use Rattle.arj_held_law.proofs.Events.{IsShown, its_restart}
 use Rattle.arj_held_law.proofs.Lines.{next_off, quiet_of}
 use Rattle.arj_held_law.proofs.Places.{IsPlaced}
-use Rattle.arj_held_law.proofs.Points.{from_behind, never_row, other_shown, quiet_commits}
+use Rattle.arj_held_law.proofs.Points.{from_behind, never_row, other_shown, quiet_answers, quiet_commits}
 use Rattle.arj_held_law.proofs.Restarts.{IsMute, Restarts, limited_restarts}
 use Rattle.arj_held_law.proofs.Sorts.{is_of}
 use Rattle.arj_held_law.proofs.Writes.{node_event}
 
--- What an event by which this node was to restart leaves: lines of the node alone, in which no commit is called; what locks on objects it has then are rows of its
+-- What an event by which this node was to restart leaves: lines of the node alone, in which no commit is called and no call answered; what locks on objects it has then are rows of its
 -- table from before the first of them on; and the other nodes are as they were.
 pub record Lately (n e : ℕ) (w v : World) : Type 0 where
   pub said : List Body
@@ -56,12 +57,16 @@ none_called : (n : ℕ) (bs : List Body) → AllByRecursion (IsMute n) bs → Al
 none_called n [] all = tt
 none_called n (b ∷ bs) all = (all.0.1, none_called n bs all.1)
 
+pub none_answered : (n : ℕ) (bs : List Body) → AllByRecursion (IsMute n) bs → AllByRecursion (λ (b : Body). answers_call b ≡ false) bs
+none_answered n [] all = tt
+none_answered n (b ∷ bs) all = (all.0.2, none_answered n bs all.1)
+
 quiet_mute : (n : ℕ) (bs : List Body) → list_all (is_of n) bs ≡ true → AreQuiet bs → AllByRecursion (IsMute n) bs
 quiet_mute n [] of quiet = tt
 quiet_mute n (b ∷ bs) of quiet =
     let q = and_parts (is_of n b) (list_all (is_of n) bs) of in
     let r = and_parts (is_quiet_line b) (list_all is_quiet_line bs) quiet in
-    ((q.0, quiet_commits b r.0), quiet_mute n bs q.1 r.1)
+    ((q.0, quiet_commits b r.0, quiet_answers b r.0), quiet_mute n bs q.1 r.1)
 
 -- where nobody looks
 quiet_lately : (n e : ℕ) (w v : World) → AreShown w → (bs : List Body) → AreQuiet bs → v.lines ≡ w.lines ++ numbered e bs → v.nodes ≡ w.nodes → Lately n e w v

@@ -1,15 +1,15 @@
--- A restart: its lines are the node's own and call no commit, and it leaves no lock on an object at the node.
+-- A restart: its lines are the node's own, call no commit and answer no call, and it leaves no lock on an object at the node.
 use Rattle.std.proofs.Common.{◌≡◌, ◌∙◌, ◌==◌, ◌++◌, ◌+◌, ◌-◌, ℕ, zero, suc, List, [], ◌∷◌, Bool, true, false, cond, length, Option, Some, None, refl, sym, ap, subst, append_assoc, eq-eqb}
 use Rattle.std.specs.Prelude.{if◌then◌else◌, is_some, nat_le, nat_lt}
 use Rattle.std.specs.List.{AllByRecursion, list_all}
 use Rattle.std.proofs.lemmas.Bool.{and_parts}
 use Rattle.std.proofs.lemmas.List.{map-append}
 use Rattle.arj_base.specs.Uid.{nobody, uid_eq}
-use Rattle.arj_protocol.specs.Words.{Body, End, Message, Uid}
+use Rattle.arj_protocol.specs.Words.{Asked, Body, End, Message, Uid}
 use Rattle.arj_protocol.specs.Words.body
 use Rattle.arj_protocol.specs.Words.message
 use Rattle.arj_protocol.specs.Words.which
-use Rattle.arj_protocol.specs.Ask.{frame_kind, last_end}
+use Rattle.arj_protocol.specs.Ask.{Reply, answers, frame_kind, last_end}
 use Rattle.arj_protocol.specs.Confirm.{recovered_naming}
 use Rattle.arj_protocol.specs.Effect.{Disk, Do, Effect, Intent, Say, Send, Stop, worked}
 use Rattle.arj_protocol.specs.Ending.{acked, answer_query}
@@ -29,8 +29,8 @@ use Rattle.arj_disk_run_law.proofs.Lists.{all_append}
 use Rattle.arj_view_law.proofs.Happens.{place_same}
 use Rattle.arj_lock_whole_law.specs.Called.{SayOf}
 use Rattle.arj_lock_whole_law.specs.Held.{locks_in, memory_of}
-use Rattle.arj_lock_whole_law.proofs.CalledSays.{restart_fine}
-use Rattle.arj_held_law.proofs.Calling.{NoCommit, apart_commit, message_commits}
+use Rattle.arj_lock_whole_law.proofs.CalledSays.{message_fine, restart_fine}
+use Rattle.arj_held_law.proofs.Calling.{NoAnswer, NoCommit, apart_answer, apart_commit, message_commits}
 use Rattle.arj_held_law.proofs.Fronts.{none_told}
 use Rattle.arj_held_law.proofs.Lines.{itself, never}
 use Rattle.arj_held_law.proofs.Messages.{own_lines}
@@ -39,19 +39,26 @@ use Rattle.arj_held_law.proofs.Says.{All, outs_of, says}
 use Rattle.arj_held_law.proofs.Sorts.{is_of}
 use Rattle.arj_held_law.proofs.Telling.{IsTelling, Tells, restart_tells, taken_tells}
 
--- the line is of this node alone, and calls no commit
+-- the line is of this node alone, calls no commit, and answers no call
 abbrev pub IsMute : ℕ → Body → Type 0
-IsMute n b = (is_of n b ≡ true) × NoCommit b
+IsMute n b = (is_of n b ≡ true) × NoCommit b × NoAnswer b
+
+-- what tells, asks or acknowledges is no answer
+no_reply : (m : Message) → IsTelling m → (y : Asked × Reply) → answers m ≡ Some y → ⊥
+no_reply (message.Told m) is y of = cc of
+no_reply (message.Acked m) is y of = cc of
+no_reply (message.Query m) is y of = cc of
+no_reply m is y of = absurd is
 
 module _ (n : ℕ) where
   abbrev Mute : List Effect → Type 0
   Mute outs = AllByRecursion (SayOf (IsMute n)) outs
 
-  both_mute : (es : List Effect) → All (is_of n) es → AllByRecursion (SayOf NoCommit) es → Mute es
-  both_mute [] of none = tt
-  both_mute (Say b ∷ es) of none = let q = and_parts (is_of n b) (list_all (says (is_of n)) es) of in ((q.0, none.0), both_mute es q.1 none.1)
-  both_mute (Send to m ∷ es) of none = (tt, both_mute es of none.1)
-  both_mute (Do w ∷ es) of none = (tt, both_mute es of none.1)
+  all_mute : (es : List Effect) → All (is_of n) es → AllByRecursion (SayOf NoCommit) es → AllByRecursion (SayOf NoAnswer) es → Mute es
+  all_mute [] of calls answers = tt
+  all_mute (Say b ∷ es) of calls answers = let q = and_parts (is_of n b) (list_all (says (is_of n)) es) of in ((q.0, calls.0, answers.0), all_mute es q.1 calls.1 answers.1)
+  all_mute (Send to m ∷ es) of calls answers = (tt, all_mute es of calls.1 answers.1)
+  all_mute (Do w ∷ es) of calls answers = (tt, all_mute es of calls.1 answers.1)
 
   -- naming is at its node, and no object has a copy at the server
   record IsBare (t : Parts) : Type 0 where
@@ -65,8 +72,9 @@ module _ (n : ℕ) where
   FineBy (Took v outs) = Mute outs × IsBare v
 
   module _ (d : Disk) (t : Parts) (bare : IsBare t) (from : ℕ) where
-    took : (m : Message) (v : Parts) (outs : List Effect) → handle n d t from m ≡ Took v outs → Mute outs
-    took m v outs is = both_mute outs (own_lines n d t v bare.place from m outs is) (message_commits n d t v from m outs is)
+    took : (m : Message) → IsTelling m → (v : Parts) (outs : List Effect) → handle n d t from m ≡ Took v outs → Mute outs
+    took m tells v outs is = all_mute outs (own_lines n d t v bare.place from m outs is) (message_commits n d t v from m outs is)
+        (message_fine NoAnswer apart_answer n d t v from m outs is (λ a r q s of found now waits e ends l. absurd (no_reply m tells (a, r) of)) (λ a r q c of found now. absurd (no_reply m tells (a, r) of)))
 
     fine : (m : Message) → IsTelling m → FineBy (handle n d t from m)
     fine (message.Told m) is = told (last_end m.ends) refl
@@ -80,7 +88,7 @@ module _ (n : ℕ) where
         told (Some z) e =
             let o = naming_told z.0 z.1 d.names t.naming in
             let s = server.told n m.ends t.server in (
-              took (message.Told m) (record { server = s.part; naming = o.part; coord = t.coord }) (store_told n z.0 z.1 d.store ++ o.outs ++ s.outs ++ ack_told from z.0 m.ack) (ap (handle_ends n d t from m.ack m.ends) e),
+              took (message.Told m) is (record { server = s.part; naming = o.part; coord = t.coord }) (store_told n z.0 z.1 d.store ++ o.outs ++ s.outs ++ ack_told from z.0 m.ack) (ap (handle_ends n d t from m.ack m.ends) e),
               record { place = names z.0 z.1 t.naming ∙ bare.place; none = λ x. none_told n m.ends t.server x (bare.none x) },
             )
     fine (message.Acked m) is = let r = acked from m.act d.intents t.coord in by r.reply refl
@@ -89,8 +97,8 @@ module _ (n : ℕ) where
         by None e = tt
         by (Some u) e =
             let r = acked from m.act d.intents t.coord in
-            (took (message.Acked m) (with_coord t r.part) r.outs (ap (by_reply (with_coord t r.part) r.outs) e), record { place = bare.place; none = bare.none })
-    fine (message.Query m) is = (took (message.Query m) t (answer_query from m.act d.intents t.coord) refl, bare)
+            (took (message.Acked m) is (with_coord t r.part) r.outs (ap (by_reply (with_coord t r.part) r.outs) e), record { place = bare.place; none = bare.none })
+    fine (message.Query m) is = (took (message.Query m) is t (answer_query from m.act d.intents t.coord) refl, bare)
     fine m is = absurd is
 
     fine_taken : (m : Message) → IsTelling m → FineBy (taken n d t from m)
@@ -155,13 +163,13 @@ module _ (n : ℕ) where
   bodies_mute from k (Send to m ∷ es) mute = by (nat_le (k + 1) most_frames) (bodies_mute from (k + 1) es mute.1)
     where
       by : (b : Bool) → AllByRecursion (IsMute n) (bodies from (k + 1) es) → AllByRecursion (IsMute n) (cond b (body.Sent (k + 1) from to (frame_kind m) ∷ []) [] ++ bodies from (k + 1) es)
-      by true rest = ((refl, refl), rest)
+      by true rest = ((refl, refl, refl), rest)
       by false rest = rest
   bodies_mute from k (Do w ∷ es) mute = bodies_mute from k es mute.1
 
 -- ---- a node that restarts
 
--- What a restart of this node leaves: lines of the node alone, in which no commit is called, no lock on an object there, and the other nodes as they were.
+-- What a restart of this node leaves: lines of the node alone, in which no commit is called and no call answered, no lock on an object there, and the other nodes as they were.
 pub record Restarts (n : ℕ) (w v : World) : Type 0 where
   pub said : List Body
   pub lines : v.lines ≡ w.lines ++ numbered w.event said
@@ -187,7 +195,7 @@ module _ (w : World) (n : ℕ) (d : Disk) (there : at_place n w.nodes ≡ Some (
   done : FineRan n (whole n (parts_in n (d.inc + 1) d) (restart_outs w.header n (d.inc + 1) d) d)
   done =
       let outs = restart_outs w.header n (d.inc + 1) d in
-      let mute = both_mute n outs (restart_of w.header 0 0 n (d.inc + 1) d) (restart_fine NoCommit apart_commit w.header n (d.inc + 1) d) in
+      let mute = all_mute n outs (restart_of w.header 0 0 n (d.inc + 1) d) (restart_fine NoCommit apart_commit w.header n (d.inc + 1) d) (restart_fine NoAnswer apart_answer w.header n (d.inc + 1) d) in
       rounds_fine n most_rounds (ran n (parts_in n (d.inc + 1) d) outs d) (ran_fine n (parts_in n (d.inc + 1) d) bare outs d mute (restart_tells n w.header (d.inc + 1) d records store names))
 
   until_mute : (a : Option Arm) → Mute n (effects_until n resting s a)
@@ -196,7 +204,7 @@ module _ (w : World) (n : ℕ) (d : Disk) (there : at_place n w.nodes ≡ Some (
     where
       by : (b : Bool) → Mute n (cond b s.outs (halted_outs n (cut (a.works - 1) a.how s.halting d)))
       by true = done.0
-      by false = all_append (SayOf (IsMute n)) (cut (a.works - 1) a.how s.halting d).outs (Say (body.Halted n) ∷ []) (cut_mute n (a.works - 1) a.how s.halting d done.0) ((itself n, refl), tt)
+      by false = all_append (SayOf (IsMute n)) (cut (a.works - 1) a.how s.halting d).outs (Say (body.Halted n) ∷ []) (cut_mute n (a.works - 1) a.how s.halting d done.0) ((itself n, refl, refl), tt)
 
   -- the node, and the others
   set_gone : (x : ℕ) (m : Node) → locks_in x m.live ≡ [] → locks_in x (memory_of (at_place n (set_place n m w.nodes))) ≡ []
@@ -239,7 +247,7 @@ limited_restarts n w v same r = by v.full
     by true = record {
       said = r.said ++ body.Limit which.Frames ∷ [];
       lines = (λ i. r.lines i ++ numbered (same i) (body.Limit which.Frames ∷ [])) ∙ append_assoc w.lines (numbered w.event r.said) (numbered w.event (body.Limit which.Frames ∷ [])) ∙ ap (λ ls. w.lines ++ ls) (sym (map-append (λ (b : Body). record { event = w.event; body = b }) r.said (body.Limit which.Frames ∷ [])));
-      mute = all_append (IsMute n) r.said (body.Limit which.Frames ∷ []) r.mute ((refl, refl), tt);
+      mute = all_append (IsMute n) r.said (body.Limit which.Frames ∷ []) r.mute ((refl, refl, refl), tt);
       gone = r.gone;
       others = r.others;
     }
