@@ -122,12 +122,12 @@ module _ (hd : Header) (x : ℕ) (form : HeaderInForm hd) (there : is_some (obje
   }
 
   -- at the last place its tables are those of the nodes' locks
-  last_placed : (sent : List _) (v : World) → IsShown hd v → (f : Fixed) (begun : List Action) (S : State) → IsAlikeOf begun (see sent v) → AgreesBy (IsApt (first_values hd) x) f x begun sent → SeesLocks f x begun S (see sent v) → AreTied f x v.lines S → (p : ℕ) → p ≡ length v.lines → IsPlaced f x begun S v.lines p
+  pub last_placed : (sent : List _) (v : World) → IsShown hd v → (f : Fixed) (begun : List Action) (S : State) → IsAlikeOf begun (see sent v) → AgreesBy (IsApt (first_values hd) x) f x begun sent → SeesLocks f x begun S (see sent v) → AreTied f x v.lines S → (p : ℕ) → p ≡ length v.lines → IsPlaced f x begun S v.lines p
   last_placed sent v shown f begun S alike agrees sees tied p same = at_the_end f x begun S (see sent v) sees alike.0 agrees.0 tied p same
       (λ n row any. any_shown row (object x) (table n (take p v.lines)) (locks_in x (memory_of (at_place n v.nodes))) (ap (λ (ls : List Line). rows_on (object x) (table n ls)) (ap (λ (j : ℕ). take j v.lines) same ∙ take_all v.lines) ∙ (let s = shown.shown n in s.server x)) any)
 
   -- a place at which it was seen stays one
-  was_placed : (first event : ℕ) (M : Seen) (f : Fixed) (begun : List Action) (S : State) → IsAlikeOf begun M → Before (IsApt (first_values hd) x) x (Beside hd x) first event M f S → (p : ℕ) → p ≤ length M.lines → (p ≤ first) ⊎ Guard event first M.lines → HasActs (take p M.lines) → IsPlaced f x begun S M.lines p
+  pub was_placed : (first event : ℕ) (M : Seen) (f : Fixed) (begun : List Action) (S : State) → IsAlikeOf begun M → Before (IsApt (first_values hd) x) x (Beside hd x) first event M f S → (p : ℕ) → p ≤ length M.lines → (p ≤ first) ⊎ Guard event first M.lines → HasActs (take p M.lines) → IsPlaced f x begun S M.lines p
   was_placed first event M f begun S alike (inl none) p within cond has = absurd (has (none_taken p M.lines none))
   was_placed first event M f begun S alike (inr was) p within cond has =
       let e : M.lines ≡ M.lines ++ [] = no_more M.lines in
