@@ -30,9 +30,10 @@ use Rattle.arj_protocol.specs.Words.event
 use Rattle.arj_protocol.specs.Words.frame
 use Rattle.arj_protocol.specs.Words.which
 use Rattle.arj_protocol.specs.Ask.{frame_kind}
-use Rattle.arj_protocol.specs.World.{Arm, Asked, Frame, Giving, World, as_delivered, as_lost, armed, begins, begins_any, bodies, change_frame, count_works, counted, cut, deliver, deliver_frame, disarmed, done_step, format, frame_number, giving, gives_label, halted_at, halted_outs, happens, is_quiet, is_up_at, journal, junk_fits, labels_unless, lacks_labels, limited, lose_frame, lowest, most_frames, new_frame, no_labels, node_numbers, node_of, numbered, quiesce, reasons, refused_at, run_all, run_event, run_unless, says, sent_line, settle, settle_for, show_all, show_up, step_node, step_with, steps, tick_all, tick_up}
+use Rattle.arj_protocol.specs.World.{Arm, Asked, Frame, Giving, World, as_delivered, as_lost, armed, begins, begins_any, bodies, change_frame, count_works, counted, cut, deliver, deliver_frame, disarmed, done_step, format, frame_number, giving, gives_label, halted_at, halted_outs, happens, is_quiet, is_up_at, junk_fits, labels_unless, lacks_labels, limited, lose_frame, lowest, most_frames, new_frame, no_labels, node_numbers, node_of, numbered, quiesce, reasons, refused_at, run_event, run_unless, says, sent_line, settle, settle_for, show_all, show_up, step_node, step_with, steps, tick_all, tick_up}
 use Rattle.arj_view_law.proofs.Rounds.{AreLooks, LooksAlone, taken_looks}
-use Rattle.arj_joint_law.specs.Excluded.{CommitsBeginIt}
+use Rattle.arj_view_law.specs.Moves.{Move, all_moved, moved, world_by}
+use Rattle.arj_joint_law.specs.Excluded.{RunsBeginWithCalls}
 
 -- ---- effects
 
@@ -508,14 +509,18 @@ event_first e w first = by w.over
                 may bs (inl q) = inl q
                 may bs (inr (ok, l, rest, is, q)) = inr (some w.event, l, rest, is, q)
 
-runs_first : (es : List Asked) (w : World) → AreFirst w → AreFirst (run_all es w)
-runs_first [] w first = first
-runs_first (e ∷ es) w first = runs_first es (run_event e w) (event_first e w first)
+-- which stops may fall is nothing to that
+with_arms : (arms : List (ℕ × Arm)) (w : World) → AreFirst w → AreFirst (record w { arms = arms })
+with_arms arms w first = record { past = first.past; calls = first.calls }
 
-pub commits_begin : (hd : Header) (es : List Asked) → CommitsBeginIt (let w = run_all es (format hd) in w.event) (journal hd es)
-commits_begin hd es before line behind l is called =
-    let first = runs_first es (format hd) (record { past = tt; calls = λ before line behind l is called. by before line behind is }) in
-    let w = run_all es (format hd) in
+moves_first : (ms : List Move) (w : World) → AreFirst w → AreFirst (all_moved ms w)
+moves_first [] w first = first
+moves_first (m ∷ ms) w first = moves_first ms (moved m w) (with_arms [] (run_event m.asked (record w { arms = m.falls })) (event_first m.asked (record w { arms = m.falls }) (with_arms m.falls w first)))
+
+pub commits_begin : RunsBeginWithCalls
+commits_begin hd ms before line behind l is called =
+    let first = moves_first ms (format hd) (record { past = tt; calls = λ before line behind l is called. by before line behind is }) in
+    let w = world_by hd ms in
     let le : line.event ≤ w.event = at before line behind (λ (k : Line). k.event ≤ w.event) (subst (λ ls. AllByRecursion (λ (k : Line). k.event ≤ w.event) ls) is first.past) in
     all_to (λ (k : Line). k.event < line.event) (λ (k : Line). k.event < w.event) before (λ k less. omega (arith, less, le)) (first.calls before line behind l is called)
   where

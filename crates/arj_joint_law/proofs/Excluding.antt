@@ -6,6 +6,7 @@ use Rattle.std.specs.Option.{option_map}
 use Rattle.arj_base.specs.declared.state.ObjectState.{ObjectState}
 use Rattle.arj_base.specs.Uid.{entry, object}
 use Rattle.arj_class.specs.Table.{class_of, writes}
+use Rattle.arj_journal.specs.ScriptForm.{HeaderInForm}
 use Rattle.arj_journal.specs.declared.body.Line.{Line}
 use Rattle.arj_journal.specs.declared.header.Header.{Header}
 use Rattle.arj_lock.proofs.Members as members
@@ -25,6 +26,7 @@ use Rattle.arj_protocol.specs.Order.{at_uid, uid_number}
 use Rattle.arj_protocol.specs.Step.{Node}
 use Rattle.arj_protocol.specs.Values.{state_entry}
 use Rattle.arj_protocol.proofs.Numbers.{number_tells}
+use Rattle.arj_protocol.specs.World as world
 use Rattle.arj_disk_law.specs.Core.{Core}
 use Rattle.arj_disk_law.specs.Effects.{World}
 use Rattle.arj_disk_law.specs.Laws.{IsExcludedInTime}
@@ -33,8 +35,10 @@ use Rattle.arj_disk_law.specs.State.{Done, Hold, IsExcused, Packed, Plan, decide
 use Rattle.arj_disk_law.specs.Words.{In, has}
 use Rattle.arj_disk_law.proofs.History.{in_decided}
 use Rattle.arj_disk_law.proofs.Results.{in_time}
-use Rattle.arj_view_law.proofs.Happens.{runs_hold}
-use Rattle.arj_view_law.specs.Seen.{Seen}
+use Rattle.arj_view_law.specs.Moves.{world_by}
+use Rattle.arj_view_law.specs.Seen.{Post, Seen, see}
+use Rattle.arj_call_law.specs.Reached.{Keeping}
+use Rattle.arj_call_law.proofs.Reaching.{kept_holds, moves_keep}
 use Rattle.arj_disk_view_law.specs.Entries.{SeesEntry}
 use Rattle.arj_disk_view_law.specs.Pairs.{Among, Holder, IsOf, packed, packed_entry}
 use Rattle.arj_disk_view_law.specs.Stores.{SeesStore}
@@ -47,7 +51,7 @@ use Rattle.arj_serial_law.proofs.Ties.{Ties, ties_of}
 use Rattle.arj_serial_law.proofs.Tying.{all_at}
 use Rattle.arj_serial_law.proofs.Values.{any_said, kept_shape}
 use Rattle.arj_serial_law.specs.Tied.{AreTied}
-use Rattle.arj_joint_law.specs.Excluded.{AreExcludedInTime, AreSeenByCalls, AreSeenInTime, CommitsBeginIt, IsBehindIncludes, RunsExcludeInTimeByCalls, IsInTime, IsNew, IsNewest, IsSeenSo, IsTakenOut, NodesHaveForm, SeenRunsExcludeInTime, uid_of}
+use Rattle.arj_joint_law.specs.Excluded.{AreExcludedInTime, AreSeenByCalls, AreSeenInTime, CommitsBeginIt, IsBehindIncludes, RunsExcludeInTimeByCalls, IsInTime, IsNew, IsNewest, IsSeenSo, IsTakenOut, NodesAreSo, NodesHaveForm, SeenRunsExcludeInTime, uid_of}
 use Rattle.arj_joint_law.proofs.CommitCalls.{commits_begin}
 use Rattle.arj_joint_law.proofs.NewWriters.{new_writers_last}
 use Rattle.arj_disk_run_law.specs.States.{Own}
@@ -219,7 +223,7 @@ seen_in_time header e M (tied, each) t x s n m st has new wrote at_naming at_sto
     is_in_time header e M (seen_right (first_values header) M tied) (ties_of (first_values header) M.lines (seen_tied (first_values header) M tied)) x (each x has).0 t new wrote ((each x has).1 t new wrote) s n m st at_naming at_store held has_it
 
 pub seen_runs_in_time : SeenRunsExcludeInTime
-seen_runs_in_time hd es h = record { sent = h.sent; stands = h.stands; holds = seen_in_time hd _ _ h.holds }
+seen_runs_in_time hd w h = record { sent = h.sent; stands = h.stands; holds = seen_in_time hd _ _ h.holds }
 
 -- ---- by the lock machine
 
@@ -258,9 +262,12 @@ seen_by_calls header e M begins (tied, each) = (
 )
 
 pub runs_in_time_by_calls : RunsExcludeInTimeByCalls
-runs_in_time_by_calls hd es h = record { sent = h.sent; stands = h.stands; holds = seen_in_time hd _ _ (seen_by_calls hd _ _ (commits_begin hd es) h.holds) }
+runs_in_time_by_calls hd ms h = record { sent = h.sent; stands = h.stands; holds = seen_in_time hd _ _ (seen_by_calls hd _ _ (commits_begin hd ms) h.holds) }
 
 -- ---- what stands of objects on nodes
 
+pub kept_nodes_form : (hd : Header) (x : ℕ) → HeaderInForm hd → (w : world.World) → Keeping hd w → (sent : List Post) → NodesAreSo hd x (see sent w)
+kept_nodes_form hd x form w keeping sent k n is = let h = kept_holds hd w keeping (AreSo (kind_of hd x)) (kept_forms hd x form) in h.holds.0 k n is
+
 pub nodes_have_form : NodesHaveForm
-nodes_have_form hd x form es sent k n is = let h = runs_hold hd (AreSo (kind_of hd x)) (kept_forms hd x form) es in h.holds.0 k n is
+nodes_have_form hd x form ms = kept_nodes_form hd x form (world_by hd ms) (moves_keep hd ms)

@@ -18,7 +18,7 @@ use Rattle.arj_protocol.specs.Node.{Parts, with_coord}
 use Rattle.arj_protocol.specs.Order.{has, put_uid}
 use Rattle.arj_protocol.specs.Step.{Node, acts, entries_at, first_disk, first_entry, first_state, parent_of, parts_in, put_states, restart_outs}
 use Rattle.arj_protocol.specs.Values.{value_in}
-use Rattle.arj_protocol.specs.World.{Asked, World, format, is_serial_kind, run_all}
+use Rattle.arj_protocol.specs.World.{World, is_serial_kind}
 use Rattle.arj_protocol.proofs.Payloads.{entry_back}
 use Rattle.arj_protocol.proofs.RowSteps.{same_number}
 use Rattle.arj_disk_law.proofs.Base.{never}
@@ -26,7 +26,7 @@ use Rattle.arj_view_law.specs.Keeps.{Holds, Keeps}
 use Rattle.arj_view_law.specs.Seen.{In, Post, Seen, at, given, posted, said, see}
 use Rattle.arj_view_law.specs.Walks.{Up, Walks}
 use Rattle.arj_call_law.specs.Reached.{Keeping}
-use Rattle.arj_call_law.proofs.Reaching.{kept_holds, scripts_keep}
+use Rattle.arj_call_law.proofs.Reaching.{kept_holds}
 use Rattle.arj_disk_view_law.specs.Formats.{IsLine}
 use Rattle.arj_disk_view_law.proofs.FirstSeen.{first_at}
 use Rattle.arj_serial_law.specs.Cleaned.{HaveForm}
@@ -203,6 +203,3 @@ kept_have_form hd x form w keeping =
       objects = λ n s st here held. let a = (all.0 s n here).0 in ((a.store.held (object x) st held).0).1 refl;
       entries = λ n st here held. let a = (all.0 1 n here).0 in (a.names.held (entry x) st held).0 refl;
     }
-
-pub runs_have_form : (hd : Header) (x : ℕ) → HeaderInForm hd → (es : List Asked) → Holds hd (HaveForm hd x) (run_all es (format hd))
-runs_have_form hd x form es = kept_have_form hd x form (run_all es (format hd)) (scripts_keep hd es)

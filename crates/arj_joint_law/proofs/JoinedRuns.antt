@@ -16,18 +16,15 @@ use Rattle.arj_disk_view_law.specs.Sees.{Kinds}
 use Rattle.arj_disk_law.specs.Names.{Office}
 use Rattle.arj_view_law.specs.Seen.{Post, Seen, see}
 use Rattle.arj_model.specs.Last.{first_values, object_line}
-use Rattle.arj_protocol.specs.World.{Asked, World, format, run_all}
+use Rattle.arj_protocol.specs.World.{World}
 use Rattle.arj_view_law.specs.Moves.{world_by}
-use Rattle.arj_binding_law.specs.Scripts.{most_events}
-use Rattle.arj_binding_law.proofs.Events.{scripts_reached}
-use Rattle.arj_joint_law.specs.FitRuns.{AreEventsInForm}
-use Rattle.arj_joint_law.proofs.FitRuns.{runs_fit, runs_in_form}
+use Rattle.arj_joint_law.proofs.FitRuns.{runs_in_form}
 use Rattle.arj_line_law.specs.Book.{new_book}
 use Rattle.arj_line_law.specs.Right.{AreRight}
 use Rattle.arj_line_law.proofs.Runs.{kept_right}
 use Rattle.arj_serial_law.specs.Seen.{RequestsAreOne}
 use Rattle.arj_disk_run_law.proofs.Scripts.{part_more}
-use Rattle.std.specs.Prelude.{⊤, ◌≤◌, ℕ, true, ◌≡◌, is_some, length}
+use Rattle.std.specs.Prelude.{⊤, ℕ, true, ◌≡◌, is_some}
 use Rattle.arj_lock_law.specs.State.{State}
 use Rattle.arj_lock_run_law.specs.Fixed.{Fixed}
 use Rattle.arj_joint_law.proofs.JoinedParts.{Base, Carried, Early, Whole, base, locked}
@@ -92,10 +89,6 @@ reached_joined hd x form there w reached fit =
 
 pub moves_are_joined : RunsAreJoined
 moves_are_joined hd ms f x there = let r = runs_in_form hd ms f in reached_joined hd x f.header there (world_by hd ms) r.0 (r.1 x)
-
--- so it is after a script
-pub runs_are_joined : (hd : Header) (x : ℕ) → HeaderInForm hd → is_some (object_line hd x) ≡ true → (es : List Asked) → AreEventsInForm es → length es ≤ most_events → Holds hd (IsJoinedSo hd x) (run_all es (format hd))
-runs_are_joined hd x form there es fit short = reached_joined hd x form there (run_all es (format hd)) (scripts_reached hd es short) (runs_fit hd x es fit)
 
 -- ---- what follows of the disk machine alone
 

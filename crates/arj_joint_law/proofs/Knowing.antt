@@ -11,7 +11,7 @@ use Rattle.arj_model.specs.Serial.{Values, top_place}
 use Rattle.arj_protocol.specs.Words.{Header, Label, Line, Uid}
 use Rattle.arj_protocol.specs.Words.body
 use Rattle.arj_protocol.specs.Order.{uid_number}
-use Rattle.arj_protocol.specs.World.{Asked, format, journal, run_all}
+use Rattle.arj_protocol.specs.World.{World}
 use Rattle.arj_disk_law.specs.Order.{counts_of}
 use Rattle.arj_disk_law.specs.State.{Done, Packed, State}
 use Rattle.arj_disk_law.specs.Words as disk
@@ -21,7 +21,6 @@ use Rattle.arj_line_law.specs.Laws.{AreApart, called, called_of}
 use Rattle.arj_line_law.specs.Right.{AreRight}
 use Rattle.arj_line_law.proofs.Books.{book_more, decided_later, later_from, never}
 use Rattle.arj_line_law.proofs.Models.{its_call}
-use Rattle.arj_line_law.proofs.Runs.{run_written}
 use Rattle.arj_serial_law.specs.Decided.{AreDecided, AreDecisions, AreNewestFirst, IsDecision, Wrote, WroteSo}
 use Rattle.arj_serial_law.proofs.Order.{IsTopOf, listed, place_of_top, top_item}
 use Rattle.arj_serial_law.proofs.Tying.{all_at}
@@ -32,7 +31,6 @@ use Rattle.arj_joint_law.specs.SaidFirst.{IncluderKnows, IncludersKnow, IsSaidFi
 use Rattle.arj_joint_law.specs.Ordered.{IsOrderedSo}
 use Rattle.arj_joint_law.specs.Outcome.{is_said}
 use Rattle.arj_joint_law.proofs.Called.{end_in, on_front, there_before}
-use Rattle.arj_joint_law.proofs.CommitCalls.{commits_begin}
 use Rattle.arj_joint_law.proofs.Excluding.{each_decision}
 use Rattle.arj_joint_law.proofs.JoinOrder.{counts_there}
 use Rattle.arj_joint_law.proofs.NewWriters.{IsReadAt, call_is, its_uid, read_at, said_before}
@@ -85,12 +83,12 @@ later_one values lines x (d ∷ ds) (v ∷ us) are know order u w (inr i) (inr j
   | inr r ↦ inr (record { first = r.first; second = r.second; first_there = inr r.first_there; second_there = inr r.second_there; first_is = r.first_is; second_is = r.second_is; knows = r.knows })
 ]
 
--- ---- after a run
+-- ---- in a world
 
-module _ (hd : Header) (es : List Asked) (x : ℕ) (h : Holds hd (IsOrderedSo hd x) (run_all es (format hd))) (d : AreDecided hd (journal hd es) x (let Q = disk_of h.holds in Q.tops))
-    (t : Top) (new : IsNew (let w = run_all es (format hd) in w.event) (journal hd es) t) (wrote : Wrote (journal hd es) x t) where
+module _ (hd : Header) (w : World) (right : AreRight new_book w.lines) (begins : CommitsBeginIt w.event w.lines) (x : ℕ) (h : Holds hd (IsOrderedSo hd x) w) (d : AreDecided hd w.lines x (let Q = disk_of h.holds in Q.tops))
+    (t : Top) (new : IsNew w.event w.lines t) (wrote : Wrote w.lines x t) where
   abbrev lines : List Line
-  lines = journal hd es
+  lines = w.lines
 
   abbrev values : Values
   values = first_values hd
@@ -99,13 +97,7 @@ module _ (hd : Header) (es : List Asked) (x : ℕ) (h : Holds hd (IsOrderedSo hd
   S = disk_of h.holds
 
   abbrev event : ℕ
-  event = let w = run_all es (format hd) in w.event
-
-  right : AreRight new_book lines
-  right = let r = run_written hd es in let z = r.1 in z.right
-
-  begins : CommitsBeginIt event lines
-  begins = commits_begin hd es
+  event = w.event
 
   ti : IsTopOf lines t
   ti = top_item lines right t (in_from t (tops lines) new.0)

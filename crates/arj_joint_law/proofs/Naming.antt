@@ -8,44 +8,36 @@ use Rattle.arj_disk_law.specs.State.{Done, State}
 use Rattle.arj_disk_law.specs.Words as words
 use Rattle.arj_disk_law.proofs.History.{in_decided}
 use Rattle.arj_line_law.specs.Book.{book, is_top, new_book}
-use Rattle.arj_line_law.specs.Knows.{IsKept}
 use Rattle.arj_line_law.specs.Laws.{AreDistinct, IsCommittedIn, IsDone}
 use Rattle.arj_line_law.specs.Right.{AreRight}
 use Rattle.arj_line_law.specs.Whose.{IsOfNode}
 use Rattle.arj_line_law.proofs.Closed.{Stands, one_act, stands_lines, stands_new}
 use Rattle.arj_line_law.proofs.Models.{its_acts, its_sound}
-use Rattle.arj_line_law.proofs.Owners.{have_nodes}
-use Rattle.arj_line_law.proofs.Runs.{lines_keep}
+use Rattle.arj_line_law.proofs.Owners.{kept_nodes}
+use Rattle.arj_line_law.proofs.Runs.{kept_right}
 use Rattle.arj_lock.proofs.Members.{In, in_from, in_to}
 use Rattle.arj_model.specs.Actions.{Act, acts}
 use Rattle.arj_model.specs.Calls.{Top, tops}
 use Rattle.arj_protocol.specs.Order.{uid_number}
 use Rattle.arj_protocol.specs.Words.{Header, Line}
-use Rattle.arj_protocol.specs.World.{Asked, World, format, journal, run_all}
+use Rattle.arj_protocol.specs.World.{World}
 use Rattle.arj_serial_law.proofs.Order.{same_number, top_for, top_item}
 use Rattle.arj_view_law.specs.Keeps.{Holds}
-use Rattle.arj_view_law.specs.Seen.{Post, see}
-use Rattle.arj_view_law.proofs.Happens.{runs_hold}
+use Rattle.arj_call_law.specs.Reached.{Keeping}
 use Rattle.arj_joint_law.proofs.NamedTops.{AreNamed, IsNamed, disk_of}
 use Rattle.arj_joint_law.specs.Ordered.{IsOrderedSo}
 use Rattle.arj_joint_law.proofs.Called.{there_before}
 use Rattle.arj_joint_law.proofs.NewWriters.{its_uid}
 
-module _ (hd : Header) (es : List Asked) (x : ℕ) (h : Holds hd (IsOrderedSo hd x) (run_all es (format hd))) where
-  abbrev w : World
-  w = run_all es (format hd)
-
+module _ (hd : Header) (w : World) (keeping : Keeping hd w) (x : ℕ) (h : Holds hd (IsOrderedSo hd x) w) where
   abbrev lines : List Line
-  lines = journal hd es
+  lines = w.lines
 
   abbrev S : State
   S = disk_of h.holds
 
-  kept : (sent : List Post) × IsKept (see sent w)
-  kept = let r = runs_hold hd IsKept (lines_keep hd) es in (r.sent, r.holds)
-
   right : AreRight new_book lines
-  right = let k = kept.1.1 in k.right
+  right = kept_right hd w keeping
 
   stands : Stands (book lines)
   stands = stands_lines new_book lines right stands_new
@@ -60,7 +52,7 @@ module _ (hd : Header) (es : List Asked) (x : ℕ) (h : Holds hd (IsOrderedSo hd
       let there : In a (acts lines) = in_from a (acts lines) whose.1 in
       let called : is_on (let B = book lines in B.called) a.uid ≡ true = (let o = h.holds in o.called d i a.uid whose.2) in
       let kind : is_top a.kind ≡ true = (let c = stands.closes in c.calls a (subst (In a) (sym (its_acts lines right)) there) called) in
-      let n : IsOfNode w a = have_nodes hd es a whose.1 in
+      let n : IsOfNode w a = kept_nodes hd w keeping a whose.1 in
       let c : IsCommittedIn lines a.uid = (let o = h.holds in let b = o.begun in let j = b.journalled in j.said a.uid n.node n.there (ap (disk.decided S) whose.2 ∙ in_decided S.tops d i)) in
       let done : IsDone lines a = subst (IsDone lines) (one_act (acts lines) distinct c.0 a (in_from c.0 (acts lines) c.1) there c.2) c.3 in
       let b = top_for lines right a there kind done in

@@ -1,43 +1,58 @@
--- Runs exclude stores in time, where both machines of each object are tied to the journal.
-use Rattle.std.proofs.Common.{◌≡◌, ℕ, true, List, [], is_some}
+-- Stores are excluded in time, where both machines of each object are tied to the journal.
+use Rattle.std.proofs.Common.{◌≡◌, ℕ, true, [], is_some}
 use Rattle.arj_journal.specs.ScriptForm.{HeaderInForm}
-use Rattle.arj_model.specs.Last.{object_line}
+use Rattle.arj_line_law.specs.Book.{new_book}
+use Rattle.arj_line_law.specs.Right.{AreRight}
+use Rattle.arj_line_law.proofs.Runs.{kept_right}
+use Rattle.arj_model.specs.Last.{first_values, object_line}
 use Rattle.arj_protocol.specs.Words.{Header}
-use Rattle.arj_protocol.specs.World.{Asked, World, format, journal, run_all}
+use Rattle.arj_protocol.specs.World.{World}
+use Rattle.arj_serial_law.proofs.Ties.{Ties, ties_of}
+use Rattle.arj_view_law.specs.Moves.{world_by}
 use Rattle.arj_view_law.specs.Seen.{see}
+use Rattle.arj_call_law.specs.Reached.{IsReached, Keeping}
 use Rattle.arj_joint_law.proofs.NamedTops.{AreLockTied}
-use Rattle.arj_joint_law.specs.Excluded.{AreExcludedInTime, IsSeenSo}
+use Rattle.arj_joint_law.specs.Excluded.{AreExcludedInTime, CommitsBeginIt, IsSeenSo}
 use Rattle.arj_joint_law.specs.InTime.{RunsExcludeInTime}
-use Rattle.arj_joint_law.proofs.Clean.{Decides, Held, decided, decides_in, formed, held_in, joined_at, lock_tied, ordered_of, right, ties}
+use Rattle.arj_joint_law.proofs.Clean.{AreJoined, Decides, Held, decided, decides_in, formed, held_in, lock_tied, ordered_of, reached_both}
 use Rattle.arj_joint_law.proofs.CommitCalls.{commits_begin}
-use Rattle.arj_joint_law.proofs.Excluding.{is_in_time, newest_by_calls, nodes_have_form}
+use Rattle.arj_joint_law.proofs.Excluding.{is_in_time, kept_nodes_form, newest_by_calls}
+use Rattle.arj_joint_law.specs.Fit.{OpsFit}
+use Rattle.arj_joint_law.proofs.FitRuns.{runs_in_form}
 use Rattle.arj_joint_law.proofs.Knowing.{none_last}
 use Rattle.arj_joint_law.proofs.Takers.{takers}
 
-module _ (hd : Header) (es : List Asked) (form : HeaderInForm hd) (tied : AreLockTied hd (journal hd es)) (held : Held hd es) (decide : Decides hd es held) where
-  abbrev w : World
-  w = run_all es (format hd)
+module _ (hd : Header) (w : World) (keeping : Keeping hd w) (form : HeaderInForm hd) (tied : AreLockTied hd w.lines) (held : Held hd w) (decide : Decides hd w held) (begins : CommitsBeginIt w.event w.lines) where
+  right : AreRight new_book w.lines
+  right = kept_right hd w keeping
+
+  ties : Ties (first_values hd) w.lines
+  ties = ties_of (first_values hd) w.lines tied.called
 
   abbrev seen_so : (x : ℕ) (there : is_some (object_line hd x) ≡ true) → IsSeenSo hd w.event x (see (let h = held x there in h.sent) w)
   seen_so x there =
-      let h = ordered_of hd es x (held x there) in
+      let h = ordered_of hd w x (held x there) in
       let b = h.holds.begun in
       let j = b.journalled in
       record {
-        seen = record { kinds = j.tops; world = j.machine; sees = j.sees; decided = (decided hd es form tied held decide x there); begins = b.begins; form = formed hd es form tied held decide x there };
-        forms = nodes_have_form hd x form es h.sent;
-        takers = takers hd es x h;
+        seen = record { kinds = j.tops; world = j.machine; sees = j.sees; decided = (decided hd w keeping form tied held decide x there); begins = b.begins; form = formed hd w keeping form tied held decide x there };
+        forms = kept_nodes_form hd x form w keeping h.sent;
+        takers = takers hd w keeping x h;
       }
 
   in_time : AreExcludedInTime hd w.event (see [] w)
   in_time t x s n m st there new wrote at_naming at_store held_there has_it =
-      let r = right hd es form tied held decide in
-      let h = ordered_of hd es x (held x there) in
+      let h = ordered_of hd w x (held x there) in
       let i = seen_so x there in
-      let newest = newest_by_calls hd w.event (see h.sent w) r tied.called (commits_begin hd es) x i t new wrote (record { last = none_last hd es x h (decided hd es form tied held decide x there) t new wrote }) in
-      is_in_time hd w.event (see h.sent w) r (ties hd es form tied held decide) x i t new wrote newest s n m st at_naming at_store held_there has_it
+      let newest = newest_by_calls hd w.event (see h.sent w) right tied.called begins x i t new wrote (record { last = none_last hd w right begins x h (decided hd w keeping form tied held decide x there) t new wrote }) in
+      is_in_time hd w.event (see h.sent w) right ties x i t new wrote newest s n m st at_naming at_store held_there has_it
+
+-- with both machines at once
+pub in_time_so : (hd : Header) (w : World) → Keeping hd w → AreJoined hd w → HeaderInForm hd → CommitsBeginIt w.event w.lines → AreExcludedInTime hd w.event (see [] w)
+in_time_so hd w keeping joined form begins = in_time hd w keeping form (lock_tied hd w keeping joined) (held_in hd w keeping joined) (decides_in hd w keeping joined) begins
+
+pub reached_in_time : (hd : Header) → HeaderInForm hd → (w : World) → IsReached hd w → ((x : ℕ) → OpsFit x w.lines) → CommitsBeginIt w.event w.lines → AreExcludedInTime hd w.event (see [] w)
+reached_in_time hd form w reached fit = in_time_so hd w reached.keeping (reached_both hd form w reached fit) form
 
 pub runs_exclude : RunsExcludeInTime
-runs_exclude hd es form short fit =
-    let joined = joined_at hd es form short fit in
-    in_time hd es form (lock_tied hd es joined) (held_in hd es joined) (decides_in hd es joined)
+runs_exclude hd ms f = let r = runs_in_form hd ms f in reached_in_time hd f.header (world_by hd ms) r.0 r.1 (commits_begin hd ms)

@@ -7,28 +7,26 @@ use Rattle.arj_disk_law.specs.State.{Done, Hold, State, decided_in}
 use Rattle.arj_disk_law.specs.Words as words
 use Rattle.arj_disk_law.proofs.Base.{or_cases, test_is}
 use Rattle.arj_line_law.specs.Book.{book, is_top, new_book}
-use Rattle.arj_line_law.specs.Knows.{IsKept}
 use Rattle.arj_line_law.specs.Laws.{AreDistinct, IsCommittedIn, IsDone}
 use Rattle.arj_line_law.specs.Right.{AreRight}
 use Rattle.arj_line_law.specs.Whose.{IsOfNode}
 use Rattle.arj_line_law.proofs.Closed.{Stands, one_act, stands_lines, stands_new}
 use Rattle.arj_line_law.proofs.Models.{its_acts, its_sound}
 use Rattle.arj_line_law.proofs.Ties.{on_path}
-use Rattle.arj_line_law.proofs.Owners.{have_nodes}
-use Rattle.arj_line_law.proofs.Runs.{lines_keep}
+use Rattle.arj_line_law.proofs.Owners.{kept_nodes}
+use Rattle.arj_line_law.proofs.Runs.{kept_right}
 use Rattle.arj_lock.proofs.Members.{In, in_from, in_to}
 use Rattle.arj_model.specs.Actions.{Act, acts, root_in, uids}
 use Rattle.arj_model.specs.Calls.{Top, root_or, tops}
 use Rattle.arj_protocol.specs.Order.{uid_number}
 use Rattle.arj_protocol.specs.Words.{Header, Line}
-use Rattle.arj_protocol.specs.World.{Asked, World, format, journal, run_all}
+use Rattle.arj_protocol.specs.World.{World}
 use Rattle.arj_protocol.proofs.Numbers.{number_tells}
 use Rattle.arj_serial_law.specs.Tied.{path_of}
 use Rattle.arj_serial_law.proofs.Order.{IsTopOf, same_number, top_for, top_item}
 use Rattle.arj_serial_law.proofs.Paths.{own_there}
 use Rattle.arj_view_law.specs.Keeps.{Holds}
-use Rattle.arj_view_law.specs.Seen.{Post, see}
-use Rattle.arj_view_law.proofs.Happens.{runs_hold}
+use Rattle.arj_call_law.specs.Reached.{Keeping}
 use Rattle.arj_joint_law.proofs.NamedTops.{disk_of}
 use Rattle.arj_joint_law.specs.Excluded.{IsNew, TakersAreCommitted, uid_of}
 use Rattle.arj_joint_law.specs.Ordered.{IsOrderedSo}
@@ -47,23 +45,17 @@ one_root lines right [] q f g a b i j first = absurd i
 one_root lines right (x ∷ p) [] f g a b i j first = absurd j
 one_root lines right (x ∷ p) (y ∷ q) f g a b i j first = ap (λ (z : Act). Some z.id) (one_act (acts lines) (let s = its_sound lines right in s.distinct) x y (f x (inl refl)) (g y (inl refl)) first)
 
--- ---- after a run
+-- ---- in a world that is reached
 
-module _ (hd : Header) (es : List Asked) (x : ℕ) (h : Holds hd (IsOrderedSo hd x) (run_all es (format hd))) where
-  abbrev w : World
-  w = run_all es (format hd)
-
+module _ (hd : Header) (w : World) (keeping : Keeping hd w) (x : ℕ) (h : Holds hd (IsOrderedSo hd x) w) where
   abbrev lines : List Line
-  lines = journal hd es
+  lines = w.lines
 
   abbrev S : State
   S = disk_of h.holds
 
-  kept : (sent : List Post) × IsKept (see sent w)
-  kept = let r = runs_hold hd IsKept (lines_keep hd) es in (r.sent, r.holds)
-
   right : AreRight new_book lines
-  right = let k = kept.1.1 in k.right
+  right = kept_right hd w keeping
 
   stands : Stands (book lines)
   stands = stands_lines new_book lines right stands_new
@@ -126,7 +118,7 @@ module _ (hd : Header) (es : List Asked) (x : ℕ) (h : Holds hd (IsOrderedSo hd
     -- the journal has it as decided
     taker : (b : Top) × Contains (tops lines) b × (uid_number (uid_of lines b) ≡ hold.top) × (b.root ≡ t.root)
     taker =
-        let n : IsOfNode w a = have_nodes hd es a whose.1 in
+        let n : IsOfNode w a = kept_nodes hd w keeping a whose.1 in
         let c : IsCommittedIn lines a.uid = (let o = h.holds in let b = o.begun in let j = b.journalled in j.said a.uid n.node n.there (ap (disk.decided S) whose.2 ∙ decided_h)) in
         found (subst (IsDone lines) (one_act (acts lines) distinct c.0 a (in_from c.0 (acts lines) c.1) a_there c.2) c.3)
 

@@ -21,11 +21,12 @@ use Rattle.arj_protocol.specs.Effect.{held_at}
 use Rattle.arj_protocol.specs.Order.{at_uid, uid_number}
 use Rattle.arj_protocol.specs.Step.{Node}
 use Rattle.arj_protocol.specs.Values.{state_entry}
-use Rattle.arj_protocol.specs.World.{Asked, format, journal, run_all}
+use Rattle.arj_protocol.specs.World.{World}
 use Rattle.arj_disk_law.specs.State as disk
 use Rattle.arj_disk_law.specs.State.{Done, Hold, State}
 use Rattle.arj_disk_view_law.specs.Pairs.{IsOf}
 use Rattle.arj_view_law.specs.Keeps.{Holds}
+use Rattle.arj_view_law.specs.Moves.{Move, journal_by, world_by}
 use Rattle.arj_view_law.specs.Seen.{Post, Seen, see}
 use Rattle.arj_serial_law.specs.Decided.{AreDecided, Wrote}
 use Rattle.arj_serial_law.specs.Runs.{AreSeenTied, IsSeenDecided}
@@ -109,9 +110,9 @@ abbrev pub AreSeenInTime : Header → ℕ → Seen → Type 0
 AreSeenInTime header e M = AreSeenTied (first_values header) M
     × ((x : ℕ) → is_some (object_line header x) ≡ true → (s : IsSeenSo header e x M) × ((t : Top) → IsNew e M.lines t → Wrote M.lines x t → IsNewest header M.lines x (let v = s.seen in let W = v.world in W.disk) (let v = s.seen in v.decided) t))
 
--- a run at whose end so much is seen excludes stores in time
+-- a world of which so much is seen excludes stores in time
 abbrev pub SeenRunsExcludeInTime : Type 0
-SeenRunsExcludeInTime = (hd : Header) (es : List Asked) → let w = run_all es (format hd) in Holds hd (AreSeenInTime hd w.event) w → Holds hd (AreExcludedInTime hd w.event) w
+SeenRunsExcludeInTime = (hd : Header) (w : World) → let e = (let v = w in v.event) in Holds hd (AreSeenInTime hd e) w → Holds hd (AreExcludedInTime hd e) w
 
 -- ---- what the lock machine gives of it
 
@@ -133,14 +134,14 @@ abbrev pub AreSeenByCalls : Header → ℕ → Seen → Type 0
 AreSeenByCalls header e M = AreSeenTied (first_values header) M
     × ((x : ℕ) → is_some (object_line header x) ≡ true → (s : IsSeenSo header e x M) × ((t : Top) → IsNew e M.lines t → Wrote M.lines x t → IsBehindIncludes header M.lines x (let v = s.seen in let W = v.world in W.disk) (let v = s.seen in v.decided) t))
 
--- in the last event of a run nothing stands before a commit call
+-- in the last event of a run, whatever stops fall, nothing stands before a commit call
 abbrev pub RunsBeginWithCalls : Type 0
-RunsBeginWithCalls = (hd : Header) (es : List Asked) → let w = run_all es (format hd) in CommitsBeginIt w.event (journal hd es)
+RunsBeginWithCalls = (hd : Header) (ms : List Move) → let w = world_by hd ms in CommitsBeginIt w.event (journal_by hd ms)
 
 -- and a run at whose end so much is seen excludes stores in time too
 abbrev pub RunsExcludeInTimeByCalls : Type 0
-RunsExcludeInTimeByCalls = (hd : Header) (es : List Asked) → let w = run_all es (format hd) in Holds hd (AreSeenByCalls hd w.event) w → Holds hd (AreExcludedInTime hd w.event) w
+RunsExcludeInTimeByCalls = (hd : Header) (ms : List Move) → let w = world_by hd ms in Holds hd (AreSeenByCalls hd w.event) w → Holds hd (AreExcludedInTime hd w.event) w
 
--- in the run of every script whose header is in form, whatever was sent, what stands of objects on nodes is of their classes
+-- in every run whose header is in form, whatever was sent and whatever stops fall, what stands of objects on nodes is of their classes
 abbrev pub NodesHaveForm : Type 0
-NodesHaveForm = (hd : Header) (x : ℕ) → HeaderInForm hd → (es : List Asked) (sent : List Post) → NodesAreSo hd x (see sent (run_all es (format hd)))
+NodesHaveForm = (hd : Header) (x : ℕ) → HeaderInForm hd → (ms : List Move) (sent : List Post) → NodesAreSo hd x (see sent (world_by hd ms))

@@ -1,7 +1,6 @@
 -- The disk machine and the lock machine of one object beside each other in one run: what a top that the disk machine decided has in its plan is
 -- what was voted for it, by the lock machine.
-use Rattle.std.specs.Prelude.{◌≡◌, ◌≤◌, ℕ, true, List, [], None, Some, Contains, is_some, length}
-use Rattle.arj_journal.specs.ScriptForm.{HeaderInForm}
+use Rattle.std.specs.Prelude.{◌≡◌, ℕ, true, List, [], None, Some, Contains, is_some}
 use Rattle.arj_model.specs.Actions.{acts}
 use Rattle.arj_model.specs.Calls.{Top, tops}
 use Rattle.arj_model.specs.Last.{first_values, object_line, uid_of_id}
@@ -12,7 +11,6 @@ use Rattle.arj_protocol.specs.Commit.{Confirming, Plan, Used, changed_of}
 use Rattle.arj_protocol.specs.Effect.{Intent}
 use Rattle.arj_protocol.specs.Order.{uid_number}
 use Rattle.arj_protocol.specs.Step.{Node}
-use Rattle.arj_protocol.specs.World.{Asked, journal}
 use Rattle.arj_part_law.specs.Actions.{Action}
 use Rattle.arj_disk_law.specs.Effects.{World}
 use Rattle.arj_disk_law.specs.Names.{Office}
@@ -25,7 +23,7 @@ use Rattle.arj_lock_law.specs.Actions.{In, top}
 use Rattle.arj_lock_law.specs.Machine.{Run, start}
 use Rattle.arj_lock_law.specs.State as lock
 use Rattle.arj_view_law.specs.Keeps.{Holds}
-use Rattle.arj_view_law.specs.Moves.{Move, world_by}
+use Rattle.arj_view_law.specs.Moves.{Move, journal_by, world_by}
 use Rattle.arj_view_law.specs.Seen.{Seen}
 use Rattle.arj_line_law.specs.Book.{book, is_decided}
 use Rattle.arj_line_law.specs.Idle.{IsIdle}
@@ -43,7 +41,7 @@ use Rattle.arj_serial_law.specs.Tied.{AreApart, AreTied as AreJournalTied}
 use Rattle.arj_joint_law.specs.Apt.{AgreesApart}
 use Rattle.arj_joint_law.specs.Based.{IsVotedOver}
 use Rattle.arj_joint_law.specs.BasedSteps.{AreBasedSo}
-use Rattle.arj_joint_law.specs.FitRuns.{AreEventsInForm, IsInForm}
+use Rattle.arj_joint_law.specs.FitRuns.{IsInForm}
 use Rattle.arj_joint_law.specs.Includers.{IncludersTakeTurns}
 use Rattle.arj_joint_law.specs.Lights.{LightsAreSplit}
 use Rattle.arj_joint_law.specs.Loads.{AreLoadsLast}
@@ -51,12 +49,11 @@ use Rattle.arj_joint_law.specs.Nodes.{NodesAreThere}
 use Rattle.arj_joint_law.specs.Ordered.{IsOrdered, IsOrderedSo}
 use Rattle.arj_joint_law.specs.Recorded.{WereRecorded}
 use Rattle.arj_serial_law.specs.Decided.{Wrote, WroteSo}
-use Rattle.arj_serial_law.specs.Seen.{IsSerialRun, RequestsAreOne}
+use Rattle.arj_serial_law.specs.Seen.{IsSerialBy, RequestsAreOne}
 use Rattle.arj_disk_run_law.specs.Bindings.{AreGoodCounted, KnowsScript}
 use Rattle.arj_disk_run_law.specs.Listed.{LoadsAgree}
 use Rattle.arj_disk_run_law.specs.Rest.{SeesCarried}
 use Rattle.arj_disk_run_law.specs.Runs.{CopiesAgree}
-use Rattle.arj_binding_law.specs.Scripts.{most_events}
 
 -- ---- one top
 
@@ -161,10 +158,10 @@ pub record IsJoinedSo (hd : Header) (x : ℕ) (M : Seen) : Type 0 where
 abbrev pub RunsAreJoined : Type 0
 RunsAreJoined = (hd : Header) (ms : List Move) → IsInForm hd ms → (x : ℕ) → is_some (object_line hd x) ≡ true → Holds hd (IsJoinedSo hd x) (world_by hd ms)
 
--- So the run of every script in form is serial.
+-- So every run in form is serial.
 abbrev pub JoinedRunsAreSerial : Type 0
-JoinedRunsAreSerial = (hd : Header) (es : List Asked) → HeaderInForm hd → AreEventsInForm es → length es ≤ most_events → IsSerialRun hd es
+JoinedRunsAreSerial = (hd : Header) (ms : List Move) → IsInForm hd ms → IsSerialBy hd (journal_by hd ms)
 
 -- And its journal is tied to the lock machine of each object of which a call was answered.
 abbrev pub JoinedRunsAreTied : Type 0
-JoinedRunsAreTied = (hd : Header) (es : List Asked) → HeaderInForm hd → AreEventsInForm es → length es ≤ most_events → AreJournalTied (first_values hd) (journal hd es)
+JoinedRunsAreTied = (hd : Header) (ms : List Move) → IsInForm hd ms → AreJournalTied (first_values hd) (journal_by hd ms)

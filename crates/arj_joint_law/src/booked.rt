@@ -1,11 +1,11 @@
 // The lock book of whole runs: order, values and nesting of answered calls.
 ghost use Rattle.arj_joint_law.specs.Booked.{RunsKeepTheBook};
 
-/// In the run of each script whose header and events are in form, of at most 1,000,000 events, with all frames that came in any order, again
-/// or never, all stops, crashes and restarts, the surviving calls of committed tops keep the lock book: conflicting ones of different tops stand in
-/// the serial order, the commit of the first one's top called before the second is answered; each is answered by the writes before it; and
-/// within one top the actions of the first are committed before the second is answered, each behind the calls that were made in it. It takes
-/// nothing more: the journal is tied to the lock machines (`runs_have_both_machines`). It does nothing when it runs.
+/// In each run whose header and events are in form, of at most 1,000,000 events, with all frames that came in any order, again or never, all
+/// crashes and restarts, and stops wherever disks make them, the surviving calls of committed tops keep the lock book: conflicting ones of
+/// different tops stand in the serial order, the commit of the first one's top called before the second is answered; each is answered by the
+/// writes before it; and within one top the actions of the first are committed before the second is answered, each behind the calls that were
+/// made in it. It takes nothing more: the journal is tied to the lock machines (`runs_have_both_machines`). It does nothing when it runs.
 pub fn runs_keep_the_lock_book()
     ensures { RunsKeepTheBook }
 {}

@@ -33,13 +33,13 @@ pub fn exclusion_in_time_tells_disks_apart()
     ensures old { IsNew 6 decided_lines its_top → ⊥ }
 {}
 
-/// Take a run at whose end each object's disk machine is seen with its decided tops tied to the journal, what stands of objects is of their
+/// Take a world in which each object's disk machine is seen with its decided tops tied to the journal, what stands of objects is of their
 /// classes, as in every run whose header is in form, and each top that is new in the last event is the newest of those that changed what it
 /// wrote. Then stores are excluded in time: of each top that the last event decided, by its `committed` line or the line that its record was
 /// found, each store that the naming node's entry has for an object that it wrote holds the object's last state by the journal, or has it
 /// prepared for that top, or the naming node has prepared an entry without it, for that top or for another committed constituent of its
-/// serializing action. By the lock machine a new top that wrote is the newest of those that did, since in the last event nothing stands before
-/// a commit call; so of tops that only include a store that is asked alone. It does nothing when it runs.
+/// serializing action. By the lock machine a new top that wrote is the newest of those that did, since in the last event of a run, wherever
+/// disks stop, nothing stands before a commit call; so of tops that only include a store that is asked alone. It does nothing when it runs.
 pub fn seen_runs_exclude_in_time()
     ensures runs { SeenRunsExcludeInTime }
     ensures begins { RunsBeginWithCalls }
@@ -48,11 +48,11 @@ pub fn seen_runs_exclude_in_time()
     ensures forms { NodesHaveForm }
 {}
 
-/// After the run of each script whose header and events are in form, of at most 1,000,000 events, stores are excluded in time, on what makes
-/// its files clean (`runs_are_clean`), with no premise. That decided tops which count for an object and only include a store of it had their
-/// commits called when whoever wrote the object before them had been said is given (`decisions_come_behind_calls`); that who has an entry
-/// prepared beside a new top, of its root, is committed is given here. So it is after each event too, since the front of a script is one. It
-/// does nothing when it runs.
+/// After each run whose header and events are in form, of at most 1,000,000 events, with all crashes and restarts, and stops wherever disks make
+/// them, stores are excluded in time, on what makes its files clean (`runs_are_clean`), with no premise. That decided tops which count for an
+/// object and only include a store of it had their commits called when whoever wrote the object before them had been said is given
+/// (`decisions_come_behind_calls`); that who has an entry prepared beside a new top, of its root, is committed is given here. So it is after each
+/// event too, since the front of a run is one. It does nothing when it runs.
 pub fn runs_exclude_in_time()
     ensures { RunsExcludeInTime }
 {}

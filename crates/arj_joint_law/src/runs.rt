@@ -35,8 +35,8 @@ pub fn decisions_come_behind_calls()
     ensures includers { RunsTakeTurns }
 {}
 
-/// After the run of each script whose header and events are in form, of at most 1,000,000 events, files that are those of its nodes' pairs are
-/// clean, with no premise: of both machines of each object nothing is taken (`runs_have_both_machines`). That decided tops are the journal's,
+/// After each run whose header and events are in form, of at most 1,000,000 events, wherever disks stop, files that are those of its nodes' pairs
+/// are clean, with no premise: of both machines of each object nothing is taken (`runs_have_both_machines`). That decided tops are the journal's,
 /// that machines began as the header says, that all states are of their class, that decided writers stand as their commits were called, that
 /// decided tops take those stores out of the list that their commits excluded and add those that they included, that who counts for nothing
 /// excludes no store that is listed in its place, and that each include names a node of the header (`listed`), is given here. Which files are

@@ -39,9 +39,10 @@ use Rattle.arj_serial_law.proofs.Seeing.{agrees_at, fixed_at, tied_at, tree}
 use Rattle.arj_lock_whole_law.specs.Held.{AfterEach, HoldsLocks, IsHeldNow, IsWrittenNow, entry_locks, locks_at}
 use Rattle.arj_lock_whole_law.proofs.Fronts.{each_grown, each_to}
 use Rattle.arj_lock_whole_law.proofs.RowsSeen.{rows_seen}
-use Rattle.arj_lock_whole_law.proofs.WholeRuns.{runs_call_objects, runs_include_objects}
+use Rattle.arj_lock_whole_law.proofs.WholeRuns.{kept_call_objects, kept_include_objects}
 use Rattle.std.proofs.Common.{arith}
 use Rattle.arj_view_law.specs.Seen.{Post}
+use Rattle.arj_call_law.proofs.Reaching.{scripts_keep}
 use Rattle.arj_lock_law.specs.Machine.{Run}
 use Rattle.arj_lock_fact_law.specs.Uppers.{AreUppersOf}
 use Rattle.arj_lock_whole_law.specs.Tops.{HoldsNames}
@@ -164,7 +165,7 @@ each_call P (c ∷ cs) f = (f c (inl refl), each_call P cs (λ d i. f d (inr i))
 
 module _ (hd : Header) (es : List Asked) (object_of : (x : ℕ) → HasObject hd x → OfObject hd es x) where
   called : (x : ℕ) → IsCalled x (journal hd es) → OfObject hd es x
-  called x is = object_of x (runs_call_objects hd es x is)
+  called x is = object_of x (kept_call_objects hd (run_all es (format hd)) (scripts_keep hd es) x is)
 
   abbrev is_called : ℕ → Bool
   is_called x = list_any (λ (s : Placed Said). s.it.x == x) (said (journal hd es))
@@ -192,7 +193,7 @@ module _ (hd : Header) (es : List Asked) (object_of : (x : ℕ) → HasObject hd
         subst (λ n. AfterEach (IsHeldNow (journal hd es) c n) (format hd) es) (sym (node_same c.x (is_called c.x) refl c (call_there c i))) (o.held c i refl));
     includes = each_call (λ (u : Top). AllByRecursion (λ (i : Placed Inclusion). AfterEach (IsWrittenNow (journal hd es) u i) (format hd) es) (joins_with (journal hd es) u)) (tops (journal hd es)) (λ u listed. each_call (λ (i : Placed Inclusion). AfterEach (IsWrittenNow (journal hd es) u i) (format hd) es) (joins_with (journal hd es) u) (λ i there.
         let f = in_filter (λ (z : Placed Inclusion). joins_top (journal hd es) u z (top_in z.it.path)) i (included (journal hd es)) there in
-        let has = runs_include_objects hd es i (in_to i (included (journal hd es)) f.0) in
+        let has = kept_include_objects hd (run_all es (format hd)) (scripts_keep hd es) i (in_to i (included (journal hd es)) f.0) in
         let o = object_of i.it.x has.0 in
         o.written u listed i there refl));
     at_one = each_call (λ c. AllByRecursion (AreAtOneNode (journal hd es) node_of c) (committed_calls (journal hd es))) (committed_calls (journal hd es)) (λ c i. each_call (AreAtOneNode (journal hd es) node_of c) (committed_calls (journal hd es)) (λ d j apart same less within.

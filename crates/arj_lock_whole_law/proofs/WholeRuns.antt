@@ -1,15 +1,20 @@
 -- What is kept in whole runs, and which objects are called in them.
-use Rattle.std.proofs.Common.{ℕ, List}
+use Rattle.std.proofs.Common.{Contains, ℕ, List}
 use Rattle.arj_lock.proofs.Members.{in_from}
-use Rattle.arj_model.specs.Last.{included}
+use Rattle.arj_model.specs.Actions.{Placed}
+use Rattle.arj_model.specs.Last.{Inclusion, included}
 use Rattle.arj_protocol.specs.Words.{Header}
-use Rattle.arj_protocol.specs.World.{journal}
+use Rattle.arj_protocol.specs.World.{World}
 use Rattle.arj_part_law.specs.Actions.{Action}
+use Rattle.arj_view_law.specs.Moves.{world_by}
 use Rattle.arj_view_law.specs.Seen.{Seen}
-use Rattle.arj_view_law.proofs.Happens.{runs_asked}
+use Rattle.arj_call_law.specs.Reached.{Keeping}
 use Rattle.arj_call_law.specs.Runs.{KnowsFew}
+use Rattle.arj_call_law.proofs.Reaching.{moves_keep}
 use Rattle.arj_lock_fact_law.specs.Acts.{KeepsOf}
 use Rattle.arj_lock_fact_law.specs.Entries.{HasObject}
+use Rattle.arj_serial_law.specs.Seen.{IsCalled}
+use Rattle.arj_lock_whole_law.specs.Called.{IsIncluded}
 use Rattle.arj_lock_whole_law.specs.Runs.{HandlersKeepWhole, RunsCallObjects, RunsIncludeObjects}
 use Rattle.arj_lock_whole_law.specs.Whole.{KnowsWhole}
 use Rattle.arj_lock_whole_law.proofs.CalledWalks.{called_there, calls_keep, included_there}
@@ -25,14 +30,20 @@ kept_beside hd x has E kept = of_both hd (λ begun M. KnowsFew M) (KnowsWhole x)
 
 -- ---- objects that are called
 
-pub runs_call_objects : RunsCallObjects
-runs_call_objects hd es x called =
-    let h = runs_asked hd _ (calls_keep hd) es in
+pub kept_call_objects : (hd : Header) (w : World) → Keeping hd w → (x : ℕ) → IsCalled x w.lines → HasObject hd x
+kept_call_objects hd w keeping x called =
+    let h = keeping _ (calls_keep hd) in
     let z = h.holds.1 in
-    called_there hd x (journal hd es) z.lines called
+    called_there hd x w.lines z.lines called
+
+pub kept_include_objects : (hd : Header) (w : World) → Keeping hd w → (i : Placed Inclusion) → Contains (included w.lines) i → IsIncluded hd i.it
+kept_include_objects hd w keeping i there =
+    let h = keeping _ (calls_keep hd) in
+    let z = h.holds.1 in
+    included_there hd w.lines z.lines i (in_from i (included w.lines) there)
+
+pub runs_call_objects : RunsCallObjects
+runs_call_objects hd ms = kept_call_objects hd (world_by hd ms) (moves_keep hd ms)
 
 pub runs_include_objects : RunsIncludeObjects
-runs_include_objects hd es i there =
-    let h = runs_asked hd _ (calls_keep hd) es in
-    let z = h.holds.1 in
-    included_there hd (journal hd es) z.lines i (in_from i (included (journal hd es)) there)
+runs_include_objects hd ms = kept_include_objects hd (world_by hd ms) (moves_keep hd ms)

@@ -8,7 +8,7 @@ pub fn handlers_keep_the_whole()
     ensures { HandlersKeepWhole }
 {}
 
-/// In every run of every script, with all stops, crashes and restarts, each call that was answered is on an object of the header, and each
+/// In every run, wherever disks stop, with all crashes and restarts, each call that was answered is on an object of the header, and each
 /// include, of a store that is one of its nodes: no other is asked about. It does nothing when it runs.
 pub fn runs_call_their_objects()
     ensures calls { RunsCallObjects }

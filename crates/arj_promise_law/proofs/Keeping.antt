@@ -2,15 +2,23 @@
 use Rattle.std.proofs.Common.{◌≡◌, ◌∙◌, ◌++◌, Bool, true, false, cond, List, [], ◌∷◌, length-append, arith, refl, sym, ap, subst, ◌⊎◌, inl, inr, ⊎_elim}
 use Rattle.std.specs.List.{AllByRecursion}
 use Rattle.arj_journal.specs.ScriptForm.{EventInForm}
-use Rattle.arj_model.specs.Clean.{Disks}
+use Rattle.arj_model.specs.Clean.{Clean, Disks}
 use Rattle.arj_protocol.specs.Words.{Header}
 use Rattle.arj_protocol.specs.Step.{first_reason}
 use Rattle.arj_protocol.specs.World.{Asked, World, format, journal, reasons, run_all, run_event, run_unless}
 use Rattle.arj_view_law.specs.Keeps.{Holds}
 use Rattle.arj_view_law.proofs.Happens.{runs_asked}
-use Rattle.arj_joint_law.proofs.BookRuns.{runs_keep_the_book, runs_list_nodes}
-use Rattle.arj_joint_law.proofs.Clean.{joined_runs_are_serial, runs_are_clean}
-use Rattle.arj_joint_law.proofs.RunsInTime.{runs_exclude}
+use Rattle.arj_view_law.specs.Moves.{moves_of}
+use Rattle.arj_view_law.proofs.Moving.{scripts_are_moves}
+use Rattle.arj_call_law.specs.Reached.{IsReached}
+use Rattle.arj_call_law.proofs.Reaching.{scripts_keep}
+use Rattle.arj_binding_law.proofs.Events.{scripts_reached}
+use Rattle.arj_joint_law.proofs.BookRuns.{lists_nodes, reached_book}
+use Rattle.arj_joint_law.proofs.Clean.{reached_clean, reached_serial}
+use Rattle.arj_joint_law.specs.Excluded.{CommitsBeginIt}
+use Rattle.arj_joint_law.proofs.CommitCalls.{commits_begin}
+use Rattle.arj_joint_law.proofs.FitRuns.{runs_fit}
+use Rattle.arj_joint_law.proofs.RunsInTime.{reached_in_time}
 use Rattle.arj_held_law.proofs.Holding.{runs_hold}
 use Rattle.arj_round_law.specs.Quiet.{AreGivenUp, NobodyWaits}
 use Rattle.arj_round_law.specs.Rounds.{AreUp}
@@ -27,13 +35,21 @@ use Rattle.arj_promise_law.specs.Promise.{CalmQuiescesEndAtRest, EndsAtRest, End
 
 -- ---- the promise
 
+-- the world of a script is one that is reached
+reached : (hd : Header) (es : List Asked) → IsInForm hd es → IsReached hd (run_all es (format hd))
+reached hd es f = scripts_reached hd es f.few
+
+clean : (hd : Header) (es : List Asked) → IsInForm hd es → (disks : Disks) → HasFiles hd es disks → Clean hd (journal hd es) disks
+clean hd es f = reached_clean hd f.header (run_all es (format hd)) (reached hd es f) (λ x. runs_fit hd x es f.events)
+
 pub runs_keep : RunsKeepThePromise
 runs_keep hd es f = record {
-  serial = joined_runs_are_serial hd es f.header f.events f.few;
-  book = runs_keep_the_book hd es f.header f.events f.few;
+  serial = reached_serial hd f.header (run_all es (format hd)) (reached hd es f) (λ x. runs_fit hd x es f.events);
+  book = reached_book hd f.header (run_all es (format hd)) (reached hd es f) (λ x. runs_fit hd x es f.events);
   held = runs_hold hd es f.header f.few f.events;
-  clean = λ disks are. runs_are_clean hd es disks f.header f.few f.events are;
-  in_time = runs_exclude hd es f.header f.few f.events;
+  clean = clean hd es f;
+  in_time = reached_in_time hd f.header (run_all es (format hd)) (reached hd es f) (λ x. runs_fit hd x es f.events)
+      (subst (λ (v : World). CommitsBeginIt v.event v.lines) (scripts_are_moves hd es) (commits_begin hd (moves_of hd es)));
   outcome = runs_show hd es;
 }
 
@@ -71,14 +87,14 @@ over_front (e ∷ es) w last = over_before e w (over_front es (run_event e w) la
 at_rest : (hd : Header) (es : List Asked) → IsInForm hd es → EndsQuiet (world_of hd es) → EndsAtRest hd es
 at_rest hd es f quiet = record {
   quiet = quiet;
-  last = λ disks are. let l = held disks are in record { entries = l.entries; stores = λ x s listed. l.stores x s listed (runs_list_nodes hd es f.header x s listed).0 };
+  last = λ disks are. let l = held disks are in record { entries = l.entries; stores = λ x s listed. l.stores x s listed (lists_nodes hd f.header (run_all es (format hd)) (scripts_keep hd es) x s listed).0 };
 }
   where
     h : Holds hd (KnowsPrepared hd) (run_all es (format hd))
     h = runs_asked hd (KnowsPrepared hd) (handlers_settle hd f.header).0 es
 
     held : (disks : Disks) → HasFiles hd es disks → HoldTheLast hd (journal hd es) disks
-    held disks are = idle_files_hold hd (journal hd es) h.sent (run_all es (format hd)) disks f.header h.stands quiet.idle are (runs_are_clean hd es disks f.header f.few f.events are)
+    held disks are = idle_files_hold hd (journal hd es) h.sent (run_all es (format hd)) disks f.header h.stands quiet.idle are (clean hd es f disks are)
 
 module _ (hd : Header) (es before : List Asked) (q : EndsInQuiesce hd es before) where
   -- the world at the end of the quiesce

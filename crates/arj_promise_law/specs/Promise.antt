@@ -9,7 +9,7 @@ use Rattle.arj_protocol.specs.Words.event
 use Rattle.arj_protocol.specs.World.{Asked, World, format, journal, lowest_from, run_all}
 use Rattle.arj_view_law.specs.Seen.{see}
 use Rattle.arj_binding_law.specs.Scripts.{most_events}
-use Rattle.arj_serial_law.specs.Seen.{IsSerialRun}
+use Rattle.arj_serial_law.specs.Seen.{IsSerialBy}
 use Rattle.arj_joint_law.specs.Booked.{KeepsTheBook}
 use Rattle.arj_joint_law.specs.Excluded.{AreExcludedInTime}
 use Rattle.arj_joint_law.specs.FitRuns.{AreEventsInForm}
@@ -48,7 +48,7 @@ HasFiles hd es disks = FilesAre (see [] (world_of hd es)) disks
 -- each store that the entry on naming's disk lists holds the last state, has it prepared for that top, or is about to be taken out. And what is done
 -- as committed was decided before, while an abort of what was decided has a cause.
 pub record KeepsThePromise (hd : Header) (es : List Asked) : Type 0 where
-  pub serial : IsSerialRun hd es
+  pub serial : IsSerialBy hd (journal hd es)
   pub book : KeepsTheBook (first_values hd) (journal hd es)
   pub held : HoldsInTables hd es
   pub clean : (disks : Disks) → HasFiles hd es disks → Clean hd (journal hd es) disks

@@ -7,27 +7,30 @@ use Rattle.arj_law.proofs.Order.{order_law}
 use Rattle.arj_model.specs.Last.{first_values}
 use Rattle.arj_model.specs.Serial.{Serial, Values}
 use Rattle.arj_part_law.specs.Actions.{Action, paths_of}
-use Rattle.arj_protocol.specs.World.{journal}
+use Rattle.arj_protocol.specs.Words.{Header}
+use Rattle.arj_protocol.specs.World.{World}
 use Rattle.arj_line_law.specs.Book.{new_book}
 use Rattle.arj_line_law.specs.Paths.{AreAlike, IsAlikeOf}
 use Rattle.arj_line_law.specs.Right.{AreRight}
 use Rattle.arj_line_law.proofs.Models.{its_acts}
-use Rattle.arj_line_law.proofs.Runs.{run_written}
+use Rattle.arj_line_law.proofs.Runs.{kept_right}
 use Rattle.arj_lock_fact_law.specs.Given.{SentWants}
 use Rattle.arj_lock_fact_law.proofs.Wants.{requests_want}
 use Rattle.arj_lock_law.specs.State.{State}
 use Rattle.arj_lock_run_law.specs.Fixed.{AgreesAs, Fixed, view_of}
 use Rattle.arj_lock_run_law.specs.Sees.{SeesLocks}
 use Rattle.arj_lock_run_law.specs.Tied.{AreTied as AreTiedNow}
-use Rattle.arj_lock_run_law.proofs.KeptSteps.{runs_keep_locks}
+use Rattle.arj_lock_run_law.proofs.KeptSteps.{locks_are_kept}
 use Rattle.arj_lock_view_law.specs.Families.{acts_of}
 use Rattle.arj_lock_view_law.specs.Servers.{Wants}
 use Rattle.arj_lock_view_law.specs.Telling.{AreOneTree}
 use Rattle.arj_lock_view_law.proofs.FamilySteps.{families_are_trees}
+use Rattle.arj_view_law.specs.Moves.{world_by}
 use Rattle.arj_view_law.specs.Seen.{Seen}
+use Rattle.arj_call_law.proofs.Reaching.{kept_holds, moves_keep}
 use Rattle.arj_lock_view_law.specs.Copies.{Codes}
 use Rattle.arj_serial_law.specs.Codes.{code_of}
-use Rattle.arj_serial_law.specs.Seen.{GivenRunsAreSerial, RequestsAreOne, LockedRunsAreSerial}
+use Rattle.arj_serial_law.specs.Seen.{AreLocked, GivenRunsAreSerial, IsSerialBy, LockedRunsAreSerial, RequestsAreOne}
 use Rattle.arj_serial_law.specs.Tied.{AreApart, IsTied}
 use Rattle.arj_serial_law.proofs.Begun.{begun_have_places}
 use Rattle.arj_serial_law.proofs.Codes.{codes_are_apart}
@@ -67,8 +70,9 @@ module _ (values : Values) (x : ℕ) (M : Seen) (begun : List Action) (alike : I
   pub locked_tied : (S : State) × IsTied values M.lines x S
   locked_tied = let s = seen (fixed_at code_of) codes_are_apart (agrees_at code_of) in (s.0, tied_at s.0 s.1 s.2)
 
-pub locked_runs_are_serial : LockedRunsAreSerial
-locked_runs_are_serial hd es locked = (
+-- a world of which all that were called are locked so
+pub locked_serial : (hd : Header) (w : World) → AreRight new_book w.lines → AreLocked hd w → IsSerialBy hd w.lines
+locked_serial hd w right locked = (
   serial,
   nested_law values lines serial (all_freed values lines right tied) (all_in_time values lines right tied),
 )
@@ -77,10 +81,7 @@ locked_runs_are_serial hd es locked = (
     values = first_values hd
 
     lines : List Line
-    lines = journal hd es
-
-    right : AreRight new_book lines
-    right = let w = run_written hd es in let z = w.1 in z.right
+    lines = w.lines
 
     tied : Ties values lines
     tied = ties_of values lines (λ x called. (let h = locked x called in (let z = h.holds in locked_tied values x _ z.0 z.1 z.2 z.3)))
@@ -88,8 +89,11 @@ locked_runs_are_serial hd es locked = (
     serial : Serial values lines
     serial = order_law values lines (all_in_order values lines right tied) (are_answered values lines right tied)
 
+pub locked_runs_are_serial : LockedRunsAreSerial
+locked_runs_are_serial hd ms locked = locked_serial hd (world_by hd ms) (kept_right hd (world_by hd ms) (moves_keep hd ms)) locked
+
 pub given_runs_are_serial : GivenRunsAreSerial
-given_runs_are_serial hd es before test everywhere requests gives = locked_runs_are_serial hd es (λ x called.
+given_runs_are_serial hd ms before test everywhere requests gives = locked_runs_are_serial hd ms (λ x called.
     let g = gives x called in
-    let h = runs_keep_locks hd (first_values hd) x before (test x) g.0 g.1 everywhere es in
+    let h = kept_holds hd (world_by hd ms) (moves_keep hd ms) _ (locks_are_kept hd (first_values hd) x before (test x) g.0 g.1 everywhere) in
     record { sent = h.sent; stands = h.stands; holds = (let z = h.holds in (z.1.0, z.1.1, (λ f apart a. z.1.3 f a), requests _ z.0)) })

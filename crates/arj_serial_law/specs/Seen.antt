@@ -9,12 +9,13 @@ use Rattle.arj_model.specs.Calls.{Said, said}
 use Rattle.arj_model.specs.Last.{first_values}
 use Rattle.arj_model.specs.Serial.{Answers, Serial, Values}
 use Rattle.arj_protocol.specs.Words.{Ask, Head, asks}
-use Rattle.arj_protocol.specs.World.{Asked, format, journal, run_all}
+use Rattle.arj_protocol.specs.World.{World}
 use Rattle.arj_lock_law.specs.State.{State}
 use Rattle.arj_part_law.specs.Actions.{Action}
 use Rattle.arj_call_law.specs.Servers.{AreOneCall}
 use Rattle.arj_line_law.specs.Paths.{IsAlikeOf}
 use Rattle.arj_view_law.specs.Keeps.{Holds, Keeps}
+use Rattle.arj_view_law.specs.Moves.{Move, journal_by, world_by}
 use Rattle.arj_view_law.specs.Seen.{In, Post, Seen}
 use Rattle.arj_lock_fact_law.specs.Acts.{KeepsOf}
 use Rattle.arj_lock_fact_law.specs.Worlds.{IsFromOne}
@@ -42,17 +43,17 @@ IsLocked values x M = (begun : List Action) × IsAlikeOf begun M × ((f : Fixed)
 abbrev pub IsLockedApart : Values → ℕ → Seen → Type 0
 IsLockedApart values x M = (begun : List Action) × IsAlikeOf begun M × ((f : Fixed) → AreApart f.code → AgreesAs values f x begun M.sent → (S : State) × SeesLocks f x begun S M × AreTied f x M.lines S) × RequestsAreOne M
 
--- so it is at the end of this run, of each object of which a call was answered
-abbrev pub AreLocked : Header → List Asked → Type 0
-AreLocked hd es = (x : ℕ) → IsCalled x (journal hd es) → Holds hd (IsLockedApart (first_values hd) x) (run_all es (format hd))
+-- so it is of the world, of each object of which a call was answered
+abbrev pub AreLocked : Header → World → Type 0
+AreLocked hd w = (x : ℕ) → IsCalled x (let v = w in v.lines) → Holds hd (IsLockedApart (first_values hd) x) w
 
--- its journal is serial, and its calls give the same answers where each committed nested action runs whole at its commit
-abbrev pub IsSerialRun : Header → List Asked → Type 0
-IsSerialRun hd es = Serial (first_values hd) (journal hd es) × Answers (first_values hd) (nested_calls (journal hd es))
+-- the journal is serial, and its calls give the same answers where each committed nested action runs whole at its commit
+abbrev pub IsSerialBy : Header → List Line → Type 0
+IsSerialBy hd lines = Serial (first_values hd) lines × Answers (first_values hd) (nested_calls lines)
 
--- a run of which the lock machines see so much is serial
+-- a run of which the lock machines see so much is serial, whatever stops fall
 abbrev pub LockedRunsAreSerial : Type 0
-LockedRunsAreSerial = (hd : Header) (es : List Asked) → AreLocked hd es → IsSerialRun hd es
+LockedRunsAreSerial = (hd : Header) (ms : List Move) → AreLocked hd (world_by hd ms) → IsSerialBy hd (journal_by hd ms)
 
 -- a relation of the actions that were begun is kept, beside what holds everywhere, and gives what handlers count on
 abbrev pub IsGiven : Header → ℕ → (Seen → Bool) → (List Action → Seen → Bool) → Type 0
@@ -60,5 +61,5 @@ IsGiven hd x before test = KeepsOf hd (λ begun M. before M ≡ true) (λ begun 
 
 -- Where there is one for each object of which a call was answered, and what holds everywhere knows requests, the run is serial.
 abbrev pub GivenRunsAreSerial : Type 0
-GivenRunsAreSerial = (hd : Header) (es : List Asked) (before : Seen → Bool) (test : ℕ → List Action → Seen → Bool)
-    → Keeps hd (λ M. before M ≡ true) → ((M : Seen) → before M ≡ true → RequestsAreOne M) → ((x : ℕ) → IsCalled x (journal hd es) → IsGiven hd x before (test x)) → IsSerialRun hd es
+GivenRunsAreSerial = (hd : Header) (ms : List Move) (before : Seen → Bool) (test : ℕ → List Action → Seen → Bool)
+    → Keeps hd (λ M. before M ≡ true) → ((M : Seen) → before M ≡ true → RequestsAreOne M) → ((x : ℕ) → IsCalled x (journal_by hd ms) → IsGiven hd x before (test x)) → IsSerialBy hd (journal_by hd ms)

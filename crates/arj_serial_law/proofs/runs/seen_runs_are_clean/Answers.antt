@@ -2,4 +2,4 @@ use Rattle.arj_serial_law.proofs.Running.{seen_clean}
 use Rattle.arj_serial_law.proofs.runs.seen_runs_are_clean.Goals as goal
 
 pub returns : goal.returns
-returns c hd es h = record { sent = h.sent; stands = h.stands; holds = seen_clean hd _ h.holds }
+returns c hd w h = record { sent = h.sent; stands = h.stands; holds = seen_clean hd _ h.holds }
