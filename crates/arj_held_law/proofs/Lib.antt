@@ -27,3 +27,5 @@ pub mod AlongMessages
 pub mod RestartPlaces
 pub mod AlongKept
 pub mod AlongEvents
+pub mod AtEach
+pub mod AlongMoves

@@ -4,11 +4,15 @@
 //! nodes. Here the tables have the nodes' locks after each event of each script (`tables_show_locks`): each handler keeps it, as long as all
 //! lines are of one event (`proofs/Keeping.antt`), by which no lock is given back as those of a restart are; and what a restart gives back, the
 //! table has with each action alone (`proofs/Starts.antt`). So held and entry held are laws of the journal's own tables, at the end of each event
-//! (`runs_hold_locks_in_tables`).
+//! (`runs_hold_locks_in_tables`). Inside of an event the object's lock machine is seen at each line in the state before or behind what a node did, or behind
+//! some of the ends that came to a server (`proofs/AlongKept.antt`), and at those of a restart in the state behind it (`proofs/RestartPlaces.antt`): so held
+//! is a law at each line (`runs_hold_locks_at_each_line`).
 #![tactic(auto)]
 
+mod along;
 mod held;
 mod tables;
 
+pub use along::runs_hold_locks_at_each_line;
 pub use held::runs_hold_locks_in_tables;
 pub use tables::tables_show_locks;

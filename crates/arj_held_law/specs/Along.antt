@@ -1,0 +1,27 @@
+-- Held at each line of a journal, by its tables.
+use Rattle.std.specs.Prelude.{◌≡◌, ◌<◌, ◌≤◌, ℕ, List, true}
+use Rattle.std.specs.List.{AllByRecursion, list_any}
+use Rattle.arj_protocol.specs.Words.{Header, Line}
+use Rattle.arj_model.specs.Calls.{Call, committed_calls}
+use Rattle.arj_law.specs.Book.{OfEachTwo}
+use Rattle.arj_law.specs.Held.{AreAtOneNode, AreHeld, tables_of, unit_end}
+use Rattle.arj_view_law.specs.Moves.{Move, journal_by}
+use Rattle.arj_serial_law.specs.Locked.{locks_call}
+use Rattle.arj_joint_law.specs.FitRuns.{IsInForm}
+
+-- Each surviving call of a committed top is locked for at each line, on its caller's path, in the journal's table of this node of its own: from its `ok`
+-- line to the `committing` line of the last member of its unit.
+abbrev pub AreLockedByCallers : List Line → (Call → ℕ) → Type 0
+AreLockedByCallers lines node = AllByRecursion (λ (c : Call). (p : ℕ) → c.at < p → p ≤ unit_end lines c → list_any (locks_call lines c) (tables_of lines (node c) p) ≡ true) (committed_calls lines)
+
+-- Held, by the tables, at each line: each surviving call of a committed top has a node in whose table its object is locked for its unit, and on its
+-- caller's path; and calls of one object and of different units that overlap are at one node.
+pub record HoldsEach (lines : List Line) : Type 0 where
+  pub node : Call → ℕ
+  pub held : AreHeld lines (tables_of lines) node
+  pub callers : AreLockedByCallers lines node
+  pub at_one : OfEachTwo (AreAtOneNode lines node) (committed_calls lines)
+
+-- So it is in each run in form.
+abbrev pub RunsHoldEach : Type 0
+RunsHoldEach = (hd : Header) (ms : List Move) → IsInForm hd ms → HoldsEach (journal_by hd ms)
