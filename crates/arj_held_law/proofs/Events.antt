@@ -1,4 +1,4 @@
--- After each event of each script tables show the locks of nodes.
+-- After each event of each run tables show the locks of nodes.
 use Rattle.std.proofs.Common.{◌≡◌, ◌⊎◌, ◌≤◌, ◌∙◌, ◌==◌, ◌&&◌, ◌++◌, ◌+◌, ◌-◌, ℕ, List, [], ◌∷◌, Bool, true, false, cond, length, map, Option, Some, None, refl, sym, ap, subst, inl, inr, ⊎_elim, arith, append_assoc, eqb-true, Contains}
 use Rattle.std.specs.Prelude.{⊤, if◌then◌else◌, is_some, nat_le, nat_lt, not}
 use Rattle.std.specs.List.{AllByRecursion}
@@ -31,11 +31,12 @@ use Rattle.arj_disk_run_law.proofs.Lists.{all_keys}
 use Rattle.arj_event_law.proofs.Spoken.{first_not, not_not}
 use Rattle.arj_run_law.proofs.Starts.{first_at}
 use Rattle.arj_view_law.specs.Keeps.{Holds}
+use Rattle.arj_view_law.specs.Moves.{AfterMoves, Move, moved}
 use Rattle.arj_view_law.specs.Seen.{Seen, see}
-use Rattle.arj_view_law.proofs.Happens.{event_asked, first_asked, place_same}
+use Rattle.arj_view_law.proofs.Happens.{arms_hold, event_asked, first_asked, place_same}
 use Rattle.arj_line_law.proofs.Paths.{first_pathed}
 use Rattle.arj_table_law.specs.Tables.{rows_on, up_of}
-use Rattle.arj_lock_whole_law.specs.Held.{AfterEach, memory_of, named_locks}
+use Rattle.arj_lock_whole_law.specs.Held.{memory_of, named_locks}
 use Rattle.arj_held_law.specs.Shown.{AreShown, ShowsLocks, TablesShowLocks}
 use Rattle.arj_held_law.proofs.Facts.{are_entries, facts_of, on_path, someone}
 use Rattle.arj_held_law.proofs.Keeping.{same_shown}
@@ -277,9 +278,16 @@ module _ (hd : Header) (w : World) (h : IsShown hd w) where
 
 -- ---- runs
 
-all_shown : (hd : Header) (es : List Asked) (w : World) → IsShown hd w → AfterEach AreShown w es
+-- which stops are to fall is nothing to it
+arms_shown : (hd : Header) (arms : List (ℕ × Arm)) (w : World) → IsShown hd w → IsShown hd (record w { arms = arms })
+arms_shown hd arms w h = record { known = arms_hold hd Base arms w h.known; shown = h.shown; early = h.early }
+
+move_shown : (hd : Header) (m : Move) (w : World) → IsShown hd w → IsShown hd (moved m w)
+move_shown hd m w h = arms_shown hd [] (run_event m.asked (record w { arms = m.falls })) (event_shown hd (record w { arms = m.falls }) (arms_shown hd m.falls w h) m.asked)
+
+all_shown : (hd : Header) (ms : List Move) (w : World) → IsShown hd w → AfterMoves AreShown w ms
 all_shown hd [] w h = h.shown
-all_shown hd (e ∷ es) w h = (h.shown, all_shown hd es (run_event e w) (event_shown hd w h e))
+all_shown hd (m ∷ ms) w h = (h.shown, all_shown hd ms (moved m w) (move_shown hd m w h))
 
 -- at first no lock is there
 none_at_first : (x : ℕ) (d : Pair) → d.pend ≡ [] → (es : List (Uid × ObjectState)) → rows_in_named (at_number x (map (named_back d) es)) ≡ []
@@ -313,4 +321,4 @@ first_is_shown hd = record {
 }
 
 pub tables_show : TablesShowLocks
-tables_show hd es = all_shown hd es (format hd) (first_is_shown hd)
+tables_show hd ms = all_shown hd ms (format hd) (first_is_shown hd)

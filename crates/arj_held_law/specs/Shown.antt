@@ -5,8 +5,9 @@ use Rattle.arj_model.specs.Table.{table}
 use Rattle.arj_protocol.specs.Words.{Header, Line}
 use Rattle.arj_protocol.specs.Node.{Parts}
 use Rattle.arj_protocol.specs.Tree.{at_place}
-use Rattle.arj_protocol.specs.World.{Asked, World, format}
-use Rattle.arj_lock_whole_law.specs.Held.{AfterEach, entry_locks_in, locks_in, memory_of}
+use Rattle.arj_protocol.specs.World.{World, format}
+use Rattle.arj_view_law.specs.Moves.{AfterMoves, Move}
+use Rattle.arj_lock_whole_law.specs.Held.{entry_locks_in, locks_in, memory_of}
 use Rattle.arj_table_law.specs.Tables.{rows_on}
 
 -- In the journal's table of a node with this memory the rows on each object are the server's locks, and at node 1 those on each entry are
@@ -19,6 +20,6 @@ pub record ShowsLocks (n : ℕ) (lines : List Line) (live : Option Parts) : Type
 abbrev pub AreShown : World → Type 0
 AreShown w = (n : ℕ) → ShowsLocks n w.lines (memory_of (at_place n w.nodes))
 
--- so it is at first, and after each event of each script
+-- so it is at first, and after each event of each run, wherever disks stop
 abbrev pub TablesShowLocks : Type 0
-TablesShowLocks = (hd : Header) (es : List Asked) → AfterEach AreShown (format hd) es
+TablesShowLocks = (hd : Header) (ms : List Move) → AfterMoves AreShown (format hd) ms

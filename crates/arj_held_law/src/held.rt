@@ -1,8 +1,8 @@
 // Locks that are held in whole runs, by the journal.
 ghost use Rattle.arj_held_law.specs.Held.{RunsHoldInTables};
 
-/// Held, and entry held, by the journal's tables, at the end of each event of each script of at most 1,000,000 events, with all stops, crashes and
-/// restarts: each surviving call of a committed top has a node in whose table an action on the caller's path has the lock, in a mode that the call
+/// Held, and entry held, by the journal's tables, at the end of each event of each run of at most 1,000,000 events, wherever disks stop, with all
+/// crashes and restarts: each surviving call of a committed top has a node in whose table an action on the caller's path has the lock, in a mode that the call
 /// needs, from the event of its `ok` line on until the commit of the last member of its unit is called; and in the table of node 1 the root or an
 /// action of it has a lock on the object's entry. For each surviving include it is a write lock. Calls of one object and of different units that
 /// overlap are at one node. It takes that the header and the events are in form, and nothing else. It does nothing when it runs.

@@ -1,7 +1,7 @@
 //! Locks that are held, by the tables of a journal.
 //!
 //! `arj_table_law` has what lines do to the tables of a journal, object by object, and `arj_joint_law` that calls and includes are held at the
-//! nodes. Here the tables have the nodes' locks after each event of each script (`tables_show_locks`): each handler keeps it, as long as all
+//! nodes. Here the tables have the nodes' locks after each event of each run (`tables_show_locks`): each handler keeps it, as long as all
 //! lines are of one event (`proofs/Keeping.antt`), by which no lock is given back as those of a restart are; and what a restart gives back, the
 //! table has with each action alone (`proofs/Starts.antt`). So held and entry held are laws of the journal's own tables, at the end of each event
 //! (`runs_hold_locks_in_tables`). Inside of an event the object's lock machine is seen at each line in the state before or behind what a node did, or behind

@@ -6,18 +6,20 @@ use Rattle.arj_journal.specs.ScriptForm.{HeaderInForm}
 use Rattle.arj_lock.proofs.Members.{In}
 use Rattle.arj_model.specs.Last.{first_values, object_line}
 use Rattle.arj_protocol.specs.Words.{Header, Line}
-use Rattle.arj_protocol.specs.World.{Asked, World, format, most_labels, run_all, run_event}
+use Rattle.arj_protocol.specs.World.{World, format, most_labels, run_event}
 use Rattle.arj_run_law.specs.Worlds.{IsGood}
 use Rattle.arj_run_law.proofs.AllRuns.{all_keep as parts_good}
 use Rattle.arj_view_law.specs.Keeps.{Holds, Keeps, KeepsOn}
+use Rattle.arj_view_law.specs.Moves.{AfterMoves, Move, all_moved, moved, world_by}
 use Rattle.arj_view_law.specs.Seen.{Seen, see}
-use Rattle.arj_view_law.proofs.Happens.{all_to, event_asked}
+use Rattle.arj_view_law.proofs.Happens.{all_to, arms_hold, event_asked}
+use Rattle.arj_view_law.proofs.Moving.{more_moves}
 use Rattle.arj_call_law.specs.Bindings.{AreSaid, HasFewBindings}
 use Rattle.arj_call_law.specs.Runs.{KnowsFew}
 use Rattle.arj_call_law.proofs.Given.{KeepsGiven, both_given, given_more, keeps_given, kept_both, while_given}
-use Rattle.arj_call_law.proofs.WholeRuns.{WhileFew, few_before, few_go}
+use Rattle.arj_call_law.proofs.WholeRuns.{WhileFew, few_go}
 use Rattle.arj_binding_law.specs.Scripts.{most_events}
-use Rattle.arj_binding_law.proofs.Events.{few_labels}
+use Rattle.arj_binding_law.proofs.Events.{moves_reached}
 use Rattle.arj_line_law.specs.Knows.{IsKept}
 use Rattle.arj_line_law.proofs.Runs.{lines_keep}
 use Rattle.arj_disk_law.specs.Names.{Office}
@@ -29,7 +31,7 @@ use Rattle.arj_disk_run_law.specs.Part.{KeepsPart}
 use Rattle.arj_disk_run_law.proofs.BothEach.{with_entries}
 use Rattle.arj_disk_run_law.proofs.Given.{gives_votes}
 use Rattle.arj_disk_run_law.proofs.Kept.{IsKeptInRun, all_keep}
-use Rattle.arj_disk_run_law.proofs.Scripts.{part_more, script_holds}
+use Rattle.arj_disk_run_law.proofs.Scripts.{part_more, reached_script}
 use Rattle.arj_disk_line_law.specs.Said.{AreNotLate, WithTie}
 use Rattle.arj_disk_line_law.proofs.IdleKnown.{knows_idle}
 use Rattle.arj_disk_line_law.proofs.Tying.{tied_part}
@@ -38,8 +40,6 @@ use Rattle.arj_lock_law.specs.Machine.{Run, stay}
 use Rattle.arj_lock_law.specs.State.{State}
 use Rattle.arj_lock_law.proofs.Order.{go_on}
 use Rattle.arj_lock_run_law.specs.Fixed.{Fixed}
-use Rattle.arj_lock_whole_law.specs.Held.{AfterEach}
-use Rattle.arj_lock_whole_law.proofs.Fronts.{lines_grow}
 use Rattle.arj_lock_whole_law.proofs.HeldBy.{HasBegun, WasSeen}
 use Rattle.arj_joint_law.specs.Fit.{OpsFit}
 use Rattle.arj_joint_law.proofs.Fits.{fits_before}
@@ -77,11 +77,6 @@ module _ (hd : Header) (x : ℕ) (R L : Seen → Type 0) (kept : Keeps hd R) (P 
   there_given = all_keep hd x (IsKnownThere x R) (λ M. KnowsScript M × L M) (IsCarriedThere x P) known (λ acts k d t M h. gives_votes (IsKnownThere x R) acts k d t M (h.0, h.1.0)) (unlate_each hd x Told (λ M. KnowsScript M × L M) P Idle tied)
 
 -- ---- both machines
-
--- a script with one event more
-one_behind : (es : List Asked) (e : Asked) (w : World) → run_all (es ++ e ∷ []) w ≡ run_event e (run_all es w)
-one_behind [] e w = refl
-one_behind (f ∷ es) e w = one_behind es e (run_event f w)
 
 module _ (hd : Header) (x : ℕ) (form : HeaderInForm hd) (there : is_some (object_line hd x) ≡ true) where
   counted : Keeps hd (Base hd x)
@@ -128,6 +123,18 @@ module _ (hd : Header) (x : ℕ) (form : HeaderInForm hd) (there : is_some (obje
   going_kept : (ws : List World) → KeepsOn hd (Going ws)
   going_kept ws = keeps_on hd Calm (Fitting ws) calm know (pairs_given ws)
 
+  -- one move more
+  move_on : (ws : List World) (m : Move) (w : World) → Holds hd (Going ws) w → Holds hd (Going ws) (moved m w)
+  move_on ws m w h =
+      let v : World = record w { arms = m.falls } in
+      arms_hold hd (Going ws) [] (run_event m.asked v) (event_asked hd (Going ws) (going_kept ws) m.asked v (arms_hold hd (Going ws) m.falls w h))
+
+  one_behind : (before : List Move) (m : Move) (w : World) → w ≡ world_by hd before → moved m w ≡ world_by hd (before ++ m ∷ [])
+  one_behind before m w is = ap (moved m) is ∙ sym (more_moves before (m ∷ []) (format hd))
+
+  longer : (before : List Move) (m : Move) (ms : List Move) → length before + length (m ∷ ms) ≤ most_events → length (before ++ m ∷ []) + length ms ≤ most_events
+  longer before m ms less = omega (arith, less, length-append before (m ∷ []))
+
   -- ---- a world more
 
   with_here : (ws : List World) (w : World) → Holds hd (Going ws) w → HasFewBindings w.lines → length w.labels ≤ most_labels → Holds hd (Going (w ∷ ws)) w
@@ -155,17 +162,18 @@ module _ (hd : Header) (x : ℕ) (form : HeaderInForm hd) (there : is_some (obje
         early,
       )
 
-  labels_here : (w : World) (before : List Asked) → w ≡ run_all before (format hd) → length w.labels ≤ most_labels
-  labels_here w before is = subst (λ (v : World). length v.labels ≤ most_labels) (sym is) (few_labels hd before)
+  -- few bindings were made up to here, and few labels given
+  counts_here : (w : World) (before : List Move) → w ≡ world_by hd before → length before ≤ most_events → HasFewBindings w.lines × (length w.labels ≤ most_labels)
+  counts_here w before is short = subst (λ (v : World). HasFewBindings v.lines × (length v.labels ≤ most_labels)) (sym is) (let r = moves_reached hd before short in (r.few, r.labels))
 
   -- all worlds from here on
-  along : (es : List Asked) (w : World) (before : List Asked) → w ≡ run_all before (format hd) → (ws : List World) → Holds hd (Going ws) w → HasFewBindings (let v = run_all es w in v.lines)
-      → (all : List World) × Holds hd (Going all) (run_all es w) × AfterEach (λ v. In v all) w es × ((v : World) → In v ws → In v all)
-  along [] w before is ws h few = (w ∷ ws, with_here ws w h few (labels_here w before is), inl refl, (λ v i. inr i))
-  along (e ∷ es) w before is ws h few =
-      let g = lines_grow (e ∷ es) w in
-      let now = with_here ws w h (few_before w.lines g.0 (subst HasFewBindings g.1 few)) (labels_here w before is) in
-      let r = along es (run_event e w) (before ++ e ∷ []) (ap (run_event e) is ∙ sym (one_behind before e (format hd))) (w ∷ ws) (event_asked hd (Going (w ∷ ws)) (going_kept (w ∷ ws)) e w now) few in
+  along : (ms : List Move) (w : World) (before : List Move) → w ≡ world_by hd before → length before + length ms ≤ most_events → (ws : List World) → Holds hd (Going ws) w
+      → (all : List World) × Holds hd (Going all) (all_moved ms w) × AfterMoves (λ v. In v all) w ms × ((v : World) → In v ws → In v all)
+  along [] w before is short ws h = let few = counts_here w before is (omega (arith, short)) in (w ∷ ws, with_here ws w h few.0 few.1, inl refl, (λ v i. inr i))
+  along (m ∷ ms) w before is short ws h =
+      let few = counts_here w before is (omega (arith, short)) in
+      let now = with_here ws w h few.0 few.1 in
+      let r = along ms (moved m w) (before ++ m ∷ []) (one_behind before m w is) (longer before m ms short) (w ∷ ws) (move_on (w ∷ ws) m w now) in
       (r.0, r.1, (r.3 w (inl refl), r.2), (λ v i. r.3 v (inr i)))
 
   -- ---- as something is said first
@@ -179,11 +187,11 @@ module _ (hd : Header) (x : ℕ) (form : HeaderInForm hd) (there : is_some (obje
       (there_given hd x (Base hd x) Fits counted Plain
       (part_more hd x (λ W M. Early hd x W M × ⊤) (λ W M. Base hd x M × ((KnowsScript M × Fits M) × AreNotLate W M)) Plain (λ W M q. ((q.0, q.1), tt)) (locked hd x form there (λ M. ⊤) (λ f S M. ⊤) (λ M N l f S T run past. tt) (λ f S. tt))))))
 
-  -- after a script behind which something was said
-  started : (es : List Asked) → length es ≤ most_events → HasBegun (run_all es (format hd)) → Holds hd (Going []) (run_all es (format hd))
-  started es short begun =
-      let r = script_holds hd (λ M. Base hd x M × (Fits M → IsThere x (Base hd x) Plain M)) plain_given es short in
-      record { sent = r.sent; stands = r.stands; holds = going (see r.sent (run_all es (format hd))) begun r.holds.0 r.holds.1 }
+  -- after moves behind which something was said
+  started : (ms : List Move) → length ms ≤ most_events → HasBegun (world_by hd ms) → Holds hd (Going []) (world_by hd ms)
+  started ms short begun =
+      let r = reached_script hd (λ M. Base hd x M × (Fits M → IsThere x (Base hd x) Plain M)) plain_given (world_by hd ms) (moves_reached hd ms short) in
+      record { sent = r.sent; stands = r.stands; holds = going (see r.sent (world_by hd ms)) begun r.holds.0 r.holds.1 }
     where
       on : (M : Seen) (tops : Kinds) → IsCarriedThere x Plain tops M → IsCarriedThere x (Pairs []) tops M
       on M tops (A, both, ((p, j), tie), early) = (A, both, ((p, (j.0, j.1, j.2, (λ f a. let g = j.3 f a in (g.0, g.1, g.2, g.3, g.4, g.5, g.6, (λ later. tt))), j.4)), tie), early)
@@ -196,32 +204,29 @@ module _ (hd : Header) (x : ℕ) (form : HeaderInForm hd) (there : is_some (obje
   -- ---- the whole run
 
   -- nothing was said, or both machines are seen at the end as they went on from each world in which something was said
-  abbrev pub Ends : List Asked → World → Type 0
-  Ends es w = ((let v = run_all es w in v.lines) ≡ []) ⊎ ((all : List World) × Holds hd (Going all) (run_all es w) × AfterEach (λ v. HasBegun v → In v all) w es)
+  abbrev pub Ends : List Move → World → Type 0
+  Ends ms w = ((let v = all_moved ms w in v.lines) ≡ []) ⊎ ((all : List World) × Holds hd (Going all) (all_moved ms w) × AfterMoves (λ v. HasBegun v → In v all) w ms)
 
-  later : (P : World → Type 0) (es : List Asked) (w : World) → AfterEach P w es → AfterEach (λ v. HasBegun v → P v) w es
+  later : (P : World → Type 0) (ms : List Move) (w : World) → AfterMoves P w ms → AfterMoves (λ v. HasBegun v → P v) w ms
   later P [] w p = λ b. p
-  later P (e ∷ es) w p = ((λ b. p.0), later P es (run_event e w) p.1)
+  later P (m ∷ ms) w p = ((λ b. p.0), later P ms (moved m w) p.1)
 
   -- where something was said
-  from_here : (es : List Asked) (w : World) (before : List Asked) → w ≡ run_all before (format hd) → length before ≤ most_events → HasFewBindings (let v = run_all es w in v.lines) → HasBegun w → Ends es w
-  from_here es w before is short few begun =
-      let g : Holds hd (Going []) w = subst (Holds hd (Going [])) (sym is) (started before short (subst HasBegun is begun)) in
-      let r = along es w before is [] g few in
-      inr (r.0, r.1, later (λ v. In v r.0) es w r.2)
+  from_here : (ms : List Move) (w : World) (before : List Move) → w ≡ world_by hd before → length before + length ms ≤ most_events → HasBegun w → Ends ms w
+  from_here ms w before is short begun =
+      let g : Holds hd (Going []) w = subst (Holds hd (Going [])) (sym is) (started before (omega (arith, short)) (subst HasBegun is begun)) in
+      let r = along ms w before is short [] g in
+      inr (r.0, r.1, later (λ v. In v r.0) ms w r.2)
 
-  either : (es : List Asked) (w : World) → ((let v = w in v.lines) ≡ [] → Ends es w) → (HasBegun w → Ends es w) → Ends es w
-  either es w none some = by w.lines refl
+  either : (ms : List Move) (w : World) → ((let v = w in v.lines) ≡ [] → Ends ms w) → (HasBegun w → Ends ms w) → Ends ms w
+  either ms w none some = by w.lines refl
     where
-      by : (ls : List Line) → w.lines ≡ ls → Ends es w
+      by : (ls : List Line) → w.lines ≡ ls → Ends ms w
       by [] is = none is
       by (l ∷ ls) is = some (λ empty. cc (sym is ∙ empty))
 
-  pub ends : (es : List Asked) (w : World) (before : List Asked) → w ≡ run_all before (format hd) → length before + length es ≤ most_events → HasFewBindings (let v = run_all es w in v.lines) → Ends es w
-  ends [] w before is short few = either [] w (λ none. inl none) (from_here [] w before is (omega (arith, short)) few)
-  ends (e ∷ es) w before is short few =
-      let next = ends es (run_event e w) (before ++ e ∷ []) (ap (run_event e) is ∙ sym (one_behind before e (format hd))) (longer before e es short) few in
-      either (e ∷ es) w (λ none. ⊎_elim (λ empty. inl empty) (λ q. inr (q.0, q.1, ((λ b. absurd (b none)), q.2))) next) (from_here (e ∷ es) w before is (omega (arith, short)) few)
-    where
-      longer : (before : List Asked) (e : Asked) (fs : List Asked) → length before + length (e ∷ fs) ≤ most_events → length (before ++ e ∷ []) + length fs ≤ most_events
-      longer before e fs less = omega (arith, less, length-append before (e ∷ []))
+  pub ends : (ms : List Move) (w : World) (before : List Move) → w ≡ world_by hd before → length before + length ms ≤ most_events → Ends ms w
+  ends [] w before is short = either [] w (λ none. inl none) (from_here [] w before is short)
+  ends (m ∷ ms) w before is short =
+      let next = ends ms (moved m w) (before ++ m ∷ []) (one_behind before m w is) (longer before m ms short) in
+      either (m ∷ ms) w (λ none. ⊎_elim (λ empty. inl empty) (λ q. inr (q.0, q.1, ((λ b. absurd (b none)), q.2))) next) (from_here (m ∷ ms) w before is short)

@@ -1,12 +1,10 @@
--- Locks that are held, in the run of every script, where both machines stand in one run.
-use Rattle.std.specs.Prelude.{◌≤◌, List, length}
-use Rattle.arj_journal.specs.ScriptForm.{HeaderInForm}
+-- Locks that are held, in each run in form, where both machines stand in it.
+use Rattle.std.specs.Prelude.{List}
 use Rattle.arj_protocol.specs.Words.{Header}
-use Rattle.arj_protocol.specs.World.{Asked}
-use Rattle.arj_binding_law.specs.Scripts.{most_events}
+use Rattle.arj_view_law.specs.Moves.{Move}
 use Rattle.arj_lock_whole_law.specs.Held.{HoldsLocks}
-use Rattle.arj_joint_law.specs.FitRuns.{AreEventsInForm}
+use Rattle.arj_joint_law.specs.FitRuns.{IsInForm}
 
--- So locks are held after each event, where the script is in form.
+-- So locks are held after each event, where the run is in form.
 abbrev pub JointRunsHoldLocks : Type 0
-JointRunsHoldLocks = (hd : Header) (es : List Asked) → HeaderInForm hd → length es ≤ most_events → AreEventsInForm es → HoldsLocks hd es
+JointRunsHoldLocks = (hd : Header) (ms : List Move) → IsInForm hd ms → HoldsLocks hd ms

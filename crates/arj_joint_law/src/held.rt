@@ -1,8 +1,8 @@
 // Locks that are held in whole runs, at the nodes, where both machines stand in one run.
 ghost use Rattle.arj_joint_law.specs.Held.{JointRunsHoldLocks};
 
-/// Held, and entry held, after each event of each script whose header and events are in form, of at most 1,000,000 events, with all stops, crashes and
-/// restarts: each surviving call of a committed top has a node at which it is locked for at the end of each event from that of its `ok`
+/// Held, and entry held, after each event of each run whose header and events are in form, of at most 1,000,000 events, wherever disks stop, with all
+/// crashes and restarts: each surviving call of a committed top has a node at which it is locked for at the end of each event from that of its `ok`
 /// line on, until the commit of the last member of its unit is called. The node is up then, and an action on the caller's path holds the
 /// lock there, in a mode that the call needs; and naming, which is up, has a lock on the object's entry, by the root or an action of it.
 /// For each surviving include it is a write lock. Calls of one object and of different units that overlap are at one node. It takes

@@ -6,13 +6,14 @@ use Rattle.std.proofs.Math.Seq.{take-append_seam}
 use Rattle.std.proofs.lemmas.Bool.{and_parts}
 use Rattle.arj_lock.proofs.Members.{In, in_filter, in_to}
 use Rattle.arj_protocol.specs.Words.{Header, Line}
-use Rattle.arj_protocol.specs.World.{Asked, World, format, journal, run_all}
+use Rattle.arj_protocol.specs.World.{World, format}
 use Rattle.arj_model.specs.Actions.{Act, Placed, chain_in, committed, has_end, top_in}
 use Rattle.arj_model.specs.Calls.{Call, Said, Top, committed_calls, said, tops}
 use Rattle.arj_model.specs.Last.{Inclusion, first_values, included}
 use Rattle.arj_model.specs.Serial.{Values, unit_place}
 use Rattle.arj_law.specs.Held.{AreAtOneNode, unit_end}
 use Rattle.arj_part_law.specs.Actions.{Action, paths_of}
+use Rattle.arj_view_law.specs.Moves.{AfterMoves, Move, journal_by, world_by}
 use Rattle.arj_view_law.specs.Seen.{Seen, see}
 use Rattle.arj_line_law.specs.Book.{new_book}
 use Rattle.arj_line_law.specs.Paths.{AreAlike, IsAlikeOf}
@@ -36,13 +37,12 @@ use Rattle.arj_serial_law.proofs.Joins.{written_in}
 use Rattle.arj_serial_law.proofs.Locks.{at_one_node, called_by, locked_in, tie}
 use Rattle.arj_serial_law.proofs.Order.{shown}
 use Rattle.arj_serial_law.proofs.Seeing.{agrees_at, fixed_at, tied_at, tree}
-use Rattle.arj_lock_whole_law.specs.Held.{AfterEach, HoldsLocks, IsHeldNow, IsWrittenNow, entry_locks, locks_at}
+use Rattle.arj_lock_whole_law.specs.Held.{HoldsLocks, IsHeldNow, IsWrittenNow, entry_locks, locks_at}
 use Rattle.arj_lock_whole_law.proofs.Fronts.{each_grown, each_to}
 use Rattle.arj_lock_whole_law.proofs.RowsSeen.{rows_seen}
-use Rattle.arj_lock_whole_law.proofs.WholeRuns.{kept_call_objects, kept_include_objects}
+use Rattle.arj_lock_whole_law.proofs.WholeRuns.{runs_call_objects, runs_include_objects}
 use Rattle.std.proofs.Common.{arith}
 use Rattle.arj_view_law.specs.Seen.{Post}
-use Rattle.arj_call_law.proofs.Reaching.{scripts_keep}
 use Rattle.arj_lock_law.specs.Machine.{Run}
 use Rattle.arj_lock_fact_law.specs.Uppers.{AreUppersOf}
 use Rattle.arj_lock_whole_law.specs.Tops.{HoldsNames}
@@ -73,19 +73,19 @@ begun_by n w less empty = absurd (none (subst (λ (ls : List Line). n < length l
     none low = omega (arith, low)
 
 -- all that is held of an object's calls and includes
-pub record OfObject (hd : Header) (es : List Asked) (x : ℕ) : Type 0 where
+pub record OfObject (hd : Header) (ms : List Move) (x : ℕ) : Type 0 where
   pub node : Call → ℕ
-  pub held : (c : Call) → In c (committed_calls (journal hd es)) → c.x ≡ x → AfterEach (IsHeldNow (journal hd es) c (node c)) (format hd) es
-  pub written : (u : Top) → In u (tops (journal hd es)) → (i : Placed Inclusion) → In i (joins_with (journal hd es) u) → i.it.x ≡ x → AfterEach (IsWrittenNow (journal hd es) u i) (format hd) es
-  pub one : (c d : Call) → In c (committed_calls (journal hd es)) → In d (committed_calls (journal hd es)) → c.x ≡ x → d.x ≡ x → AreAtOneNode (journal hd es) node c d
+  pub held : (c : Call) → In c (committed_calls (journal_by hd ms)) → c.x ≡ x → AfterMoves (IsHeldNow (journal_by hd ms) c (node c)) (format hd) ms
+  pub written : (u : Top) → In u (tops (journal_by hd ms)) → (i : Placed Inclusion) → In i (joins_with (journal_by hd ms) u) → i.it.x ≡ x → AfterMoves (IsWrittenNow (journal_by hd ms) u i) (format hd) ms
+  pub one : (c d : Call) → In c (committed_calls (journal_by hd ms)) → In d (committed_calls (journal_by hd ms)) → c.x ≡ x → d.x ≡ x → AreAtOneNode (journal_by hd ms) node c d
 
-module _ (hd : Header) (values : Values) (x : ℕ) (es : List Asked) (sent : List Post) (begun : List Action) (alike : IsAlikeOf begun (see sent (run_all es (format hd))))
-    (seen : (f : Fixed) → AreApart f.code → AgreesAs values f x begun sent → (S : State) × SeesLocks f x begun S (see sent (run_all es (format hd))) × AreTied f x (journal hd es) S) (knows : RequestsAreOne (see sent (run_all es (format hd)))) where
+module _ (hd : Header) (values : Values) (x : ℕ) (ms : List Move) (sent : List Post) (begun : List Action) (alike : IsAlikeOf begun (see sent (world_by hd ms)))
+    (seen : (f : Fixed) → AreApart f.code → AgreesAs values f x begun sent → (S : State) × SeesLocks f x begun S (see sent (world_by hd ms)) × AreTied f x (journal_by hd ms) S) (knows : RequestsAreOne (see sent (world_by hd ms))) where
   abbrev M : Seen
-  M = see sent (run_all es (format hd))
+  M = see sent (world_by hd ms)
 
   abbrev lines : List Line
-  lines = journal hd es
+  lines = journal_by hd ms
 
   -- the codes and places, and the last state of the machine
   abbrev pub fixed : Fixed
@@ -142,20 +142,20 @@ module _ (hd : Header) (values : Values) (x : ℕ) (es : List Asked) (sent : Lis
           written_in values lines right x last t (length v.lines) s.0 u listed i j object a is (eqb-true a.id u.id p.0) p.1 behind within (locks_at x v) (entry_locks x v) s.1
 
   -- all of the object
-  pub of_object : AfterEach (λ v. HasBegun v → WasSeen values x fixed last v) (format hd) es → OfObject hd es x
+  pub of_object : AfterMoves (λ v. HasBegun v → WasSeen values x fixed last v) (format hd) ms → OfObject hd ms x
   of_object each = record {
     node = ran_at values lines x last t;
     held = λ c there object.
-        let go = each_to Front (λ v. c.at < length v.lines → length v.lines ≤ unit_end lines c → IsLockedIn lines (locks_at x v (ran_at values lines x last t c)) (entry_locks x v) c) (held_now c there object) es (format hd) fronts in
-        subst (λ (y : ℕ). AfterEach (λ v. c.at < length v.lines → length v.lines ≤ unit_end lines c → IsLockedIn lines (locks_at y v (ran_at values lines x last t c)) (entry_locks y v) c) (format hd) es) (sym object) go;
+        let go = each_to Front (λ v. c.at < length v.lines → length v.lines ≤ unit_end lines c → IsLockedIn lines (locks_at x v (ran_at values lines x last t c)) (entry_locks x v) c) (held_now c there object) ms (format hd) fronts in
+        subst (λ (y : ℕ). AfterMoves (λ v. c.at < length v.lines → length v.lines ≤ unit_end lines c → IsLockedIn lines (locks_at y v (ran_at values lines x last t c)) (entry_locks y v) c) (format hd) ms) (sym object) go;
     written = λ u listed i there object.
-        let go = each_to Front (λ v. i.at < length v.lines → length v.lines ≤ unit_place (tops lines) u.root → IsWrittenIn lines (entry_locks x v) u x) (written_now u listed i there object) es (format hd) fronts in
-        subst (λ (y : ℕ). AfterEach (λ v. i.at < length v.lines → length v.lines ≤ unit_place (tops lines) u.root → IsWrittenIn lines (entry_locks y v) u y) (format hd) es) (sym object) go;
+        let go = each_to Front (λ v. i.at < length v.lines → length v.lines ≤ unit_place (tops lines) u.root → IsWrittenIn lines (entry_locks x v) u x) (written_now u listed i there object) ms (format hd) fronts in
+        subst (λ (y : ℕ). AfterMoves (λ v. i.at < length v.lines → length v.lines ≤ unit_place (tops lines) u.root → IsWrittenIn lines (entry_locks y v) u y) (format hd) ms) (sym object) go;
     one = λ c d i j cx dx apart same less within. at_one_node values lines right x last t c d (shown values lines right x last (tie values lines right x last t) c i cx) (shown values lines right x last (tie values lines right x last t) d j dx) apart less within;
   }
     where
-      fronts : AfterEach Front (format hd) es
-      fronts = each_grown (λ v. HasBegun v → WasSeen values x fixed last v) es (format hd) each
+      fronts : AfterMoves Front (format hd) ms
+      fronts = each_grown (λ v. HasBegun v → WasSeen values x fixed last v) ms (format hd) each
 
 each_call : {A : Type 0} (P : A → Type 0) (cs : List A) → ((c : A) → In c cs → P c) → AllByRecursion P cs
 each_call P [] f = tt
@@ -163,12 +163,12 @@ each_call P (c ∷ cs) f = (f c (inl refl), each_call P cs (λ d i. f d (inr i))
 
 -- ---- all objects
 
-module _ (hd : Header) (es : List Asked) (object_of : (x : ℕ) → HasObject hd x → OfObject hd es x) where
-  called : (x : ℕ) → IsCalled x (journal hd es) → OfObject hd es x
-  called x is = object_of x (kept_call_objects hd (run_all es (format hd)) (scripts_keep hd es) x is)
+module _ (hd : Header) (ms : List Move) (object_of : (x : ℕ) → HasObject hd x → OfObject hd ms x) where
+  called : (x : ℕ) → IsCalled x (journal_by hd ms) → OfObject hd ms x
+  called x is = object_of x (runs_call_objects hd ms x is)
 
   abbrev is_called : ℕ → Bool
-  is_called x = list_any (λ (s : Placed Said). s.it.x == x) (said (journal hd es))
+  is_called x = list_any (λ (s : Placed Said). s.it.x == x) (said (journal_by hd ms))
 
   -- at which node a call of an object ran
   abbrev node_at : (x : ℕ) (b : Bool) → is_called x ≡ b → Call → ℕ
@@ -182,21 +182,21 @@ module _ (hd : Header) (es : List Asked) (object_of : (x : ℕ) → HasObject hd
   node_same x true e c f = ap (λ g. let o = called x g in o.node c) (Bool-set (is_called x) true e f)
   node_same x false e c f = never f e
 
-  call_there : (c : Call) → In c (committed_calls (journal hd es)) → is_called c.x ≡ true
-  call_there c i = called_by (first_values hd) (journal hd es) c i
+  call_there : (c : Call) → In c (committed_calls (journal_by hd ms)) → is_called c.x ≡ true
+  call_there c i = called_by (first_values hd) (journal_by hd ms) c i
 
-  pub holds : HoldsLocks hd es
+  pub holds : HoldsLocks hd ms
   holds = record {
     node = node_of;
-    calls = each_call (λ (c : Call). AfterEach (IsHeldNow (journal hd es) c (node_of c)) (format hd) es) (committed_calls (journal hd es)) (λ c i.
+    calls = each_call (λ (c : Call). AfterMoves (IsHeldNow (journal_by hd ms) c (node_of c)) (format hd) ms) (committed_calls (journal_by hd ms)) (λ c i.
         let o = called c.x (call_there c i) in
-        subst (λ n. AfterEach (IsHeldNow (journal hd es) c n) (format hd) es) (sym (node_same c.x (is_called c.x) refl c (call_there c i))) (o.held c i refl));
-    includes = each_call (λ (u : Top). AllByRecursion (λ (i : Placed Inclusion). AfterEach (IsWrittenNow (journal hd es) u i) (format hd) es) (joins_with (journal hd es) u)) (tops (journal hd es)) (λ u listed. each_call (λ (i : Placed Inclusion). AfterEach (IsWrittenNow (journal hd es) u i) (format hd) es) (joins_with (journal hd es) u) (λ i there.
-        let f = in_filter (λ (z : Placed Inclusion). joins_top (journal hd es) u z (top_in z.it.path)) i (included (journal hd es)) there in
-        let has = kept_include_objects hd (run_all es (format hd)) (scripts_keep hd es) i (in_to i (included (journal hd es)) f.0) in
+        subst (λ n. AfterMoves (IsHeldNow (journal_by hd ms) c n) (format hd) ms) (sym (node_same c.x (is_called c.x) refl c (call_there c i))) (o.held c i refl));
+    includes = each_call (λ (u : Top). AllByRecursion (λ (i : Placed Inclusion). AfterMoves (IsWrittenNow (journal_by hd ms) u i) (format hd) ms) (joins_with (journal_by hd ms) u)) (tops (journal_by hd ms)) (λ u listed. each_call (λ (i : Placed Inclusion). AfterMoves (IsWrittenNow (journal_by hd ms) u i) (format hd) ms) (joins_with (journal_by hd ms) u) (λ i there.
+        let f = in_filter (λ (z : Placed Inclusion). joins_top (journal_by hd ms) u z (top_in z.it.path)) i (included (journal_by hd ms)) there in
+        let has = runs_include_objects hd ms i (in_to i (included (journal_by hd ms)) f.0) in
         let o = object_of i.it.x has.0 in
         o.written u listed i there refl));
-    at_one = each_call (λ c. AllByRecursion (AreAtOneNode (journal hd es) node_of c) (committed_calls (journal hd es))) (committed_calls (journal hd es)) (λ c i. each_call (AreAtOneNode (journal hd es) node_of c) (committed_calls (journal hd es)) (λ d j apart same less within.
+    at_one = each_call (λ c. AllByRecursion (AreAtOneNode (journal_by hd ms) node_of c) (committed_calls (journal_by hd ms))) (committed_calls (journal_by hd ms)) (λ c i. each_call (AreAtOneNode (journal_by hd ms) node_of c) (committed_calls (journal_by hd ms)) (λ d j apart same less within.
         let o = called c.x (call_there c i) in
         node_same c.x (is_called c.x) refl c (call_there c i) ∙ o.one c d i j refl (sym same) apart same less within ∙ sym (node_same c.x (is_called c.x) refl d (call_there c i)) ∙ (λ k. node_at (same k) (is_called (same k)) refl d)));
   }

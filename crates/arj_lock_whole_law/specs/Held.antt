@@ -1,5 +1,5 @@
--- Locks that are held, in the run of every script: by what nodes have in memory after each event.
-use Rattle.std.specs.Prelude.{◌<◌, ◌≤◌, ℕ, List, [], ◌∷◌, length, Option, Some, None}
+-- Locks that are held, in each run: by what nodes have in memory after each event.
+use Rattle.std.specs.Prelude.{◌<◌, ◌≤◌, ℕ, List, [], length, Option, Some, None}
 use Rattle.std.specs.List.{AllByRecursion}
 use Rattle.arj_protocol.specs.Words.{Header, Line, Row}
 use Rattle.arj_protocol.specs.Laws.{naming_rows, server_rows}
@@ -7,13 +7,14 @@ use Rattle.arj_protocol.specs.Naming.{Naming}
 use Rattle.arj_protocol.specs.Node.{Parts}
 use Rattle.arj_protocol.specs.Step.{Node}
 use Rattle.arj_protocol.specs.Tree.{at_place}
-use Rattle.arj_protocol.specs.World.{Asked, World, format, journal, run_event}
+use Rattle.arj_protocol.specs.World.{World, format}
 use Rattle.arj_model.specs.Actions.{Placed}
 use Rattle.arj_model.specs.Calls.{Call, Top, committed_calls, tops}
 use Rattle.arj_model.specs.Last.{Inclusion}
 use Rattle.arj_model.specs.Serial.{unit_place}
 use Rattle.arj_law.specs.Book.{OfEachTwo}
 use Rattle.arj_law.specs.Held.{AreAtOneNode, unit_end}
+use Rattle.arj_view_law.specs.Moves.{AfterMoves, Move, journal_by}
 use Rattle.arj_serial_law.specs.Locked.{IsLockedIn, IsWrittenIn, joins_with}
 
 -- ---- locks of nodes
@@ -48,11 +49,6 @@ entry_locks x w = entry_locks_in x (memory_of (at_place 1 w.nodes))
 
 -- ---- after each event
 
--- so it is of this world, and after each of these events
-abbrev pub AfterEach : (World → Type 0) → World → List Asked → Type 0
-AfterEach P w [] = P w
-AfterEach P w (e ∷ es) = P w × AfterEach P (run_event e w) es
-
 -- Where the call was answered by now, and the commit of its unit's last member isn't called yet, the call is locked for at this node, which
 -- is up, on its caller's path; and its object's entry is at naming, for its unit.
 abbrev pub IsHeldNow : List Line → Call → ℕ → World → Type 0
@@ -64,8 +60,8 @@ IsWrittenNow lines u i w = i.at < length w.lines → length w.lines ≤ unit_pla
 
 -- Held, and entry held: each surviving call of a committed top has a node at which it is, at the end of each event, and the entry of its
 -- object; so is that of each surviving include, for writing; and calls of one object and of different units that overlap are at one node.
-pub record HoldsLocks (hd : Header) (es : List Asked) : Type 0 where
+pub record HoldsLocks (hd : Header) (ms : List Move) : Type 0 where
   pub node : Call → ℕ
-  pub calls : AllByRecursion (λ (c : Call). AfterEach (IsHeldNow (journal hd es) c (node c)) (format hd) es) (committed_calls (journal hd es))
-  pub includes : AllByRecursion (λ (u : Top). AllByRecursion (λ (i : Placed Inclusion). AfterEach (IsWrittenNow (journal hd es) u i) (format hd) es) (joins_with (journal hd es) u)) (tops (journal hd es))
-  pub at_one : OfEachTwo (AreAtOneNode (journal hd es) node) (committed_calls (journal hd es))
+  pub calls : AllByRecursion (λ (c : Call). AfterMoves (IsHeldNow (journal_by hd ms) c (node c)) (format hd) ms) (committed_calls (journal_by hd ms))
+  pub includes : AllByRecursion (λ (u : Top). AllByRecursion (λ (i : Placed Inclusion). AfterMoves (IsWrittenNow (journal_by hd ms) u i) (format hd) ms) (joins_with (journal_by hd ms) u)) (tops (journal_by hd ms))
+  pub at_one : OfEachTwo (AreAtOneNode (journal_by hd ms) node) (committed_calls (journal_by hd ms))

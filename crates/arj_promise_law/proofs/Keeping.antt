@@ -1,5 +1,5 @@
 -- The laws of every run, put together for one script.
-use Rattle.std.proofs.Common.{◌≡◌, ◌∙◌, ◌++◌, Bool, true, false, cond, List, [], ◌∷◌, length-append, arith, refl, sym, ap, subst, ◌⊎◌, inl, inr, ⊎_elim}
+use Rattle.std.proofs.Common.{◌≡◌, ◌≤◌, ◌∙◌, ◌++◌, Bool, true, false, cond, List, [], ◌∷◌, length-append, arith, refl, sym, ap, subst, ◌⊎◌, inl, inr, ⊎_elim}
 use Rattle.std.specs.List.{AllByRecursion}
 use Rattle.arj_journal.specs.ScriptForm.{EventInForm}
 use Rattle.arj_model.specs.Clean.{Clean, Disks}
@@ -12,12 +12,13 @@ use Rattle.arj_view_law.specs.Moves.{moves_of}
 use Rattle.arj_view_law.proofs.Moving.{scripts_are_moves}
 use Rattle.arj_call_law.specs.Reached.{IsReached}
 use Rattle.arj_call_law.proofs.Reaching.{scripts_keep}
-use Rattle.arj_binding_law.proofs.Events.{scripts_reached}
+use Rattle.arj_binding_law.specs.Scripts.{most_events}
+use Rattle.arj_binding_law.proofs.Events.{as_many, scripts_reached}
 use Rattle.arj_joint_law.proofs.BookRuns.{lists_nodes, reached_book}
 use Rattle.arj_joint_law.proofs.Clean.{reached_clean, reached_serial}
 use Rattle.arj_joint_law.specs.Excluded.{CommitsBeginIt}
 use Rattle.arj_joint_law.proofs.CommitCalls.{commits_begin}
-use Rattle.arj_joint_law.proofs.FitRuns.{runs_fit}
+use Rattle.arj_joint_law.proofs.FitRuns.{runs_fit, scripts_in_form}
 use Rattle.arj_joint_law.proofs.RunsInTime.{reached_in_time}
 use Rattle.arj_held_law.proofs.Holding.{runs_hold}
 use Rattle.arj_round_law.specs.Quiet.{AreGivenUp, NobodyWaits}
@@ -46,7 +47,7 @@ pub runs_keep : RunsKeepThePromise
 runs_keep hd es f = record {
   serial = reached_serial hd f.header (run_all es (format hd)) (reached hd es f) (λ x. runs_fit hd x es f.events);
   book = reached_book hd f.header (run_all es (format hd)) (reached hd es f) (λ x. runs_fit hd x es f.events);
-  held = runs_hold hd es f.header f.few f.events;
+  held = runs_hold hd (moves_of hd es) (record { header = f.header; events = scripts_in_form es (format hd) f.events; few = subst (λ n. n ≤ most_events) (sym (as_many es (format hd))) f.few });
   clean = clean hd es f;
   in_time = reached_in_time hd f.header (run_all es (format hd)) (reached hd es f) (λ x. runs_fit hd x es f.events)
       (subst (λ (v : World). CommitsBeginIt v.event v.lines) (scripts_are_moves hd es) (commits_begin hd (moves_of hd es)));

@@ -7,6 +7,7 @@ use Rattle.arj_model.specs.Last.{first_values}
 use Rattle.arj_protocol.specs.Words.{Header}
 use Rattle.arj_protocol.specs.Words.event
 use Rattle.arj_protocol.specs.World.{Asked, World, format, journal, lowest_from, run_all}
+use Rattle.arj_view_law.specs.Moves.{moves_of}
 use Rattle.arj_view_law.specs.Seen.{see}
 use Rattle.arj_binding_law.specs.Scripts.{most_events}
 use Rattle.arj_serial_law.specs.Seen.{IsSerialBy}
@@ -50,7 +51,7 @@ HasFiles hd es disks = FilesAre (see [] (world_of hd es)) disks
 pub record KeepsThePromise (hd : Header) (es : List Asked) : Type 0 where
   pub serial : IsSerialBy hd (journal hd es)
   pub book : KeepsTheBook (first_values hd) (journal hd es)
-  pub held : HoldsInTables hd es
+  pub held : HoldsInTables hd (moves_of hd es)
   pub clean : (disks : Disks) → HasFiles hd es disks → Clean hd (journal hd es) disks
   pub in_time : AreExcludedInTime hd (let w = world_of hd es in w.event) (see [] (world_of hd es))
   pub outcome : ShowsOneOutcome (journal hd es)
