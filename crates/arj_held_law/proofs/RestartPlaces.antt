@@ -4,6 +4,7 @@ use Rattle.std.specs.Prelude.{if◌then◌else◌}
 use Rattle.std.specs.List.{AllByRecursion, list_all, list_any}
 use Rattle.std.proofs.lemmas.Bool.{and_parts}
 use Rattle.arj_base.specs.Rows.{Row}
+use Rattle.arj_model.specs.Actions.{begun_of}
 use Rattle.arj_model.specs.Table.{table}
 use Rattle.arj_protocol.specs.Words.{Body, Event, Header}
 use Rattle.arj_protocol.specs.Words.body
@@ -18,7 +19,7 @@ use Rattle.arj_view_law.specs.Seen.{AreQuiet, Post, is_quiet_line, see}
 use Rattle.arj_lock_law.specs.State.{State}
 use Rattle.arj_lock_run_law.specs.Fixed.{Agrees, Fixed}
 use Rattle.arj_lock_run_law.specs.Sees.{SeesLocks}
-use Rattle.arj_lock_run_law.specs.Tied.{AreTied}
+use Rattle.arj_lock_run_law.specs.Tied.{AreTied, BeginNone}
 use Rattle.arj_lock_whole_law.specs.Held.{locks_in, memory_of}
 use Rattle.arj_lock_whole_law.proofs.CalledSays.{calls_commit}
 use Rattle.arj_held_law.specs.Shown.{AreShown}
@@ -31,7 +32,7 @@ use Rattle.arj_held_law.proofs.Restarts.{IsMute, Restarts, limited_restarts}
 use Rattle.arj_held_law.proofs.Sorts.{is_of}
 use Rattle.arj_held_law.proofs.Writes.{node_event}
 
--- What an event by which this node was to restart leaves: lines of the node alone, in which no commit is called and no call answered; what locks on objects it has then are rows of its
+-- What an event by which this node was to restart leaves: lines of the node alone, in which no commit is called, no call answered and no action begins; what locks on objects it has then are rows of its
 -- table from before the first of them on; and the other nodes are as they were.
 pub record Lately (n e : ℕ) (w v : World) : Type 0 where
   pub said : List Body
@@ -61,12 +62,20 @@ pub none_answered : (n : ℕ) (bs : List Body) → AllByRecursion (IsMute n) bs 
 none_answered n [] all = tt
 none_answered n (b ∷ bs) all = (all.0.2, none_answered n bs all.1)
 
+pub none_begun : (n : ℕ) (bs : List Body) → AllByRecursion (IsMute n) bs → BeginNone bs
+none_begun n [] all = tt
+none_begun n (b ∷ bs) all = (all.0.3, none_begun n bs all.1)
+
+quiet_begins : (b : Body) → is_quiet_line b ≡ true → begun_of b ≡ None
+quiet_begins (body.Began l k u q) is = absurd (cc is)
+quiet_begins b is = refl
+
 quiet_mute : (n : ℕ) (bs : List Body) → list_all (is_of n) bs ≡ true → AreQuiet bs → AllByRecursion (IsMute n) bs
 quiet_mute n [] of quiet = tt
 quiet_mute n (b ∷ bs) of quiet =
     let q = and_parts (is_of n b) (list_all (is_of n) bs) of in
     let r = and_parts (is_quiet_line b) (list_all is_quiet_line bs) quiet in
-    ((q.0, quiet_commits b r.0, quiet_answers b r.0), quiet_mute n bs q.1 r.1)
+    ((q.0, quiet_commits b r.0, quiet_answers b r.0, quiet_begins b r.0), quiet_mute n bs q.1 r.1)
 
 -- where nobody looks
 quiet_lately : (n e : ℕ) (w v : World) → AreShown w → (bs : List Body) → AreQuiet bs → v.lines ≡ w.lines ++ numbered e bs → v.nodes ≡ w.nodes → Lately n e w v

@@ -1,10 +1,11 @@
--- A restart: its lines are the node's own, call no commit and answer no call, and it leaves no lock on an object at the node.
+-- A restart: its lines are the node's own, call no commit, answer no call and begin no action, and it leaves no lock on an object at the node.
 use Rattle.std.proofs.Common.{◌≡◌, ◌∙◌, ◌==◌, ◌++◌, ◌+◌, ◌-◌, ℕ, zero, suc, List, [], ◌∷◌, Bool, true, false, cond, length, Option, Some, None, refl, sym, ap, subst, append_assoc, eq-eqb}
 use Rattle.std.specs.Prelude.{if◌then◌else◌, is_some, nat_le, nat_lt}
 use Rattle.std.specs.List.{AllByRecursion, list_all}
 use Rattle.std.proofs.lemmas.Bool.{and_parts}
 use Rattle.std.proofs.lemmas.List.{map-append}
 use Rattle.arj_base.specs.Uid.{nobody, uid_eq}
+use Rattle.arj_model.specs.Actions.{begun_of}
 use Rattle.arj_protocol.specs.Words.{Asked, Body, End, Message, Uid}
 use Rattle.arj_protocol.specs.Words.body
 use Rattle.arj_protocol.specs.Words.message
@@ -37,11 +38,11 @@ use Rattle.arj_held_law.proofs.Messages.{own_lines}
 use Rattle.arj_held_law.proofs.Running.{restart_of}
 use Rattle.arj_held_law.proofs.Says.{All, outs_of, says}
 use Rattle.arj_held_law.proofs.Sorts.{is_of}
-use Rattle.arj_held_law.proofs.Telling.{IsTelling, Tells, restart_tells, taken_tells}
+use Rattle.arj_held_law.proofs.Telling.{IsTelling, Tells, handled_tells, restart_tells, taken_tells}
 
--- the line is of this node alone, calls no commit, and answers no call
+-- the line is of this node alone, calls no commit and answers no call, and no action begins by it
 abbrev pub IsMute : ℕ → Body → Type 0
-IsMute n b = (is_of n b ≡ true) × NoCommit b × NoAnswer b
+IsMute n b = (is_of n b ≡ true) × NoCommit b × NoAnswer b × (begun_of b ≡ None)
 
 -- what tells, asks or acknowledges is no answer
 no_reply : (m : Message) → IsTelling m → (y : Asked × Reply) → answers m ≡ Some y → ⊥
@@ -54,11 +55,11 @@ module _ (n : ℕ) where
   abbrev Mute : List Effect → Type 0
   Mute outs = AllByRecursion (SayOf (IsMute n)) outs
 
-  all_mute : (es : List Effect) → All (is_of n) es → AllByRecursion (SayOf NoCommit) es → AllByRecursion (SayOf NoAnswer) es → Mute es
-  all_mute [] of calls answers = tt
-  all_mute (Say b ∷ es) of calls answers = let q = and_parts (is_of n b) (list_all (says (is_of n)) es) of in ((q.0, calls.0, answers.0), all_mute es q.1 calls.1 answers.1)
-  all_mute (Send to m ∷ es) of calls answers = (tt, all_mute es of calls.1 answers.1)
-  all_mute (Do w ∷ es) of calls answers = (tt, all_mute es of calls.1 answers.1)
+  all_mute : (es : List Effect) → All (is_of n) es → AllByRecursion (SayOf NoCommit) es → AllByRecursion (SayOf NoAnswer) es → Tells n es → Mute es
+  all_mute [] of calls answers tells = tt
+  all_mute (Say b ∷ es) of calls answers tells = let q = and_parts (is_of n b) (list_all (says (is_of n)) es) of in ((q.0, calls.0, answers.0, tells.0), all_mute es q.1 calls.1 answers.1 tells.1)
+  all_mute (Send to m ∷ es) of calls answers tells = (tt, all_mute es of calls.1 answers.1 tells.1)
+  all_mute (Do w ∷ es) of calls answers tells = (tt, all_mute es of calls.1 answers.1 tells.1)
 
   -- naming is at its node, and no object has a copy at the server
   record IsBare (t : Parts) : Type 0 where
@@ -75,6 +76,7 @@ module _ (n : ℕ) where
     took : (m : Message) → IsTelling m → (v : Parts) (outs : List Effect) → handle n d t from m ≡ Took v outs → Mute outs
     took m tells v outs is = all_mute outs (own_lines n d t v bare.place from m outs is) (message_commits n d t v from m outs is)
         (message_fine NoAnswer apart_answer n d t v from m outs is (λ a r q s of found now waits e ends l. absurd (no_reply m tells (a, r) of)) (λ a r q c of found now. absurd (no_reply m tells (a, r) of)))
+        (subst (λ (h : Handled). Tells n (outs_of h)) is (handled_tells n d t from m tells))
 
     fine : (m : Message) → IsTelling m → FineBy (handle n d t from m)
     fine (message.Told m) is = told (last_end m.ends) refl
@@ -163,13 +165,13 @@ module _ (n : ℕ) where
   bodies_mute from k (Send to m ∷ es) mute = by (nat_le (k + 1) most_frames) (bodies_mute from (k + 1) es mute.1)
     where
       by : (b : Bool) → AllByRecursion (IsMute n) (bodies from (k + 1) es) → AllByRecursion (IsMute n) (cond b (body.Sent (k + 1) from to (frame_kind m) ∷ []) [] ++ bodies from (k + 1) es)
-      by true rest = ((refl, refl, refl), rest)
+      by true rest = ((refl, refl, refl, refl), rest)
       by false rest = rest
   bodies_mute from k (Do w ∷ es) mute = bodies_mute from k es mute.1
 
 -- ---- a node that restarts
 
--- What a restart of this node leaves: lines of the node alone, in which no commit is called and no call answered, no lock on an object there, and the other nodes as they were.
+-- What a restart of this node leaves: lines of the node alone, in which no commit is called, no call answered and no action begins, no lock on an object there, and the other nodes as they were.
 pub record Restarts (n : ℕ) (w v : World) : Type 0 where
   pub said : List Body
   pub lines : v.lines ≡ w.lines ++ numbered w.event said
@@ -195,8 +197,9 @@ module _ (w : World) (n : ℕ) (d : Disk) (there : at_place n w.nodes ≡ Some (
   done : FineRan n (whole n (parts_in n (d.inc + 1) d) (restart_outs w.header n (d.inc + 1) d) d)
   done =
       let outs = restart_outs w.header n (d.inc + 1) d in
-      let mute = all_mute n outs (restart_of w.header 0 0 n (d.inc + 1) d) (restart_fine NoCommit apart_commit w.header n (d.inc + 1) d) (restart_fine NoAnswer apart_answer w.header n (d.inc + 1) d) in
-      rounds_fine n most_rounds (ran n (parts_in n (d.inc + 1) d) outs d) (ran_fine n (parts_in n (d.inc + 1) d) bare outs d mute (restart_tells n w.header (d.inc + 1) d records store names))
+      let tells = restart_tells n w.header (d.inc + 1) d records store names in
+      let mute = all_mute n outs (restart_of w.header 0 0 n (d.inc + 1) d) (restart_fine NoCommit apart_commit w.header n (d.inc + 1) d) (restart_fine NoAnswer apart_answer w.header n (d.inc + 1) d) tells in
+      rounds_fine n most_rounds (ran n (parts_in n (d.inc + 1) d) outs d) (ran_fine n (parts_in n (d.inc + 1) d) bare outs d mute tells)
 
   until_mute : (a : Option Arm) → Mute n (effects_until n resting s a)
   until_mute None = done.0
@@ -204,7 +207,7 @@ module _ (w : World) (n : ℕ) (d : Disk) (there : at_place n w.nodes ≡ Some (
     where
       by : (b : Bool) → Mute n (cond b s.outs (halted_outs n (cut (a.works - 1) a.how s.halting d)))
       by true = done.0
-      by false = all_append (SayOf (IsMute n)) (cut (a.works - 1) a.how s.halting d).outs (Say (body.Halted n) ∷ []) (cut_mute n (a.works - 1) a.how s.halting d done.0) ((itself n, refl, refl), tt)
+      by false = all_append (SayOf (IsMute n)) (cut (a.works - 1) a.how s.halting d).outs (Say (body.Halted n) ∷ []) (cut_mute n (a.works - 1) a.how s.halting d done.0) ((itself n, refl, refl, refl), tt)
 
   -- the node, and the others
   set_gone : (x : ℕ) (m : Node) → locks_in x m.live ≡ [] → locks_in x (memory_of (at_place n (set_place n m w.nodes))) ≡ []
@@ -247,7 +250,7 @@ limited_restarts n w v same r = by v.full
     by true = record {
       said = r.said ++ body.Limit which.Frames ∷ [];
       lines = (λ i. r.lines i ++ numbered (same i) (body.Limit which.Frames ∷ [])) ∙ append_assoc w.lines (numbered w.event r.said) (numbered w.event (body.Limit which.Frames ∷ [])) ∙ ap (λ ls. w.lines ++ ls) (sym (map-append (λ (b : Body). record { event = w.event; body = b }) r.said (body.Limit which.Frames ∷ [])));
-      mute = all_append (IsMute n) r.said (body.Limit which.Frames ∷ []) r.mute ((refl, refl, refl), tt);
+      mute = all_append (IsMute n) r.said (body.Limit which.Frames ∷ []) r.mute ((refl, refl, refl, refl), tt);
       gone = r.gone;
       others = r.others;
     }

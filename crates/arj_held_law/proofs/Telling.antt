@@ -1,11 +1,12 @@
--- A node that restarts sends tolds, acknowledgements and questions to itself alone, of actions.
+-- A node that restarts sends tolds, acknowledgements and questions to itself alone, of actions, and begins none.
 use Rattle.std.proofs.Common.{◌≡◌, ◌∙◌, ◌==◌, ◌&&◌, ◌++◌, ℕ, zero, suc, List, [], ◌∷◌, Bool, true, false, cond, map, Option, Some, None, refl}
 use Rattle.std.specs.Prelude.{⊤, not, ◌||◌}
 use Rattle.std.specs.List.{AllByRecursion, flat_map, list_all}
 use Rattle.std.proofs.lemmas.Bool.{and_parts}
 use Rattle.arj_base.specs.Uid.{nobody, uid_eq}
 use Rattle.arj_disk_run_law.proofs.Lists.{all_append, all_set}
-use Rattle.arj_protocol.specs.Words.{End, Header, Message, Uid}
+use Rattle.arj_model.specs.Actions.{begun_of}
+use Rattle.arj_protocol.specs.Words.{Body, End, Header, Message, Uid}
 use Rattle.arj_protocol.specs.Words.body
 use Rattle.arj_protocol.specs.Words.ending
 use Rattle.arj_protocol.specs.Words.message
@@ -21,7 +22,7 @@ use Rattle.arj_protocol.specs.Naming as naming
 use Rattle.arj_protocol.specs.Naming.{Naming}
 use Rattle.arj_protocol.specs.Node.{Handled, Here, Parts, Ran, Took, Void, ack_told, by_reply, end_states, first_done, first_queued, handle, handle_all, handle_ends, is_meant, naming_told, next_round, prepared_actions, query_about, ran, ran_handled, store_told, taken, with_coord}
 use Rattle.arj_protocol.specs.Order.{at_uid, has, uid_set, without_number, without_uid}
-use Rattle.arj_protocol.specs.Says.{AreAll, is_naming_effect, is_server_effect}
+use Rattle.arj_protocol.specs.Says.{AreAll, is_naming_effect, is_naming_line, is_server_effect, is_server_line}
 use Rattle.arj_protocol.specs.Server as server
 use Rattle.arj_protocol.specs.Step.{hello_to, naming_at, naming_back, numbers_to, recovered_records, restart_outs, tolds_again}
 use Rattle.arj_protocol.specs.Tree.{Tree, at_place, branch_of, is_open, is_own}
@@ -37,10 +38,10 @@ IsTelling (message.Query m) = uid_eq nobody m.act ≡ false
 IsTelling (message.Acked m) = ⊤
 IsTelling m = ⊥
 
--- so it is of what is sent to this node
+-- so it is of what is sent to this node; and at what is said no action begins
 abbrev pub TellsTo : ℕ → Effect → Type 0
 TellsTo n (Send to m) = (to == n) ≡ true → IsTelling m
-TellsTo n (Say b) = ⊤
+TellsTo n (Say b) = begun_of b ≡ None
 TellsTo n (Do w) = ⊤
 
 abbrev pub Tells : ℕ → List Effect → Type 0
@@ -69,12 +70,21 @@ telling_fits h (message.Prepared m) is = absurd is
 telling_fits h (message.Confirm m) is = absurd is
 telling_fits h (message.Confirmed m) is = absurd is
 
+-- no action begins at lines of servers and of naming
+server_begins : (n : ℕ) (b : Body) → is_server_line n b ≡ true → begun_of b ≡ None
+server_begins n (body.Began l k u p) is = absurd (cc is)
+server_begins n b is = refl
+
+naming_begins : (b : Body) → is_naming_line b ≡ true → begun_of b ≡ None
+naming_begins (body.Began l k u p) is = absurd (cc is)
+naming_begins b is = refl
+
 module _ (n : ℕ) where
-  none_sent : (test : Effect → Bool) → ((to : ℕ) (m : Message) → test (Send to m) ≡ false) → (es : List Effect) → AreAll test es → Tells n es
-  none_sent test none [] all = tt
-  none_sent test none (Say b ∷ es) all = (tt, none_sent test none es (and_parts (test (Say b)) (list_all test es) all).1)
-  none_sent test none (Do w ∷ es) all = (tt, none_sent test none es (and_parts (test (Do w)) (list_all test es) all).1)
-  none_sent test none (Send to m ∷ es) all = never (test (Send to m)) (and_parts (test (Send to m)) (list_all test es) all).0 (none to m)
+  none_sent : (test : Effect → Bool) → ((to : ℕ) (m : Message) → test (Send to m) ≡ false) → ((b : Body) → test (Say b) ≡ true → begun_of b ≡ None) → (es : List Effect) → AreAll test es → Tells n es
+  none_sent test none begins [] all = tt
+  none_sent test none begins (Say b ∷ es) all = let q = and_parts (test (Say b)) (list_all test es) all in (begins b q.0, none_sent test none begins es q.1)
+  none_sent test none begins (Do w ∷ es) all = (tt, none_sent test none begins es (and_parts (test (Do w)) (list_all test es) all).1)
+  none_sent test none begins (Send to m ∷ es) all = never (test (Send to m)) (and_parts (test (Send to m)) (list_all test es) all).0 (none to m)
 
   map_tells : {A : Type 0} (f : A → Effect) (items : List A) → ((a : A) → TellsTo n (f a)) → Tells n (map f items)
   map_tells f [] each = tt
@@ -101,17 +111,17 @@ module _ (n : ℕ) where
       let s = server.told n ends t.server in
       all_append (TellsTo n) (a ++ o.outs ++ s.outs) (ack_told from e.0 ack)
       (all_append (TellsTo n) (a ++ o.outs) s.outs
-      (all_append (TellsTo n) a o.outs (stored (is_prepared e.0 d.store) e.1) (names t.naming)) (none_sent (is_server_effect n) (λ to m. refl) s.outs (ends_own n ends t.server)))
+      (all_append (TellsTo n) a o.outs (stored (is_prepared e.0 d.store) e.1) (names t.naming)) (none_sent (is_server_effect n) (λ to m. refl) (server_begins n) s.outs (ends_own n ends t.server)))
       (acks ack)
     where
       stored : (b : Bool) (how : End) → Tells n (cond b (end_states n e.0 how) [])
       stored false how = tt
-      stored true ending.Commit = (tt, (tt, tt))
-      stored true ending.Abort = (tt, (tt, tt))
+      stored true ending.Commit = (tt, (refl, tt))
+      stored true ending.Abort = (tt, (refl, tt))
 
       names : (o : Option Naming) → Tells n (naming_told e.0 e.1 d.names o).outs
       names None = tt
-      names (Some o) = none_sent is_naming_effect (λ to m. refl) (naming.told e.0 e.1 d.names o).outs (told_own e.0 e.1 d.names o)
+      names (Some o) = none_sent is_naming_effect (λ to m. refl) naming_begins (naming.told e.0 e.1 d.names o).outs (told_own e.0 e.1 d.names o)
 
       acks : (b : Bool) → Tells n (ack_told from e.0 b)
       acks true = ((λ here. tt), tt)
@@ -167,7 +177,7 @@ module _ (n : ℕ) where
   reply_tells t outs None all = tt
   reply_tells t outs (Some u) all = all
 
-  handled_tells : (d : Disk) (t : Parts) (from : ℕ) (m : Message) → IsTelling m → Tells n (outs_of (handle n d t from m))
+  pub handled_tells : (d : Disk) (t : Parts) (from : ℕ) (m : Message) → IsTelling m → Tells n (outs_of (handle n d t from m))
   handled_tells d t from (message.Told m) is = told_tells d t from m.ack m.ends (last_end m.ends)
   handled_tells d t from (message.Acked m) is = let r = acked from m.act d.intents t.coord in reply_tells (with_coord t r.part) r.outs r.reply (acked_tells from m.act d.intents t.coord)
   handled_tells d t from (message.Query m) is = query_tells from m.act d.intents t.coord is
@@ -237,14 +247,14 @@ module _ (n : ℕ) where
       all_append (TellsTo n) (first ++ found ++ tolds_again d.intents ++ map query_about us) hellos
       (all_append (TellsTo n) (first ++ found ++ tolds_again d.intents) (map query_about us)
       (all_append (TellsTo n) (first ++ found) (tolds_again d.intents)
-      (all_append (TellsTo n) first found (tt, (tt, (tt, (tt, back (naming_at n inc d.names))))) (tt, map_tells _ d.intents (λ e. tt)))
+      (all_append (TellsTo n) first found (tt, (tt, (refl, (tt, back (naming_at n inc d.names))))) (tt, map_tells _ d.intents (λ e. refl)))
       (again d.intents records))
       (questions us (all_set (λ (u : Uid). uid_eq nobody u ≡ false) (prepared_actions d.store ++ prepared_actions d.names) (all_append (λ (u : Uid). uid_eq nobody u ≡ false) (prepared_actions d.store) (prepared_actions d.names) store names))))
       (others (numbers_to hd.nodes))
     where
       objects : (os : List (ℕ × Named)) → Tells n (flat_map (λ (e : ℕ × Named). back_lines e.1) os)
       objects [] = tt
-      objects (e ∷ es) = all_append (TellsTo n) (back_lines e.1) (flat_map (λ (q : ℕ × Named). back_lines q.1) es) (map_tells _ e.1.rows (λ r. tt)) (objects es)
+      objects (e ∷ es) = all_append (TellsTo n) (back_lines e.1) (flat_map (λ (q : ℕ × Named). back_lines q.1) es) (map_tells _ e.1.rows (λ r. refl)) (objects es)
 
       back : (o : Option Naming) → Tells n (naming_back o)
       back None = tt
