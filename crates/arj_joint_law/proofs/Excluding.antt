@@ -58,7 +58,7 @@ use Rattle.arj_disk_run_law.specs.States.{Own}
 use Rattle.arj_joint_law.specs.Forms.{AreSo, kind_of, stored}
 use Rattle.arj_joint_law.proofs.FormRuns.{kept_forms}
 
-all_among : (P : ObjectState → Type 0) (ss : List ObjectState) (st : ObjectState) → AllByRecursion P ss → Among st ss → P st
+pub all_among : (P : ObjectState → Type 0) (ss : List ObjectState) (st : ObjectState) → AllByRecursion P ss → Among st ss → P st
 all_among P [] st all i = absurd i
 all_among P (z ∷ ss) st all (inl is) = subst P is all.0
 all_among P (z ∷ ss) st all (inr i) = all_among P ss st all.1 i

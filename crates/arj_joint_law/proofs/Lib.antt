@@ -23,6 +23,7 @@ pub mod Sparing
 pub mod MarkTies
 pub mod Leaving
 pub mod RunsInTime
+pub mod FilesInTime
 pub mod ByMessage
 pub mod Restarting
 pub mod Mute

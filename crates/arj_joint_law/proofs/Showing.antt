@@ -24,14 +24,14 @@ shows_pair file r d are = record {
 }
 
 -- a node of the header is there
-node_there : (hd : Header) (sent : List Post) (w : World) → Stands hd sent w → (s : ℕ) → (nat_le 1 s && nat_le s hd.nodes) ≡ true → (n : Node) × (at_place s w.nodes ≡ Some n)
+pub node_there : (hd : Header) (sent : List Post) (w : World) → Stands hd sent w → (s : ℕ) → (nat_le 1 s && nat_le s hd.nodes) ≡ true → (n : Node) × (at_place s w.nodes ≡ Some n)
 node_there hd sent w stands s place = by (at_place s w.nodes) refl (stands.places s place)
   where
     by : (o : Option Node) → at_place s w.nodes ≡ o → is_some o ≡ true → (n : Node) × (at_place s w.nodes ≡ Some n)
     by None is there = absurd (cc there)
     by (Some n) is there = (n, is)
 
-first_place : (n : ℕ) → 1 ≤ n → (nat_le 1 1 && nat_le 1 n) ≡ true
+pub first_place : (n : ℕ) → 1 ≤ n → (nat_le 1 1 && nat_le 1 n) ≡ true
 first_place n le = grind (arith, le)
 
 pub files_show_disks : FilesShowDisks

@@ -12,6 +12,7 @@ pub mod Outcome
 pub mod Samples
 pub mod Excluded
 pub mod InTime
+pub mod FilesInTime
 pub mod Loads
 pub mod Joined
 pub mod Recorded

@@ -1,6 +1,7 @@
 // One outcome of each top, and that stores are excluded in time, by a journal.
 ghost use Rattle.std.specs.Prelude.{◌≡◌, false};
 ghost use Rattle.arj_joint_law.specs.Excluded.{IsInTime, IsNew, NewWritersAreLast, NodesHaveForm, RunsBeginWithCalls, RunsExcludeInTimeByCalls, SeenRunsExcludeInTime};
+ghost use Rattle.arj_joint_law.specs.FilesInTime.{RunsExcludeFilesInTime};
 ghost use Rattle.arj_joint_law.specs.InTime.{RunsExcludeInTime};
 ghost use Rattle.arj_joint_law.specs.Outcome.{CommitsAreBehind, ShowsOneOutcome, aborts_have_cause, commits_are_behind};
 ghost use Rattle.arj_joint_law.specs.Samples.{decided_lines, found_commit, halted_abort, header, its_top, naming_late, naming_node, right_end, store_three, store_two, wrong_abort, wrong_commit, wrong_names_abort};
@@ -49,10 +50,12 @@ pub fn seen_runs_exclude_in_time()
 {}
 
 /// After each run whose header and events are in form, of at most 1,000,000 events, with all crashes and restarts, and stops wherever disks make
-/// them, stores are excluded in time, on what makes its files clean (`runs_are_clean`), with no premise. That decided tops which count for an
-/// object and only include a store of it had their commits called when whoever wrote the object before them had been said is given
+/// them, stores are excluded in time, on what makes its files clean (`runs_are_clean`), with no premise: by what nodes' pairs have (`pairs`), and
+/// so by the files that are those of its nodes' pairs (`files`), whichever entry naming's hold. That decided tops which count for an object and
+/// only include a store of it had their commits called when whoever wrote the object before them had been said is given
 /// (`decisions_come_behind_calls`); that who has an entry prepared beside a new top, of its root, is committed is given here. So it is after each
 /// event too, since the front of a run is one. It does nothing when it runs.
 pub fn runs_exclude_in_time()
-    ensures { RunsExcludeInTime }
+    ensures pairs { RunsExcludeInTime }
+    ensures files { RunsExcludeFilesInTime }
 {}

@@ -1,0 +1,61 @@
+-- Excluded in time, by a journal and the files of nodes' disks: what files hold, and what is prepared in them.
+use Rattle.std.specs.Prelude.{◌≡◌, ◌⊎◌, ◌&&◌, ℕ, true, false, List, [], Some, IsSomeAnd, Contains, is_some, nat_le}
+use Rattle.arj_base.specs.State.{StateInForm, state_bytes}
+use Rattle.arj_base.specs.Uid.{entry, object}
+use Rattle.arj_base.specs.declared.state.ObjectState.{ObjectState}
+use Rattle.arj_base.specs.declared.uid.Uid.{Uid}
+use Rattle.arj_disk.specs.FileMap.{FileMap}
+use Rattle.arj_disk.specs.Says.{held, new_of, pend}
+use Rattle.arj_disk.specs.declared.slot.Role.{Role}
+use Rattle.arj_disk.specs.declared.slot.Role.TheVariants as role
+use Rattle.arj_journal.specs.declared.body.Line.{Line}
+use Rattle.arj_journal.specs.declared.header.Header.{Header}
+use Rattle.arj_model.specs.Calls.{Top, tops}
+use Rattle.arj_model.specs.Clean.{Disks}
+use Rattle.arj_model.specs.Last.{is_among, last_state, object_line}
+use Rattle.arj_protocol.specs.Values.{state_entry}
+use Rattle.arj_view_law.specs.Moves.{Move, world_by}
+use Rattle.arj_view_law.specs.Seen.{see}
+use Rattle.arj_serial_law.specs.Decided.{Wrote}
+use Rattle.arj_joint_law.specs.Excluded.{IsNew, uid_of}
+use Rattle.arj_joint_law.specs.FitRuns.{IsInForm}
+use Rattle.arj_joint_law.specs.Shown.{FilesAre}
+
+-- The entry of the object that naming's files hold lists the store.
+pub record Lists (file : FileMap) (x s : ℕ) : Type 0 where
+  pub state : ObjectState
+  pub form : StateInForm state
+  pub holds : held file role.Names (entry x) ≡ Some (state_bytes state)
+  pub has : is_among (let e = state_entry state in e.stores) s ≡ true
+
+-- by the files, the action has prepared this state
+abbrev pub HasPrepared : FileMap → Role → Uid → ObjectState → Type 0
+HasPrepared file r act st = IsSomeAnd (pend file r act) (λ states. new_of states (let z = st in z.uid) ≡ Some (state_bytes st))
+
+-- Naming's files have prepared an entry of the object without the store, for the top or for another committed constituent of its serializing
+-- action.
+pub record FileTakesOut (lines : List Line) (x : ℕ) (file : FileMap) (t : Top) (s : ℕ) : Type 0 where
+  pub by_top : Top
+  pub committed : Contains (tops lines) by_top
+  pub unit : by_top.root ≡ t.root
+  pub new : ObjectState
+  pub form : StateInForm new
+  pub of : new.uid ≡ entry x
+  pub prepared : HasPrepared file role.Names (uid_of lines by_top) new
+  pub lacks : is_among (let e = state_entry new in e.stores) s ≡ false
+
+-- the store's files hold the object's last state, or have it prepared for the top, or naming's have prepared an entry without the store
+abbrev pub FileIsInTime : Header → List Line → ℕ → Disks → Top → ℕ → Type 0
+FileIsInTime header lines x disks t s = (held (disks s) role.Store (object x) ≡ Some (state_bytes (last_state header lines x)))
+    ⊎ HasPrepared (disks s) role.Store (uid_of lines t) (last_state header lines x)
+    ⊎ FileTakesOut lines x (disks 1) t s
+
+-- Excluded in time: so it is at the end of this event, the last one that was run, of each top that is new in it, of each object of the header
+-- that it wrote, and of each node that the entry in naming's files lists.
+abbrev pub FilesAreInTime : Header → ℕ → List Line → Disks → Type 0
+FilesAreInTime header e lines disks = (t : Top) (x s : ℕ) → is_some (object_line header x) ≡ true → IsNew e lines t → Wrote lines x t
+    → (nat_le 1 s && nat_le s header.nodes) ≡ true → Lists (disks 1) x s → FileIsInTime header lines x disks t s
+
+-- After each run in form, whatever stops fall, files that are those of its nodes' pairs are in time.
+abbrev pub RunsExcludeFilesInTime : Type 0
+RunsExcludeFilesInTime = (hd : Header) (ms : List Move) (disks : Disks) → IsInForm hd ms → (let w = world_by hd ms in FilesAre (see [] w) disks → FilesAreInTime hd w.event w.lines disks)
