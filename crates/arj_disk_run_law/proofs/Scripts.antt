@@ -6,7 +6,7 @@ use Rattle.arj_protocol.specs.Effect.{Disk, Do, Effect, Say, Send, worked}
 use Rattle.arj_protocol.specs.Follow.{tick_outs}
 use Rattle.arj_protocol.specs.Node.{Parts, with_coord}
 use Rattle.arj_protocol.specs.Step.{acts, parent_of, parts_in, restart_outs}
-use Rattle.arj_protocol.specs.World.{Asked, World, format, is_serial_kind, most_labels, run_all}
+use Rattle.arj_protocol.specs.World.{World, is_serial_kind, most_labels}
 use Rattle.arj_disk_law.specs.Effects as machine
 use Rattle.arj_disk_law.specs.Names.{Office}
 use Rattle.arj_view_law.specs.Keeps.{Holds}
@@ -17,9 +17,7 @@ use Rattle.arj_call_law.proofs.Reaching.{reached_holds}
 use Rattle.arj_call_law.specs.Runs.{KnowsFew}
 use Rattle.arj_call_law.proofs.Given.{KeepsGiven}
 use Rattle.arj_call_law.proofs.WholeRuns.{WhileFew, few_go}
-use Rattle.arj_binding_law.specs.Scripts.{most_events}
 use Rattle.arj_binding_law.proofs.Doings.{one_more}
-use Rattle.arj_binding_law.proofs.Events.{scripts_reached}
 use Rattle.arj_disk_view_law.specs.Sees.{Kinds}
 use Rattle.arj_disk_run_law.specs.Bindings.{HasFewLabels, KnowsScript}
 use Rattle.arj_disk_run_law.specs.Part.{KeepsPart}
@@ -62,9 +60,6 @@ reached_script hd P kept w reached =
     let r = reached_holds hd w reached (WhileFew (While P)) (few_go hd (While P) (while_labels P hd KnowsFew kept)) in
     let h = r.holds.1 reached.few in
     record { sent = r.sent; stands = r.stands; holds = ((reached.few, h.0), h.1 reached.labels) }
-
-pub script_holds : (hd : Header) (P : Seen → Type 0) → KeepsGiven hd KnowsScript P → (es : List Asked) → length es ≤ most_events → Holds hd (λ M. KnowsFew M × P M) (run_all es (format hd))
-script_holds hd P kept es short = reached_script hd P kept (run_all es (format hd)) (scripts_reached hd es short)
 
 -- ---- where more is known
 

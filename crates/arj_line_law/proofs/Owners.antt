@@ -14,11 +14,11 @@ use Rattle.arj_protocol.proofs.Numbers.{number_tells}
 use Rattle.arj_protocol.specs.Node.{Parts}
 use Rattle.arj_protocol.specs.Tree.{at_place}
 use Rattle.arj_protocol.specs.Words.{Header, Label, label_cmp, name}
-use Rattle.arj_protocol.specs.World.{Asked, Labelled, World, format, run_all}
+use Rattle.arj_protocol.specs.World.{Labelled, World}
 use Rattle.arj_view_law.specs.Keeps.{label_at}
 use Rattle.arj_view_law.specs.Seen.{see}
 use Rattle.arj_call_law.specs.Reached.{Keeping}
-use Rattle.arj_call_law.proofs.Reaching.{kept_holds, scripts_keep}
+use Rattle.arj_call_law.proofs.Reaching.{kept_holds}
 use Rattle.arj_line_law.specs.Book.{Book, book, new_book}
 use Rattle.arj_line_law.specs.Knows.{IsGiven, IsKept, IsWritten, Remembers}
 use Rattle.arj_line_law.specs.Right.{AreRight, Right}
@@ -99,6 +99,3 @@ kept_nodes hd w keeping a there =
     by : (B : Book) (k inc : ℕ) (o : Option Parts) → In a B.acts → Remembers B k inc o → k ≡ (let u = a.uid in u.node) → (let u = a.uid in u.inc) ≤ inc
     by B k inc None i c at = counted k inc c.0 B.acts c.1 i (sym at)
     by B k inc (Some t) i c at = counted k inc (length t.coord.tree.branches) B.acts c i (sym at)
-
-pub have_nodes : (hd : Header) (es : List Asked) → HaveNodes (run_all es (format hd))
-have_nodes hd es = kept_nodes hd (run_all es (format hd)) (scripts_keep hd es)

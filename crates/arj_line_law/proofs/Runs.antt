@@ -29,7 +29,7 @@ use Rattle.arj_protocol.specs.Order.{uid_set, without_number}
 use Rattle.arj_protocol.specs.Step.{Input, Node, acts, begin_refusal, first_disk, first_node, hello_to, naming_at, naming_back, numbers_to, parent_of, parts_in, recovered_records, refusal_up, restart_outs, tolds_again}
 use Rattle.arj_protocol.specs.Step as input
 use Rattle.arj_protocol.specs.Tree.{Branch, at_place, branch_of, is_own, new_tree, next_uid, path_below}
-use Rattle.arj_protocol.specs.World.{Asked, Labelled, World, format, is_serial_kind, numbered, run_all}
+use Rattle.arj_protocol.specs.World.{Labelled, World, format, is_serial_kind, numbered}
 use Rattle.arj_part_law.specs.Actions.{IsCounted, paths_of}
 use Rattle.arj_run_law.specs.Worlds.{IsGood, IsMemory}
 use Rattle.arj_run_law.proofs.AllRuns.{all_keep}
@@ -42,7 +42,7 @@ use Rattle.arj_view_law.specs.Seen.{AreQuiet, Post, Seen, at, down, given, said,
 use Rattle.arj_view_law.specs.Seen as seen
 use Rattle.arj_view_law.specs.Walks.{Up, Walks, halted}
 use Rattle.arj_call_law.specs.Reached.{Keeping}
-use Rattle.arj_call_law.proofs.Reaching.{kept_holds, scripts_keep}
+use Rattle.arj_call_law.proofs.Reaching.{kept_holds}
 use Rattle.arj_view_law.proofs.Together.{walks_both}
 use Rattle.arj_line_law.specs.Book.{Book, book, is_decided, new_book, turned}
 use Rattle.arj_line_law.specs.Knows.{AreBegun, AreLined, Calls, Claims, Counts, EachRecord, IsCalled, IsGiven, IsKept, IsWritten, Knows, KnowsNode, KnowsUp, Puts, after, AreIdle, AreLate, IsIdle}
@@ -512,6 +512,3 @@ kept_written hd w keeping = let h = kept_holds hd w keeping IsKept (lines_keep h
 
 pub kept_right : (hd : Header) (w : World) → Keeping hd w → AreRight new_book w.lines
 kept_right hd w keeping = let z = (kept_written hd w keeping).1 in z.right
-
-pub run_written : (hd : Header) (es : List Asked) → (sent : List Post) × IsWritten (see sent (run_all es (format hd)))
-run_written hd es = kept_written hd (run_all es (format hd)) (scripts_keep hd es)
