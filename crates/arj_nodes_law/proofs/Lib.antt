@@ -1,2 +1,4 @@
-pub mod Serial
 pub mod Outcomes
+pub mod Ending
+pub mod Reading
+pub mod Turning

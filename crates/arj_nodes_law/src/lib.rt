@@ -1,12 +1,19 @@
-//! Runs in which disks stop of their own: what of the promise holds in them so far.
+//! Nodes over disks that stop when they will: what they run is a run of the protocol, of which its laws hold.
 //!
-//! The laws below speak of scripts, whose `stop` events say which disk stops, and when. Nodes run over disks that stop when they will: of such a
-//! run it is known behind each event which stops fell in it (`arj_view_law/specs/Moves.antt`; so `arj_world` has it of its turns). Of any world
-//! that is reached both machines of each object are there, by `arj_joint_law`, and so its journal is serial, where so much is counted
-//! (`IsCounted`). And it shows one outcome of each top, by `arj_settle_law`. The lock book, held locks, clean files and stores that are
-//! excluded in time aren't said of them here. What it gives upward: `moves_are_serial`, `moves_show_one_outcome`.
+//! The laws of the protocol speak of moves: events with the stops that fell in them (`arj_view_law/specs/Moves.antt`). What `arj_nodes` runs over
+//! real disks is such a run: of each event it is known behind it which stops its disks made. So the turns that its contract tells of are moves,
+//! their header and their events are in form since they were read in the script's grammar, the journal is theirs, and the files of disks are
+//! those of their nodes, where cores say the pairs of their disks (`specs/Turns.antt`). A line outside of events, which a run's end may put
+//! behind its journal, takes nothing of what the journal shows (`specs/Last.antt`). So the journal that `nodes` leaves is serial, keeps the lock
+//! book, shows one outcome of each top, and its disks' files are clean. It stands on `arj_nodes`, and on the laws of `arj_joint_law` and
+//! `arj_settle_law`. What it gives upward: `nodes_run_moves`, `nodes_show_what_is_promised`, `runs_show_what_is_promised`,
+//! `last_lines_take_nothing`, `moves_show_one_outcome`.
 #![tactic(auto)]
 
+mod ends;
 mod runs;
+mod turns;
 
-pub use runs::{moves_are_serial, moves_show_one_outcome};
+pub use ends::{last_lines_take_nothing, runs_show_what_is_promised};
+pub use runs::moves_show_one_outcome;
+pub use turns::{nodes_run_moves, nodes_show_what_is_promised};

@@ -1,0 +1,177 @@
+-- Turns of nodes are moves.
+use Rattle.std.proofs.Common.{◌≡◌, ◌≤◌, ◌<◌, ◌+◌, ◌++◌, ℕ, zero, suc, Bool, false, List, [], ◌∷◌, length, map, Option, Some, None, refl, sym, ◌∙◌, ap, subst, arith}
+use Rattle.std.specs.Prelude.{slice_get}
+use Rattle.std.proofs.Math.Logic.{⊎_elim}
+use Rattle.std.specs.List.{AllByRecursion}
+use Rattle.std.proofs.lemmas.List.{length-map}
+use Rattle.arj_core.specs.declared.node.Core as core
+use Rattle.arj_disk.specs.declared.disk.Disk as disk
+use Rattle.arj_disk.specs.declared.slot.Role.TheVariants as role
+use Rattle.arj_journal.specs.ScriptForm.{EventInForm}
+use Rattle.arj_journal.specs.declared.event.Event.{Event}
+use Rattle.arj_journal.specs.declared.body.Line.{Line}
+use Rattle.arj_loop.specs.Replayed.{Answer, Closes, EndsSo, Outside}
+use Rattle.arj_loop.specs.Running as loop
+use Rattle.arj_loop.specs.Running.{MachineRuns, Stage, built_by, events_run, last_body, last_lines}
+use Rattle.arj_loop.specs.declared.ending.End.{End}
+use Rattle.arj_loop.specs.declared.ending.End.TheVariants as ending
+use Rattle.arj_loop.specs.declared.machine.Machine.{Ghosts}
+use Rattle.arj_nodes.specs.AllNodes.{RanAll, Task, task, world_after}
+use Rattle.arj_nodes.specs.AsMachine.{all_nodes}
+use Rattle.arj_nodes.specs.declared.all_nodes.AllNodes.{AllNodes}
+use Rattle.arj_protocol.specs.Step.{Node}
+use Rattle.arj_protocol.specs.Tree.{at_place}
+use Rattle.arj_protocol.specs.Words.{Header}
+use Rattle.arj_protocol.specs.World.{World, format}
+use Rattle.arj_script.specs.Grammar.{Start}
+use Rattle.arj_script.specs.Input.{events_of}
+use Rattle.arj_script.specs.declared.limits.TheConstants.{SCRIPT_LINES}
+use Rattle.arj_store.specs.OfFiles.{pair_of}
+use Rattle.arj_store_law.specs.Files.{IsPairOf}
+use Rattle.arj_view_law.specs.Moves.{Move, all_moved, world_by}
+use Rattle.arj_view_law.specs.Seen.{see}
+use Rattle.arj_world.specs.Stands.{Hand, Stands, hand}
+use Rattle.arj_world.specs.Turns.{Turn, all_turned, turned}
+use Rattle.arj_world.proofs.Stepping.{is_there}
+use Rattle.arj_binding_law.specs.Scripts.{most_events}
+use Rattle.arj_joint_law.specs.FitRuns.{AreMovesInForm}
+use Rattle.arj_joint_law.specs.Shown.{FilesAre}
+use Rattle.arj_nodes_law.proofs.Ending.{last_lines_nothing, runs_show}
+use Rattle.arj_nodes_law.proofs.Reading.{events_in_form, few_events, header_in_form}
+use Rattle.arj_nodes_law.specs.Last.{EndsBehind, IsLast, Shows}
+use Rattle.arj_nodes_law.specs.Turns.{ClosesMove, ClosesShow, HasMoved, IsTaskInForm, NodesMove, SaysPairs, ScriptsMove, as_move, event_of, files_at, files_of}
+
+pub turns_move : (ts : List Turn) (w : World) → all_turned ts w ≡ all_moved (map as_move ts) w
+turns_move [] w = refl
+turns_move (t ∷ ts) w = turns_move ts (turned t w)
+
+same_events : (ts : List Turn) → map event_of (map as_move ts) ≡ map (λ s. s.event) ts
+same_events [] = refl
+same_events (t ∷ ts) = ap (λ es. t.event ∷ es) (same_events ts)
+
+in_form : (ts : List Turn) → AllByRecursion EventInForm (map (λ (s : Turn). s.event) ts) → AreMovesInForm (map as_move ts)
+in_form [] all = tt
+in_form (t ∷ ts) all = (all.0, in_form ts all.1)
+
+-- an item of a list stands within it
+within : {A : Type 0} (i : ℕ) (xs : List A) (a : A) → slice_get xs i ≡ Some a → i < length xs
+within i [] a is = absurd (cc is)
+within zero (x ∷ xs) a is = more (length xs)
+  where
+    more : (k : ℕ) → 0 < suc k
+    more k = omega arith
+within (suc i) (x ∷ xs) a is = more i (length xs) (within i xs a is)
+  where
+    more : (j k : ℕ) → j < k → suc j < suc k
+    more j k less = omega (arith, less)
+
+module _ {C D : Type 0} (c : core.Ghosts C) (d : disk.Ghosts D) (says : SaysPairs c) where
+  files_show : (now : Hand C D) (w : World) → Stands c d.file now (record w { over = false }) → FilesAre (see [] w) (files_of d now.disks)
+  files_show now w s = record { stores = λ k n is. (pairs k n is).0; names = λ n is. (pairs 1 n is).1 }
+    where
+      pairs : (k : ℕ) (n : Node) → at_place k w.nodes ≡ Some n → IsPairOf (pair_of (files_of d now.disks k) role.Store) (let e = n.disk in e.store) × IsPairOf (pair_of (files_of d now.disks k) role.Names) (let e = n.disk in e.names)
+      pairs zero n is = absurd (cc is)
+      pairs (suc i) n is = by (is_there i now.kept.cores (cores i (length w.nodes) now.kept.header.nodes (length now.kept.cores) (within i w.nodes n is) s.nodes.nodes_count s.nodes.cores_count)) (is_there i now.disks (disks i (length w.nodes) now.kept.header.nodes (length now.disks) (within i w.nodes n is) s.nodes.nodes_count s.nodes.disks_count))
+        where
+          cores : (i n h k : ℕ) → i < n → n ≡ h → k ≡ h → i < k
+          cores i n h k less a b = omega (arith, less, a, b)
+
+          disks : (i n h k : ℕ) → i < n → n ≡ h → h ≤ k → i < k
+          disks i n h k less a b = omega (arith, less, a, b)
+
+          by : (one : C) × (slice_get now.kept.cores i ≡ Some one) → (one : D) × (slice_get now.disks i ≡ Some one) → IsPairOf (pair_of (files_of d now.disks (suc i)) role.Store) (let e = n.disk in e.store) × IsPairOf (pair_of (files_of d now.disks (suc i)) role.Names) (let e = n.disk in e.names)
+          by (one, here) (on, there) =
+              subst (λ o. IsPairOf (pair_of (files_at d o) role.Store) (let e = n.disk in e.store) × IsPairOf (pair_of (files_at d o) role.Names) (let e = n.disk in e.names)) (sym there)
+              (says now.kept.header one (d.file on) n (s.nodes.each i one on n here there is))
+
+pub nodes_move : {C D : Type 0} (c : core.Ghosts C) (d : disk.Ghosts D) → NodesMove c d
+nodes_move {C} {D} c d t over now form r =
+    let w = world_after t.header r.turns in
+    let same : w ≡ world_by t.header (map as_move r.turns) = turns_move r.turns (format t.header) in record {
+      moves = map as_move r.turns;
+      are = same_events r.turns ∙ r.are;
+      form = record {
+        header = form.header;
+        events = in_form r.turns (subst (AllByRecursion EventInForm) (sym r.are) form.events);
+        few = few (length (map as_move r.turns)) (length r.turns) (length (map (λ (s : Turn). s.event) r.turns)) (length t.events) (length-map r.turns as_move) (length-map r.turns (λ (s : Turn). s.event)) (ap length r.are) form.few;
+      };
+      journal = sym r.stands.lines ∙ ap (λ (v : World). v.lines) same;
+      files = λ says. subst (λ v. FilesAre (see [] v) (files_of d now.disks)) same (files_show c d says now w r.stands);
+    }
+  where
+    few : (a b m e : ℕ) → a ≡ b → m ≡ b → m ≡ e → e ≤ most_events → a ≤ most_events
+    few a b m e x y z le = omega (arith, x, y, z, le)
+
+pub scripts_move : {C D : Type 0} (c : core.Ghosts C) (d : disk.Ghosts D) → ScriptsMove c d
+scripts_move {C} {D} c d first rack lines place at s nodes is =
+    let built = built_by (all_nodes c d) in
+    let runs = subst (MachineRuns (all_nodes c d) first rack s.forms place s.header at.journal) is s.machine_is in
+    nodes_move c d (task first s.header (events_of s.forms)) nodes.over (hand nodes.world rack at.journal) (record {
+      header = header_in_form built lines s.forms place s.header s.read runs.1;
+      events = events_in_form built lines s.forms Start place s.read;
+      few = few (length (events_of s.forms)) (length s.forms) at.count (few_events s.forms) s.counted s.within;
+    }) runs.2
+  where
+    few : (e f n : ℕ) → e ≤ f → n ≡ f → n ≤ SCRIPT_LINES → e ≤ most_events
+    few e f n le is most = omega (arith, le, is, most)
+
+-- ---- what a run leaves
+
+-- the line of an end
+last_is : {D M : Type 0} (m : Ghosts M D) (end : End) (count event : ℕ) → IsLast (last_lines (last_body end count) event)
+last_is m ending.Whole count event = tt
+last_is m (ending.Bad w) count event = refl
+last_is m ending.Fault count event = tt
+last_is m ending.Write count event = tt
+last_is m ending.Memory count event = tt
+last_is m ending.Lines count event = refl
+last_is m ending.Labels count event = refl
+last_is m ending.Frames count event = tt
+last_is m ending.Format count event = tt
+
+pub closes_move : {C D : Type 0} (c : core.Ghosts C) (d : disk.Ghosts D) → ClosesMove c d
+closes_move {C} {D} c d before after answer closes = (none, some)
+  where
+    e : EndsSo (all_nodes c d) closes.given before.rack after.rack closes.end answer.journal
+    e = closes.ends
+
+    at : loop.Hand (AllNodes C)
+    at = e.at
+
+    stage : Stage (all_nodes c d) before.rack e.mid (let r = e.reached in r.done) (let r = e.reached in r.place) at
+    stage = let r = e.reached in r.stage
+
+    last : List Line
+    last = last_lines (last_body closes.end at.count) (events_run (all_nodes c d) at.machine)
+
+    bare : (o : Option (AllNodes C)) → o ≡ None → MachineRuns (all_nodes c d) before.rack e.mid stage.forms (let r = e.reached in r.place) stage.header at.journal o → at.journal ≡ []
+    bare None is runs = runs.4
+    bare (Some nodes) is runs = absurd (cc is)
+
+    none : at.machine ≡ None → IsLast answer.journal
+    none is = subst IsLast (sym (e.journal_is ∙ ap (λ ls. ls ++ last) (bare at.machine is stage.machine_is))) (last_is (all_nodes c d) closes.end at.count (events_run (all_nodes c d) at.machine))
+
+    some : (nodes : AllNodes C) → at.machine ≡ Some nodes → HasMoved c d (task before.rack stage.header (events_of stage.forms)) (hand nodes.world after.rack at.journal) × EndsBehind at.journal answer.journal
+    some nodes is =
+        (subst (λ rack. HasMoved c d (task before.rack stage.header (events_of stage.forms)) (hand nodes.world rack at.journal)) (sym same) (scripts_move c d before.rack e.mid (let r = e.reached in r.done) (let r = e.reached in r.place) at stage nodes is), (last, last_is (all_nodes c d) closes.end at.count (events_run (all_nodes c d) at.machine), e.journal_is))
+      where
+        same : after.rack ≡ e.mid
+        same = ⊎_elim (λ format. let never : Some nodes ≡ None = sym is ∙ format.1 in absurd (cc never)) (λ other. other.1) e.racks
+
+pub closes_show : {C D : Type 0} (c : core.Ghosts C) (d : disk.Ghosts D) → ClosesShow c d
+closes_show {C} {D} c d says before after answer closes nodes is =
+    let m = (closes_move c d before after answer closes).1 nodes is in
+    let h : HasMoved c d (task before.rack header (events_of stage.forms)) (hand nodes.world after.rack at.journal) = m.0 in
+    last_lines_nothing header at.journal answer.journal (files_of d after.rack) m.1 (subst (λ ls. Shows header ls (files_of d after.rack)) (sym h.journal) (runs_show header h.moves (files_of d after.rack) h.form (h.files says)))
+  where
+    e : EndsSo (all_nodes c d) closes.given before.rack after.rack closes.end answer.journal
+    e = closes.ends
+
+    at : loop.Hand (AllNodes C)
+    at = e.at
+
+    stage : Stage (all_nodes c d) before.rack e.mid (let r = e.reached in r.done) (let r = e.reached in r.place) at
+    stage = let r = e.reached in r.stage
+
+    header : Header
+    header = stage.header

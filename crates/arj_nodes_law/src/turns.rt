@@ -1,0 +1,21 @@
+// What nodes run over disks is a run of moves.
+ghost use Rattle.arj_nodes_law.specs.Turns.{ClosesMove, ClosesShow, NodesMove, ScriptsMove};
+
+use arj_core::Core;
+use arj_disk::Disk;
+
+/// Whatever nodes run over disks, with whatever stops these make, is a run of moves in form: its journal is that of these moves, and its
+/// disks' files are those of their nodes, where cores say the pairs of their disks (`runs`, over `RanAll`). So it is of what was run of a
+/// script's lines, however that ends (`scripts`), and of what the call `nodes` leaves at each status but 4 and 5: there at most one line, outside
+/// of events, stands behind that journal (`closes`). It does nothing when it runs.
+pub fn nodes_run_moves<C: Core, D: Disk>()
+    ensures runs { NodesMove C.Core D.Disk }
+    ensures scripts { ScriptsMove C.Core D.Disk }
+    ensures closes { ClosesMove C.Core D.Disk }
+{}
+
+/// The journal that the call `nodes` leaves at each such status is serial, keeps the lock book and shows one outcome of each top, and the files
+/// of its disks are clean, where cores say the pairs of their disks, once its script's header was read. It does nothing when it runs.
+pub fn nodes_show_what_is_promised<C: Core, D: Disk>()
+    ensures { ClosesShow C.Core D.Disk }
+{}
