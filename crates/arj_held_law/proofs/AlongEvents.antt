@@ -1,7 +1,7 @@
 -- Through each event that restarts no node an object is seen at each place of the journal.
 use Rattle.std.proofs.Common.{◌≡◌, ◌⊎◌, ◌≤◌, ◌∙◌, ◌==◌, ◌++◌, ◌+◌, ℕ, List, [], ◌∷◌, Bool, true, false, Option, Some, None, is_some, length, take, refl, sym, ap, subst, inl, inr, ⊎_elim, arith, length-append}
 use Rattle.std.specs.Prelude.{⊤, if◌then◌else◌}
-use Rattle.arj_base.specs.Uid.{object}
+use Rattle.arj_base.specs.Uid.{entry, object}
 use Rattle.arj_journal.specs.ScriptForm.{HeaderInForm}
 use Rattle.arj_model.specs.Last.{first_values, object_line}
 use Rattle.arj_model.specs.Table.{table}
@@ -18,10 +18,12 @@ use Rattle.arj_view_law.specs.Seen.{Seen, see}
 use Rattle.arj_view_law.proofs.Happens.{arms_hold, event_asked, first_asked}
 use Rattle.arj_line_law.specs.Paths.{IsAlikeOf}
 use Rattle.arj_lock_law.specs.State.{State}
+use Rattle.arj_lock_fact_law.specs.Uppers.{AreUppersOf}
 use Rattle.arj_lock_run_law.specs.Fixed.{AgreesBy, Fixed}
 use Rattle.arj_lock_run_law.specs.Sees.{SeesLocks}
 use Rattle.arj_lock_run_law.specs.Tied.{AreTied}
 use Rattle.arj_lock_whole_law.specs.Held.{locks_in, memory_of}
+use Rattle.arj_lock_whole_law.specs.Tops.{HoldsNames}
 use Rattle.arj_table_law.specs.Tables.{rows_on, up_of}
 use Rattle.arj_joint_law.specs.Apt.{IsApt}
 use Rattle.arj_joint_law.proofs.HeldRuns.{calm}
@@ -33,7 +35,8 @@ use Rattle.arj_held_law.proofs.Lines.{Since, since_all}
 use Rattle.arj_held_law.proofs.Marks.{Guard, take_all}
 use Rattle.arj_held_law.proofs.OnLines.{Before}
 use Rattle.arj_held_law.proofs.Places.{IsPlaced, placed_later}
-use Rattle.arj_held_law.proofs.Points.{at_the_end}
+use Rattle.arj_held_law.proofs.Names.{names_in}
+use Rattle.arj_held_law.proofs.Points.{at_the_end, named_at_the_end}
 use Rattle.arj_held_law.proofs.Writes.{RestartsOther, Writes, none_starts, runs_write}
 
 -- ---- what an event leaves of places
@@ -122,9 +125,11 @@ module _ (hd : Header) (x : ℕ) (form : HeaderInForm hd) (there : is_some (obje
   }
 
   -- at the last place its tables are those of the nodes' locks
-  pub last_placed : (sent : List _) (v : World) → IsShown hd v → (f : Fixed) (begun : List Action) (S : State) → IsAlikeOf begun (see sent v) → AgreesBy (IsApt (first_values hd) x) f x begun sent → SeesLocks f x begun S (see sent v) → AreTied f x v.lines S → (p : ℕ) → p ≡ length v.lines → IsPlaced f x begun S v.lines p
-  last_placed sent v shown f begun S alike agrees sees tied p same = at_the_end f x begun S (see sent v) sees alike.0 agrees.0 tied p same
+  pub last_placed : (sent : List _) (v : World) → IsShown hd v → (f : Fixed) (begun : List Action) (S : State) → IsAlikeOf begun (see sent v) → AreUppersOf HoldsNames begun (see sent v) → AgreesBy (IsApt (first_values hd) x) f x begun sent → SeesLocks f x begun S (see sent v) → AreTied f x v.lines S → (p : ℕ) → p ≡ length v.lines → IsPlaced f x begun S v.lines p
+  last_placed sent v shown f begun S alike names agrees sees tied p same = at_the_end f x begun S (see sent v) sees tied p same alike.0 agrees.0
       (λ n row any. any_shown row (object x) (table n (take p v.lines)) (locks_in x (memory_of (at_place n v.nodes))) (ap (λ (ls : List Line). rows_on (object x) (table n ls)) (ap (λ (j : ℕ). take j v.lines) same ∙ take_all v.lines) ∙ (let s = shown.shown n in s.server x)) any)
+      (named_at_the_end f x begun S (see sent v) sees tied p same alike.0 agrees.0 names
+      (λ row any. any_shown row (entry x) (table 1 (take p v.lines)) (names_in x (see sent v)) (ap (λ (ls : List Line). rows_on (entry x) (table 1 ls)) (ap (λ (j : ℕ). take j v.lines) same ∙ take_all v.lines) ∙ (let s = shown.shown 1 in s.naming x refl)) any))
 
   -- a place at which it was seen stays one
   pub was_placed : (first event : ℕ) (M : Seen) (f : Fixed) (begun : List Action) (S : State) → IsAlikeOf begun M → Before (IsApt (first_values hd) x) x (Beside hd x) first event M f S → (p : ℕ) → p ≤ length M.lines → (p ≤ first) ⊎ Guard event first M.lines → HasActs (take p M.lines) → IsPlaced f x begun S M.lines p
@@ -139,7 +144,7 @@ module _ (hd : Header) (x : ℕ) (form : HeaderInForm hd) (there : is_some (obje
 
   -- each event that restarts no node, whichever stops are still to fall
   pub event_along : (e : Asked) (w : World) → RestartsNone e.event → IsAlong w → IsAlong (run_event e w)
-  event_along e w none h = along_again w v shown held (λ f begun S alike names agrees sees tied before p within cond has. by (leaves w (let z = h.shown in z.early) e none) f begun S alike agrees sees tied before p within has)
+  event_along e w none h = along_again w v shown held (λ f begun S alike names agrees sees tied before p within cond has. by (leaves w (let z = h.shown in z.early) e none) f begun S alike names agrees sees tied before p within has)
     where
       v : World
       v = run_event e w
@@ -153,12 +158,12 @@ module _ (hd : Header) (x : ℕ) (form : HeaderInForm hd) (there : is_some (obje
       M : Seen
       M = see held.sent (run_event e w)
 
-      by : Leaves w (run_event e w) → (f : Fixed) (begun : List Action) (S : State) → IsAlikeOf begun M → AgreesBy (IsApt (first_values hd) x) f x begun held.sent → SeesLocks f x begun S M → AreTied f x M.lines S
+      by : Leaves w (run_event e w) → (f : Fixed) (begun : List Action) (S : State) → IsAlikeOf begun M → AreUppersOf HoldsNames begun M → AgreesBy (IsApt (first_values hd) x) f x begun held.sent → SeesLocks f x begun S M → AreTied f x M.lines S
           → Before (IsApt (first_values hd) x) x (Beside hd x) (length w.lines) (w.event + 1) M f S → (p : ℕ) → p ≤ length M.lines → HasActs (take p M.lines) → IsPlaced f x begun S M.lines p
-      by (inr guard) f begun S alike agrees sees tied before p within has = was_placed (length w.lines) (w.event + 1) M f begun S alike before p within (inr guard) has
-      by (inl few) f begun S alike agrees sees tied before p within has = ⊎_elim {C = IsPlaced f x begun S M.lines p}
+      by (inr guard) f begun S alike names agrees sees tied before p within has = was_placed (length w.lines) (w.event + 1) M f begun S alike before p within (inr guard) has
+      by (inl few) f begun S alike names agrees sees tied before p within has = ⊎_elim {C = IsPlaced f x begun S M.lines p}
           (λ (early : p ≤ length w.lines). was_placed (length w.lines) (w.event + 1) M f begun S alike before p within (inl early) has)
-          (λ (last : p ≡ length M.lines). last_placed held.sent (run_event e w) shown f begun S alike agrees sees tied p last)
+          (λ (last : p ≡ length M.lines). last_placed held.sent (run_event e w) shown f begun S alike names agrees sees tied p last)
           (le_or p (length w.lines) (length M.lines) within few)
 
   -- at first

@@ -279,7 +279,7 @@ module _ (hd : Header) (x : ℕ) (form : HeaderInForm hd) (there : is_some (obje
         let n : Node = record { number = k; disk = d; live = Some t } in
         let place = (let q = past.nodes k n (node_there M k n) in let l = q.live t refl in l.place) in
         coming_walk (up k d t M) e k outs v d M
-        (message_along Apt x Known first event M e k d t v from m outs h.0.1.2 begun good.begun known.1.0.1 (alike_of hd first event begun (up k d t M) known.0) place (λ j. live_in ((up k d t M).nodes j)) (good.fits (record { from = from; to = k; message = m }) sent) (past.posts (record { from = from; to = k; message = m }) sent) is
+        (message_along Apt x Known first event M e k d t v from m outs h.0.1.2 begun good.begun known.1.0.1 (alike_of hd first event begun (up k d t M) known.0) place (λ j. live_in ((up k d t M).nodes j)) (good.fits (record { from = from; to = k; message = m }) sent) (past.posts (record { from = from; to = k; message = m }) sent) meant is
         (λ f S was mine. its_fronts k d t v from m outs M script.0.0 sent meant is mine f S was)
         (still_walk begun (up k d t M) e k outs v d M known.0 (message_pathed hd begun e k d t v from m outs M known.0 sent meant is)))
         (g.message e k d t v from m outs M script (h.1 few) sent meant is));
@@ -292,8 +292,8 @@ module _ (hd : Header) (x : ℕ) (form : HeaderInForm hd) (there : is_some (obje
         let g = coming_given (up k d t M) in
         coming_walk (up k d t M) e k did.outs (with_coord t did.part) d M
         (⊎_elim {C = Walks (Goes (up k d t M)) e k did.outs (Up (Goes (up k d t M)) k (with_coord t did.part)) d M}
-        (λ (none : AllByRecursion (SayOf (λ (b : Body). calls_commit b ≡ false)) did.outs). coord_along Apt x Known first event M e k d t (with_coord t did.part) did.outs h.0.1.2 M refl refl own (coord_all hd first event k did.outs own) refl none)
-        (λ (none : AllByRecursion (SayOf (λ (b : Body). answers_call b ≡ false)) did.outs). coord_unanswered Apt x Known first event M e k d t (with_coord t did.part) did.outs h.0.1.2 M refl refl own (coord_all hd first event k did.outs own) none
+        (λ (none : AllByRecursion (SayOf (λ (b : Body). calls_commit b ≡ false)) did.outs). coord_along Apt x Known first event M e k d t (with_coord t did.part) did.outs h.0.1.2 M refl refl own (coord_all hd first event k did.outs own) refl refl none)
+        (λ (none : AllByRecursion (SayOf (λ (b : Body). answers_call b ≡ false)) did.outs). coord_unanswered Apt x Known first event M e k d t (with_coord t did.part) did.outs h.0.1.2 M refl refl own (coord_all hd first event k did.outs own) refl none
         (still_walk begun (up k d t M) e k did.outs (with_coord t did.part) d M known.0 (act_pathed hd begun e k d t i M is free known.0)))
         (acts_apart t.coord i d.intents is))
         (g.act e k d t i M is free (knows (up k d t M) h few) (h.1 few)));
@@ -305,7 +305,7 @@ module _ (hd : Header) (x : ℕ) (form : HeaderInForm hd) (there : is_some (obje
         let less : AreFew (up k d t M) = (few.0, fewer_labels (length M.labels) (length N.labels) (one_more l (record { node = k; serial = is_serial_kind how }) M.labels new) few.1) in
         let g = coming_given (up k d t M) in
         coming_walk (up k d t M) e k did.outs (with_coord t did.part) d N
-        (coord_along Apt x Known first event M e k d t (with_coord t did.part) did.outs h.0.1.2 N refl refl own (coord_all hd first event k did.outs own) refl (begin_commits l how parent t.coord))
+        (coord_along Apt x Known first event M e k d t (with_coord t did.part) did.outs h.0.1.2 N refl refl own (coord_all hd first event k did.outs own) refl refl (begin_commits l how parent t.coord))
         (g.begin e k d t l how parent M new may free (knows (up k d t M) h less) (h.1 less)));
     tick = λ e k d t M h. let quietly = calm hd x form there in
         let n : Node = record { number = k; disk = d; live = Some t } in
@@ -314,7 +314,7 @@ module _ (hd : Header) (x : ℕ) (form : HeaderInForm hd) (there : is_some (obje
         along_walk (up k d t M) e k (tick_outs n t) (with_coord t r.part) d M (here_up k d t M) (quietly.tick e k d t M h.0.0) (shows.tick e k d t M h.0.1) (λ few.
         let g = coming_given (up k d t M) in
         coming_walk (up k d t M) e k (tick_outs n t) (with_coord t r.part) d M
-        (coord_along Apt x Known first event M e k d t (with_coord t r.part) (tick_outs n t) h.0.1.2 M refl refl own (coord_all hd first event k (tick_outs n t) own) refl (tick_commits n t))
+        (coord_along Apt x Known first event M e k d t (with_coord t r.part) (tick_outs n t) h.0.1.2 M refl refl own (coord_all hd first event k (tick_outs n t) own) refl refl (tick_commits n t))
         (g.tick e k d t M (knows (up k d t M) h few) (h.1 few)));
     restart = λ e k d M h. let quietly = calm hd x form there in along_walk (down k d M) e k (restart_outs hd k (d.inc + 1) d) (parts_in k (d.inc + 1) d) d M (here_down k d M) (quietly.restart e k d M h.0.0) (shows.restart e k d M h.0.1) (λ few.
         let g = coming_given (down k d M) in

@@ -21,9 +21,10 @@ use Rattle.arj_lock_run_law.specs.World.{is_for_parts}
 use Rattle.arj_lock_whole_law.specs.Called.{SayOf}
 use Rattle.arj_lock_whole_law.proofs.CalledSays.{acts_fine, both, calls_commit, is_apart, message_fine, tick_fine}
 
--- the line answers a call
+-- the line answers a call, or an include
 abbrev pub answers_call : Body → Bool
 answers_call (body.Ok l x o a) = true
+answers_call (body.Includes l x n) = true
 answers_call b = false
 
 -- no commit is called by the line
@@ -40,6 +41,7 @@ apart_commit b none = refl
 
 pub apart_answer : (b : Body) → is_apart b ≡ false → NoAnswer b
 apart_answer (body.Ok l x o a) none = absurd (cc none)
+apart_answer (body.Includes l x n) none = absurd (cc none)
 apart_answer b none = refl
 
 end_commit : (x : ℕ) (g : Goal) (e : CallEnd) (l : Label) → NoCommit (end_line x g e l)

@@ -16,6 +16,8 @@ pub mod Prefixes
 pub mod Calling
 pub mod Marks
 pub mod Acted
+pub mod Names
+pub mod NamedRuns
 pub mod Places
 pub mod Placing
 pub mod Fronts

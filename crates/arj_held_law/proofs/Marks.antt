@@ -25,6 +25,9 @@ got_behind (x ∷ ls) ms (suc j) l le is = got_behind ls ms j l (omega (arith, l
 pub none_more : (test : Body → Bool) (ls ms : List Line) (a b : ℕ) → b ≤ length ls → NoneBetween test ls a b → NoneBetween test (ls ++ ms) a b
 none_more test ls ms a b le none j l from to is = none j l from to (got_front ls ms j l (omega (arith, le, to)) is)
 
+pub longer : (ls ms : List Line) (n : ℕ) → n ≤ length ls → n ≤ length (ls ++ ms)
+longer ls ms n le = let q = length-append ls ms in omega (arith, le, q)
+
 -- ---- the first lines
 
 pub take_front : (ls ms : List Line) (p : ℕ) → p ≤ length ls → take p (ls ++ ms) ≡ take p ls

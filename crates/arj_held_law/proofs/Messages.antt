@@ -179,7 +179,7 @@ module _ (k : ℕ) (d : Disk) (t v : Parts) (place : HasNaming k t) (from : ℕ)
 -- ---- what is shown
 
 module _ (first event e k : ℕ) (d : Disk) (t v : Parts) (M : Seen) (begun : List Action) (all : AreBegun begun) (numbers : HaveNumbers begun) (alike : AreAlike begun (acts M.lines)) (place : HasNaming k t) where
-  named_follows : (x : ℕ) (outs : List Effect) (a b : Option Naming) → is_some a ≡ true → NamingFollows (holders_in false (acts M.lines)) x a outs b → named_locks x b ≡ rows_after (holders_in false (acts M.lines)) 1 part.Naming (entry x) outs (named_locks x a)
+  pub named_follows : (x : ℕ) (outs : List Effect) (a b : Option Naming) → is_some a ≡ true → NamingFollows (holders_in false (acts M.lines)) x a outs b → named_locks x b ≡ rows_after (holders_in false (acts M.lines)) 1 part.Naming (entry x) outs (named_locks x a)
   named_follows x outs None b there f = absurd (cc there)
   named_follows x outs (Some a) None there f = absurd f
   named_follows x outs (Some a) (Some b) there f = f

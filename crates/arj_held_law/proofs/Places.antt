@@ -25,14 +25,17 @@ use Rattle.arj_lock_view_law.specs.Telling.{View}
 use Rattle.arj_lock_run_law.specs.Fixed.{Agrees, Fixed, view_of}
 use Rattle.arj_lock_run_law.specs.Sees.{SeesDown, SeesLocks, SeesMemory}
 use Rattle.arj_lock_run_law.specs.Tied.{AreTied}
+use Rattle.arj_lock_fact_law.specs.Uppers.{AreUppersOf}
 use Rattle.arj_lock_whole_law.specs.Held.{locks_in, memory_of}
+use Rattle.arj_lock_whole_law.specs.Tops.{HoldsNames}
 use Rattle.arj_lock_whole_law.proofs.CalledSays.{calls_commit}
 use Rattle.arj_held_law.proofs.Acted.{AreWider}
 use Rattle.arj_held_law.proofs.Calling.{answers_call}
-use Rattle.arj_held_law.proofs.Marks.{NoneBetween, none_more, take_front}
+use Rattle.arj_held_law.proofs.Marks.{NoneBetween, longer, none_more, take_front}
+use Rattle.arj_held_law.proofs.Names.{IsNamed, known_wider, named_later, named_wider, names_in, names_known, naming_seen}
 
 -- At this place the object's machine was seen, in a state on its way to the present one, at a place between which and this one no call is
--- answered, or no commit is called; and from that state ends alone lead to servers whose locks are rows of the tables here.
+-- answered, or no commit is called; and from that state ends alone lead to servers whose locks are rows of the tables here. So it is with naming.
 pub record IsPlaced (f : Fixed) (x : ℕ) (begun : List Action) (S : State) (lines : List Line) (p : ℕ) : Type 0 where
   pub front : ℕ
   pub within : front ≤ length lines
@@ -49,9 +52,7 @@ pub record IsPlaced (f : Fixed) (x : ℕ) (begun : List Action) (S : State) (lin
   pub sees : (n : ℕ) → SeesRows f.act (object x) (rows n) (let a = servers n in a.rows)
   pub known : (n : ℕ) (r : Row) → Contains (rows n) r → (a : Action) × Contains begun a × (r.holder ≡ uids_of a.path)
   pub shown : (n : ℕ) (test : Row → Bool) → list_any test (rows n) ≡ true → list_any test (table n (take p lines)) ≡ true
-
-known_wider : (begun more : List Action) → AreWider begun more → (r : Row) → ((a : Action) × Contains begun a × (r.holder ≡ uids_of a.path)) → (a : Action) × Contains more a × (r.holder ≡ uids_of a.path)
-known_wider begun more wider r k = let w = wider k.0 k.1 in (w.0, w.1, k.2 ∙ w.2)
+  pub named : IsNamed f x begun S lines p
 
 -- so it is with more actions
 pub placed_wider : (f : Fixed) (x : ℕ) (begun more : List Action) (S : State) (lines : List Line) (p : ℕ) → AreWider begun more → IsPlaced f x begun S lines p → IsPlaced f x more S lines p
@@ -71,6 +72,7 @@ placed_wider f x begun more S lines p wider h = record {
   sees = h.sees;
   known = λ n r i. known_wider begun more wider r (h.known n r i);
   shown = h.shown;
+  named = named_wider f x begun more S lines p wider h.named;
 }
 
 -- and so it stays
@@ -91,20 +93,9 @@ placed_later f x begun more S T lines behind p wider run le h = record {
   sees = h.sees;
   known = λ n r i. known_wider begun more wider r (h.known n r i);
   shown = λ n test any. subst (λ ls. list_any test (table n ls) ≡ true) (sym (take_front lines behind p le)) (h.shown n test any);
+  named = named_later f x begun more S T lines behind p wider run le h.named;
 }
   where
-    longer : (ls ms : List Line) (n : ℕ) → n ≤ length ls → n ≤ length (ls ++ ms)
-    longer [] [] n le = le
-    longer [] (m ∷ ms) n le = omega (arith, le)
-    longer (l ∷ ls) ms n le = up n le
-      where
-        up : (n : ℕ) → n ≤ length (l ∷ ls) → n ≤ length (l ∷ (ls ++ ms))
-        up n le = let q = lengths ls in omega (arith, le, q)
-          where
-            lengths : (zs : List Line) → length zs ≤ length (zs ++ ms)
-            lengths [] = omega arith
-            lengths (z ∷ zs) = let q = lengths zs in omega (arith, q)
-
     by : ((h.front ≤ p) × NoneBetween answers_call lines h.front p) ⊎ ((p ≤ h.front) × NoneBetween calls_commit lines p h.front) → ((h.front ≤ p) × NoneBetween answers_call (lines ++ behind) h.front p) ⊎ ((p ≤ h.front) × NoneBetween calls_commit (lines ++ behind) p h.front)
     by (inl before) = inl (before.0, none_more answers_call lines behind h.front p le before.1)
     by (inr after) = inr (after.0, none_more calls_commit lines behind p h.front h.within after.1)
@@ -162,11 +153,32 @@ module _ (f : Fixed) (x : ℕ) (begun : List Action) (S : State) (M : Seen) (see
         by None is i = absurd (in_from r [] i)
         by (Some m) is i = live_rows m is m.live refl i
 
+    -- A place at which the table has naming's rows as they are now: here, or where no call is answered or no commit called between.
+    pub named_here : AreUppersOf HoldsNames begun M → (tied : AreTied f x M.lines S) (lines : List Line) (p : ℕ) → take (length M.lines) lines ≡ M.lines → length M.lines ≤ length lines
+        → ((length M.lines ≤ p) × NoneBetween answers_call lines (length M.lines) p) ⊎ ((p ≤ length M.lines) × NoneBetween calls_commit lines p (length M.lines))
+        → ((test : Row → Bool) → list_any test (names_in x M) ≡ true → list_any test (table 1 (take p lines)) ≡ true) → (T : State) → Run S T → IsNamed f x begun T lines p
+    named_here names tied lines p front le place shown T run = record {
+      front = length M.lines;
+      within = le;
+      state = S;
+      run = sees.run;
+      behind = run;
+      tied = subst (λ ls. AreTied f x ls S) (sym front) tied;
+      place = place;
+      rows = names_in x M;
+      sees = naming_seen f x begun S M sees;
+      known = names_known x begun M names;
+      shown = shown;
+      locks = λ n. locks_in x (memory_of (M.nodes n));
+      locks_seen = servers_seen;
+      locks_known = rows_known;
+    }
+
     -- A place whose rows are those of nodes now: here, or where no call is answered or no commit called between.
     pub place_here : (tied : AreTied f x M.lines S) (lines : List Line) (p : ℕ) → take (length M.lines) lines ≡ M.lines → length M.lines ≤ length lines
         → ((length M.lines ≤ p) × NoneBetween answers_call lines (length M.lines) p) ⊎ ((p ≤ length M.lines) × NoneBetween calls_commit lines p (length M.lines))
-        → ((n : ℕ) (test : Row → Bool) → list_any test (locks_in x (memory_of (M.nodes n))) ≡ true → list_any test (table n (take p lines)) ≡ true) → (T : State) → Run S T → IsPlaced f x begun T lines p
-    place_here tied lines p front le place shown T run = record {
+        → ((n : ℕ) (test : Row → Bool) → list_any test (locks_in x (memory_of (M.nodes n))) ≡ true → list_any test (table n (take p lines)) ≡ true) → (T : State) → Run S T → IsNamed f x begun T lines p → IsPlaced f x begun T lines p
+    place_here tied lines p front le place shown T run named = record {
       front = length M.lines;
       within = le;
       state = S;
@@ -182,4 +194,5 @@ module _ (f : Fixed) (x : ℕ) (begun : List Action) (S : State) (M : Seen) (see
       sees = servers_seen;
       known = rows_known;
       shown = shown;
+      named = named;
     }

@@ -3,7 +3,7 @@ use Rattle.std.proofs.Common.{◌≡◌, ◌≢◌, ◌≤◌, ◌∙◌, ◌==�
 use Rattle.std.specs.Prelude.{if◌then◌else◌}
 use Rattle.std.specs.List.{AllByRecursion, list_all, list_any}
 use Rattle.arj_base.specs.Rows.{Row}
-use Rattle.arj_base.specs.Uid.{object}
+use Rattle.arj_base.specs.Uid.{entry, object}
 use Rattle.arj_model.specs.Table.{table}
 use Rattle.arj_protocol.specs.Words.{Ask, Body, End, Head, Line, Message, Uid, uids_of}
 use Rattle.arj_protocol.specs.Words.ask
@@ -25,16 +25,20 @@ use Rattle.arj_lock_view_law.specs.Telling.{AreBrought, Sees, View}
 use Rattle.arj_lock_run_law.specs.Fixed.{Agrees, Fixed}
 use Rattle.arj_lock_run_law.specs.Sees.{SeesLocks}
 use Rattle.arj_lock_run_law.specs.Tied.{AreTied}
-use Rattle.arj_lock_whole_law.specs.Held.{locks_in, memory_of}
+use Rattle.arj_lock_fact_law.specs.Uppers.{AreUppersOf}
+use Rattle.arj_lock_whole_law.specs.Held.{entry_locks_in, locks_in, memory_of}
+use Rattle.arj_lock_whole_law.specs.Tops.{HoldsNames}
 use Rattle.arj_lock_whole_law.proofs.CalledSays.{calls_commit}
 use Rattle.arj_table_law.specs.Tables.{rows_on}
 use Rattle.arj_held_law.specs.Shown.{ShowsLocks}
+use Rattle.arj_held_law.proofs.Acted.{AreWider}
 use Rattle.arj_held_law.proofs.Calling.{answers_call}
 use Rattle.arj_held_law.proofs.Fronts.{front_actives, front_incs, front_known, front_others, front_run, front_sees, front_servers}
 use Rattle.arj_held_law.proofs.Holding.{any_shown}
 use Rattle.arj_held_law.proofs.Lines.{other_tables}
 use Rattle.arj_held_law.proofs.Marks.{NoneBetween, all_taken, take_all, take_behind, take_front}
-use Rattle.arj_held_law.proofs.Places.{IsPlaced, place_here, rows_known, servers_seen}
+use Rattle.arj_held_law.proofs.Names.{IsNamed, known_wider, names_in}
+use Rattle.arj_held_law.proofs.Places.{IsPlaced, named_here, place_here, rows_known, servers_seen}
 use Rattle.arj_held_law.proofs.Prefixes.{ends_by}
 use Rattle.arj_held_law.proofs.Sorts.{is_of}
 use Rattle.arj_held_law.proofs.Traces.{none_said}
@@ -46,6 +50,7 @@ quiet_commits b is = refl
 
 pub quiet_answers : (b : Body) → is_quiet_line b ≡ true → answers_call b ≡ false
 quiet_answers (body.Ok l x o a) is = absurd (cc is)
+quiet_answers (body.Includes l x n) is = absurd (cc is)
 quiet_answers b is = refl
 
 pub never_row : {P : Type 0} (test : Row → Bool) → list_any test [] ≡ true → P
@@ -61,11 +66,18 @@ module _ (x e k : ℕ) (base : List Line) (nodes : ℕ → Option Node) (lines :
       let at : take p lines ≡ base ++ numbered e (take r.0 more) = ap (take p) are ∙ r.1 in
       any_shown test (object x) (table n (take p lines)) (locks_in x (memory_of (nodes n))) (ap (rows_on (object x)) (ap (table n) at ∙ other_tables n k e off (take r.0 more) (all_taken (is_of k) r.0 more own) base) ∙ shows.server x) any
 
-  -- of this one, where its rows are known at each place
-  pub own_shown : (P : List Row → Type 0) → ((j : ℕ) → P (rows_on (object x) (table k (base ++ numbered e (take j more))))) → (p : ℕ) → length base ≤ p → P (rows_on (object x) (table k (take p lines)))
-  own_shown P rows p le =
+  -- naming's, where it is at another node than this one
+  pub other_named : list_all (is_of k) more ≡ true → (1 == k) ≡ false → ShowsLocks 1 base (memory_of (nodes 1)) → (p : ℕ) → length base ≤ p → rows_on (entry x) (table 1 (take p lines)) ≡ entry_locks_in x (memory_of (nodes 1))
+  other_named own off shows p le =
       let r = take_behind base e more p le in
-      subst (λ (ls : List Line). P (rows_on (object x) (table k ls))) (sym (ap (take p) are ∙ r.1)) (rows r.0)
+      let at : take p lines ≡ base ++ numbered e (take r.0 more) = ap (take p) are ∙ r.1 in
+      ap (rows_on (entry x)) (ap (table 1) at ∙ other_tables 1 k e off (take r.0 more) (all_taken (is_of k) r.0 more own) base) ∙ shows.naming x refl
+
+  -- of any node, where its rows on something are known at each place
+  pub own_shown : (n : ℕ) (o : Uid) (P : List Row → Type 0) → ((j : ℕ) → P (rows_on o (table n (base ++ numbered e (take j more))))) → (p : ℕ) → length base ≤ p → P (rows_on o (table n (take p lines)))
+  own_shown n o P rows p le =
+      let r = take_behind base e more p le in
+      subst (λ (ls : List Line). P (rows_on o (table n ls))) (sym (ap (take p) are ∙ r.1)) (rows r.0)
 
   front_is : take (length base) lines ≡ base
   front_is = ap (take (length base)) are ∙ take_front base (numbered e more) (length base) (omega arith) ∙ take_all base
@@ -88,8 +100,13 @@ module _ (x e k : ℕ) (base : List Line) (nodes : ℕ → Option Node) (lines :
     le_there = subst (λ (ls : List Line). length ls ≤ p) (sym same_lines) le
 
     -- no call is answered by these lines
-    pub from_before : ((n : ℕ) (test : Row → Bool) → list_any test (locks_in x (memory_of (M.nodes n))) ≡ true → list_any test (table n (take p lines)) ≡ true) → IsPlaced f x begun T lines p
-    from_before shown = place_here f x begun S M sees good agrees tied lines p (subst (λ (ls : List Line). take (length ls) lines ≡ ls) (sym same_lines) front_is) (subst (λ (ls : List Line). length ls ≤ length lines) (sym same_lines) base_long) (inl (le_there, unanswered)) shown T run
+    pub from_before : ((n : ℕ) (test : Row → Bool) → list_any test (locks_in x (memory_of (M.nodes n))) ≡ true → list_any test (table n (take p lines)) ≡ true) → IsNamed f x begun T lines p → IsPlaced f x begun T lines p
+    from_before shown named = place_here f x begun S M sees good agrees tied lines p (subst (λ (ls : List Line). take (length ls) lines ≡ ls) (sym same_lines) front_is) (subst (λ (ls : List Line). length ls ≤ length lines) (sym same_lines) base_long) (inl (le_there, unanswered)) shown T run named
+
+    -- and naming's rows are as they were
+    pub named_before : AreUppersOf HoldsNames begun M → rows_on (entry x) (table 1 (take p lines)) ≡ names_in x M → IsNamed f x begun T lines p
+    named_before names same = named_here f x begun S M sees good agrees names tied lines p (subst (λ (ls : List Line). take (length ls) lines ≡ ls) (sym same_lines) front_is) (subst (λ (ls : List Line). length ls ≤ length lines) (sym same_lines) base_long) (inl (le_there, unanswered))
+        (λ test any. any_shown test (entry x) (table 1 (take p lines)) (names_in x M) same any) T run
 
     -- and behind some of the ends that came
     module _ (servers : ℕ → machine.Server) (to : Run S (record S { server = servers })) (incs : (n : ℕ) → (let a = servers n in a.incarnation) ≡ (let b = S.server n in b.incarnation)) (actives : (n : ℕ) → (let a = servers n in a.active) ≡ (let b = S.server n in b.active))
@@ -113,8 +130,8 @@ module _ (x e k : ℕ) (base : List Line) (nodes : ℕ → Option Node) (lines :
       shown_with other own n true is test any = subst (λ (j : ℕ). list_any test (table j (take p lines)) ≡ true) (sym (eqb-true n k is)) (own test any)
       shown_with other own n false is test any = other n is test any
 
-      pub from_front : ((n : ℕ) → (n == k) ≡ false → (test : Row → Bool) → list_any test (locks_in x (memory_of (M.nodes n))) ≡ true → list_any test (table n (take p lines)) ≡ true) → ((test : Row → Bool) → list_any test mid ≡ true → list_any test (table k (take p lines)) ≡ true) → IsPlaced f x begun T lines p
-      from_front other own = record {
+      pub from_front : (more_begun : List Action) → AreWider begun more_begun → ((n : ℕ) → (n == k) ≡ false → (test : Row → Bool) → list_any test (locks_in x (memory_of (M.nodes n))) ≡ true → list_any test (table n (take p lines)) ≡ true) → ((test : Row → Bool) → list_any test mid ≡ true → list_any test (table k (take p lines)) ≡ true) → IsNamed f x more_begun T lines p → IsPlaced f x more_begun T lines p
+      from_front more_begun wider other own named = record {
         front = length M.lines;
         within = subst (λ (ls : List Line). length ls ≤ length lines) (sym same_lines) base_long;
         state = S;
@@ -128,24 +145,37 @@ module _ (x e k : ℕ) (base : List Line) (nodes : ℕ → Option Node) (lines :
         actives = actives;
         rows = λ n. rows_with (n == k) n;
         sees = λ n. sees_with n (n == k) refl;
-        known = λ n. known_with n (n == k);
+        known = λ n r i. known_wider begun more_begun wider r (known_with n (n == k) r i);
         shown = λ n test. shown_with other own n (n == k) refl test;
+        named = named;
       }
 
 -- ---- in the state behind
 
 module _ (x e : ℕ) (base : List Line) (N : Seen) (more : List Body) (are : N.lines ≡ base ++ numbered e more) (none : AllByRecursion (λ (b : Body). calls_commit b ≡ false) more) where
+  uncalled : (p : ℕ) → length base ≤ p → NoneBetween calls_commit N.lines p (length N.lines)
+  uncalled p le = subst (λ (ls : List Line). NoneBetween calls_commit ls p (length N.lines)) (sym are) (none_said calls_commit e more none base p (length N.lines) le)
+
   -- no commit is called by these lines
   pub from_behind : (f : Fixed) (begun : List Action) (S : State) → SeesLocks f x begun S N → IsGoodOf begun N → Agrees f x begun N.sent → AreTied f x N.lines S → (p : ℕ) → length base ≤ p → p ≤ length N.lines
-      → ((n : ℕ) (test : Row → Bool) → list_any test (locks_in x (memory_of (N.nodes n))) ≡ true → list_any test (table n (take p N.lines)) ≡ true) → IsPlaced f x begun S N.lines p
-  from_behind f begun S sees good agrees tied p le within shown = place_here f x begun S N sees good agrees tied N.lines p (take_all N.lines) (omega arith)
-      (inr (within, subst (λ (ls : List Line). NoneBetween calls_commit ls p (length N.lines)) (sym are) (none_said calls_commit e more none base p (length N.lines) le))) shown S stay
+      → ((n : ℕ) (test : Row → Bool) → list_any test (locks_in x (memory_of (N.nodes n))) ≡ true → list_any test (table n (take p N.lines)) ≡ true) → IsNamed f x begun S N.lines p → IsPlaced f x begun S N.lines p
+  from_behind f begun S sees good agrees tied p le within shown named = place_here f x begun S N sees good agrees tied N.lines p (take_all N.lines) (omega arith) (inr (within, uncalled p le)) shown S stay named
+
+  -- and naming's rows are as they will be
+  pub named_behind : (f : Fixed) (begun : List Action) (S : State) → SeesLocks f x begun S N → IsGoodOf begun N → Agrees f x begun N.sent → AreUppersOf HoldsNames begun N → AreTied f x N.lines S → (p : ℕ) → length base ≤ p → p ≤ length N.lines
+      → ((test : Row → Bool) → list_any test (names_in x N) ≡ true → list_any test (table 1 (take p N.lines)) ≡ true) → IsNamed f x begun S N.lines p
+  named_behind f begun S sees good agrees names tied p le within shown = named_here f x begun S N sees good agrees names tied N.lines p (take_all N.lines) (omega arith) (inr (within, uncalled p le)) shown S stay
 
 -- at the end of all lines
-pub at_the_end : (f : Fixed) (x : ℕ) (begun : List Action) (S : State) (N : Seen) → SeesLocks f x begun S N → IsGoodOf begun N → Agrees f x begun N.sent → AreTied f x N.lines S → (p : ℕ) → p ≡ length N.lines
-    → ((n : ℕ) (test : Row → Bool) → list_any test (locks_in x (memory_of (N.nodes n))) ≡ true → list_any test (table n (take p N.lines)) ≡ true) → IsPlaced f x begun S N.lines p
-at_the_end f x begun S N sees good agrees tied p same shown = place_here f x begun S N sees good agrees tied N.lines p (take_all N.lines) (omega arith)
-    (inr ((omega (arith, same)), (λ j l from less is. absurd (omega (arith, from, less, same))))) shown S stay
+module _ (f : Fixed) (x : ℕ) (begun : List Action) (S : State) (N : Seen) (sees : SeesLocks f x begun S N) (tied : AreTied f x N.lines S) (p : ℕ) (same : p ≡ length N.lines) where
+  nothing_behind : NoneBetween calls_commit N.lines p (length N.lines)
+  nothing_behind j l from less is = absurd (omega (arith, from, less, same))
+
+  pub at_the_end : IsGoodOf begun N → Agrees f x begun N.sent → ((n : ℕ) (test : Row → Bool) → list_any test (locks_in x (memory_of (N.nodes n))) ≡ true → list_any test (table n (take p N.lines)) ≡ true) → IsNamed f x begun S N.lines p → IsPlaced f x begun S N.lines p
+  at_the_end good agrees shown named = place_here f x begun S N sees good agrees tied N.lines p (take_all N.lines) (omega arith) (inr (omega (arith, same), nothing_behind)) shown S stay named
+
+  pub named_at_the_end : IsGoodOf begun N → Agrees f x begun N.sent → AreUppersOf HoldsNames begun N → ((test : Row → Bool) → list_any test (names_in x N) ≡ true → list_any test (table 1 (take p N.lines)) ≡ true) → IsNamed f x begun S N.lines p
+  named_at_the_end good agrees names shown = named_here f x begun S N sees good agrees names tied N.lines p (take_all N.lines) (omega arith) (inr (omega (arith, same), nothing_behind)) shown S stay
 
 -- ---- behind the ends of a message
 

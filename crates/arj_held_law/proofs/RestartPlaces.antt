@@ -26,6 +26,7 @@ use Rattle.arj_held_law.specs.Shown.{AreShown}
 use Rattle.arj_held_law.proofs.Calling.{answers_call}
 use Rattle.arj_held_law.proofs.Events.{IsShown, its_restart}
 use Rattle.arj_held_law.proofs.Lines.{next_off, quiet_of}
+use Rattle.arj_held_law.proofs.Names.{IsNamed}
 use Rattle.arj_held_law.proofs.Places.{IsPlaced}
 use Rattle.arj_held_law.proofs.Points.{from_behind, never_row, other_shown, quiet_answers, quiet_commits}
 use Rattle.arj_held_law.proofs.Restarts.{IsMute, Restarts, limited_restarts}
@@ -107,8 +108,8 @@ module _ (hd : Header) (w : World) (h : IsShown hd w) (n : ℕ) where
 
 -- In the state behind, at each place among the event's lines.
 pub placed_lately : (n e : ℕ) (w v : World) → AreShown w → Lately n e w v → (sent : List Post) (f : Fixed) (x : ℕ) (begun : List Action) (S : State) → SeesLocks f x begun S (see sent v) → IsGoodOf begun (see sent v) → Agrees f x begun sent → AreTied f x v.lines S
-    → (p : ℕ) → length w.lines ≤ p → p ≤ length v.lines → IsPlaced f x begun S v.lines p
-placed_lately n e w v shown l sent f x begun S sees good agrees tied p le within = from_behind x e w.lines (see sent v) l.said l.lines (none_called n l.said l.mute) f begun S sees good agrees tied p le within (λ k test any. by k test any (k == n) refl)
+    → (p : ℕ) → length w.lines ≤ p → p ≤ length v.lines → IsNamed f x begun S v.lines p → IsPlaced f x begun S v.lines p
+placed_lately n e w v shown l sent f x begun S sees good agrees tied p le within named = from_behind x e w.lines (see sent v) l.said l.lines (none_called n l.said l.mute) f begun S sees good agrees tied p le within (λ k test any. by k test any (k == n) refl) named
   where
     by : (k : ℕ) (test : Row → Bool) → list_any test (locks_in x (memory_of (at_place k v.nodes))) ≡ true → (b : Bool) → (k == n) ≡ b → list_any test (table k (take p v.lines)) ≡ true
     by k test any true is =
