@@ -34,6 +34,7 @@ use Rattle.arj_held_law.proofs.AlongKept.{Along, Pairs, Past}
 use Rattle.arj_held_law.proofs.AtEach.{OfEach, agreed, fixed, held_each, last, of_each}
 use Rattle.arj_held_law.proofs.Events.{event_shown}
 use Rattle.arj_held_law.proofs.Places.{IsPlaced}
+use Rattle.arj_held_law.proofs.RestartNames.{acted_before, named_lately}
 use Rattle.arj_held_law.proofs.RestartPlaces.{event_lately, placed_lately}
 
 -- the event restarts this node, or none
@@ -53,7 +54,11 @@ module _ (hd : Header) (x : ℕ) (form : HeaderInForm hd) (there : is_some (obje
       let shown = let s = h.shown in s.shown in
       along_again hd x form there w v (event_shown hd w h.shown e) held (λ f begun S alike names agrees sees tied before p within cond has. ⊎_elim {C = IsPlaced f x begun S v.lines p}
       (λ (early : p ≤ length w.lines). was_placed hd x form there (length w.lines) (w.event + 1) (see held.sent v) f begun S alike before p within (inl early) has)
-      (λ (late : length w.lines < p). placed_lately n (w.event + 1) w v shown (event_lately hd w h.shown n e is) held.sent f x begun S sees alike.0 agrees.0 tied p (omega (arith, late)) within)
+      (λ (late : length w.lines < p).
+      let l = event_lately hd w h.shown n e is in
+      let le : length w.lines ≤ p = omega (arith, late) in
+      let at = was_placed hd x form there (length w.lines) (w.event + 1) (see held.sent v) f begun S alike before (length w.lines) (omega (arith, late, within)) (inl (omega arith)) (acted_before n (w.event + 1) w v shown l p le has) in
+      placed_lately n (w.event + 1) w v shown l held.sent f x begun S sees alike.0 agrees.0 tied p le within (named_lately n (w.event + 1) w v shown l f x begun S at.named p le))
       (before_or p (length w.lines)))
 
   -- any event, and any move

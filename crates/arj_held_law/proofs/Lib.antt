@@ -27,6 +27,7 @@ pub mod OnLines
 pub mod AlongSteps
 pub mod AlongMessages
 pub mod RestartPlaces
+pub mod RestartNames
 pub mod AlongKept
 pub mod AlongEvents
 pub mod AtEach

@@ -1,5 +1,5 @@
 -- Naming's locks on an entry at each of a handler's lines: those before all of them, or those behind, since one line at most changes them.
-use Rattle.std.proofs.Common.{◌≡◌, ◌⊎◌, ◌∙◌, ◌==◌, ◌++◌, ◌+◌, ◌&&◌, ℕ, List, [], ◌∷◌, Bool, true, false, filter, map, Option, Some, None, refl, sym, ap, subst, inl, inr, eqb-true, eq-eqb}
+use Rattle.std.proofs.Common.{◌≡◌, ◌⊎◌, ◌∙◌, ◌==◌, ◌++◌, ◌+◌, ◌&&◌, ℕ, List, [], ◌∷◌, Bool, true, false, filter, map, Option, Some, None, refl, sym, ap, subst, inl, inr, eqb-true}
 use Rattle.std.specs.Prelude.{⊤, ◌||◌, if◌then◌else◌, is_some, not, option_map}
 use Rattle.std.specs.List.{AllByRecursion, flat_map, list_all}
 use Rattle.std.proofs.lemmas.Bool.{and_parts, or_parts}

@@ -1,5 +1,5 @@
 -- Places of a journal at which naming's rows on the object's entry were seen in the lock machine, as the table of node 1 has them there.
-use Rattle.std.proofs.Common.{◌≡◌, ◌⊎◌, ◌≤◌, ◌∙◌, ◌++◌, ℕ, List, [], ◌∷◌, Bool, true, Option, Some, None, length, take, refl, sym, ap, subst, inl, inr, arith, Contains}
+use Rattle.std.proofs.Common.{◌≡◌, ◌⊎◌, ◌≤◌, ◌∙◌, ◌++◌, ℕ, List, [], Bool, true, Option, Some, None, length, take, refl, sym, ap, subst, inl, inr, arith, Contains}
 use Rattle.std.specs.Prelude.{is_some}
 use Rattle.std.specs.List.{list_any}
 use Rattle.arj_base.specs.Rows.{Row, last_uid}
@@ -24,7 +24,6 @@ use Rattle.arj_lock_law.proofs.Order.{go_on}
 use Rattle.arj_lock_view_law.specs.Ends.{SeesNothing}
 use Rattle.arj_lock_view_law.specs.Hearing.{SeesNamingIn}
 use Rattle.arj_lock_view_law.specs.Rows.{SeesRows, held_in}
-use Rattle.arj_lock_view_law.specs.Telling.{View}
 use Rattle.arj_lock_fact_law.specs.Uppers.{AreUppersOf}
 use Rattle.arj_lock_run_law.specs.Fixed.{Fixed, view_of}
 use Rattle.arj_lock_run_law.specs.Sees.{SeesLocks, SeesMemory}

@@ -9,7 +9,6 @@ use Rattle.arj_base.specs.Uid.{entry, object}
 use Rattle.arj_model.specs.Actions.{acts}
 use Rattle.arj_model.specs.Table.{table}
 use Rattle.arj_protocol.specs.Words.{Body, End, Line, Uid}
-use Rattle.arj_protocol.specs.Words.body
 use Rattle.arj_protocol.specs.Effect.{Disk}
 use Rattle.arj_protocol.specs.Laws.{server_rows}
 use Rattle.arj_protocol.specs.Naming.{Naming}
@@ -347,10 +346,10 @@ module _ (Apt : Fixed → Type 0) (x : ℕ) (R : Fixed → List Action → State
           (λ (was : WasAlong M f S).
           let wide = wider_by was.begun begun M (up k c v L) (numbered e u.more) u.lines was.alike alike in
           let named : IsNamed f x begun S L.lines p = ⊎_elim
-              (λ (kept : rows_on (entry x) (table 1 (take p L.lines)) ≡ names_in x M). named_wider f x was.begun begun S L.lines p wide (named_before x e k M.lines M.nodes L.lines u.more u.lines f was.begun was.state M refl was.sees was.alike.0 was.agrees.0 was.tied (all_none u.more u.none) S was.goes p le was.names kept))
-              (λ (changed : ((k == 1) ≡ true) × (rows_on (entry x) (table 1 (take p L.lines)) ≡ named_locks x o)). named_behind x e M.lines (up k c v L) u.more u.lines (all_such M showing e k test Ends o calls_commit silent_commits u.more u.none) f begun S sees alike.0 agrees.0 names tied p le within
-              (λ row any. any_shown row (entry x) (table 1 (take p L.lines)) (names_in x (up k c v L)) (changed.1 ∙ ap (named_locks x) last ∙ sym (names_now M showing e k test Ends o v c L t (ap (λ (j : ℕ). 1 == j) (eqb-true k 1 changed.0)))) any))
-              (names_up M showing e k test Ends o v c L t guard p le) in
+          (λ (kept : rows_on (entry x) (table 1 (take p L.lines)) ≡ names_in x M). named_wider f x was.begun begun S L.lines p wide (named_before x e k M.lines M.nodes L.lines u.more u.lines f was.begun was.state M refl was.sees was.alike.0 was.agrees.0 was.tied (all_none u.more u.none) S was.goes p le was.names kept))
+          (λ (changed : ((k == 1) ≡ true) × (rows_on (entry x) (table 1 (take p L.lines)) ≡ named_locks x o)). named_behind x e M.lines (up k c v L) u.more u.lines (all_such M showing e k test Ends o calls_commit silent_commits u.more u.none) f begun S sees alike.0 agrees.0 names tied p le within
+          (λ row any. any_shown row (entry x) (table 1 (take p L.lines)) (names_in x (up k c v L)) (changed.1 ∙ ap (named_locks x) last ∙ sym (names_now M showing e k test Ends o v c L t (ap (λ (j : ℕ). 1 == j) (eqb-true k 1 changed.0)))) any))
+          (names_up M showing e k test Ends o v c L t guard p le) in
           ⊎_elim {C = IsPlaced f x begun S L.lines p}
           (λ (front : (pre : List (Uid × End)) × (post : List (Uid × End)) × (ends ≡ pre ++ post) × (rows_on (object x) (table k (take p L.lines)) ≡ server_rows x (let d = apply_ends k pre old in d.part))).
           let q = fronts f S was front.0 front.1 front.2 in

@@ -1,5 +1,5 @@
 -- Places of a journal at which the lock machine was seen, with rows of the tables there.
-use Rattle.std.proofs.Common.{◌≡◌, ◌⊎◌, ◌≤◌, ◌∙◌, ◌++◌, ℕ, List, [], ◌∷◌, Bool, true, Option, Some, None, length, take, refl, sym, ap, subst, inl, inr, arith, Contains}
+use Rattle.std.proofs.Common.{◌≡◌, ◌⊎◌, ◌≤◌, ◌++◌, ℕ, List, [], Bool, true, Option, Some, None, length, take, refl, sym, ap, subst, inl, inr, arith, Contains}
 use Rattle.std.specs.List.{list_any}
 use Rattle.arj_base.specs.Rows.{Row}
 use Rattle.arj_base.specs.Uid.{object}

@@ -1,5 +1,5 @@
 -- Where a node was to restart, the object's machine was seen at each of the event's lines.
-use Rattle.std.proofs.Common.{◌≡◌, ◌≤◌, ◌==◌, ◌++◌, ◌+◌, ◌&&◌, ℕ, suc, List, [], ◌∷◌, Bool, true, false, length, take, Option, Some, None, refl, sym, ap, subst, append-nil, eqb-true}
+use Rattle.std.proofs.Common.{◌≡◌, ◌⊎◌, ◌≤◌, ◌∙◌, ◌==◌, ◌++◌, ◌+◌, ◌&&◌, ℕ, suc, List, [], ◌∷◌, Bool, true, false, length, take, Option, Some, None, refl, sym, ap, subst, append-nil, eqb-true, inl, inr}
 use Rattle.std.specs.Prelude.{if◌then◌else◌}
 use Rattle.std.specs.List.{AllByRecursion, list_all, list_any}
 use Rattle.std.proofs.lemmas.Bool.{and_parts}
@@ -25,7 +25,8 @@ use Rattle.arj_lock_whole_law.proofs.CalledSays.{calls_commit}
 use Rattle.arj_held_law.specs.Shown.{AreShown}
 use Rattle.arj_held_law.proofs.Calling.{answers_call}
 use Rattle.arj_held_law.proofs.Events.{IsShown, its_restart}
-use Rattle.arj_held_law.proofs.Lines.{next_off, quiet_of}
+use Rattle.arj_held_law.proofs.Lines.{next_off, other_tables, quiet_of, quiet_table}
+use Rattle.arj_held_law.proofs.Marks.{all_taken, take_behind}
 use Rattle.arj_held_law.proofs.Names.{IsNamed}
 use Rattle.arj_held_law.proofs.Places.{IsPlaced}
 use Rattle.arj_held_law.proofs.Points.{from_behind, never_row, other_shown, quiet_answers, quiet_commits}
@@ -34,13 +35,18 @@ use Rattle.arj_held_law.proofs.Sorts.{is_of}
 use Rattle.arj_held_law.proofs.Writes.{node_event}
 
 -- What an event by which this node was to restart leaves: lines of the node alone, in which no commit is called, no call answered and no action begins; what locks on objects it has then are rows of its
--- table from before the first of them on; and the other nodes are as they were.
+-- table from before the first of them on; the other nodes are as they were; and so is the table of node 1, or this node was down.
 pub record Lately (n e : ℕ) (w v : World) : Type 0 where
   pub said : List Body
   pub lines : v.lines ≡ w.lines ++ numbered e said
   pub mute : AllByRecursion (IsMute n) said
   pub own : (x p : ℕ) → length w.lines ≤ p → (test : Row → Bool) → list_any test (locks_in x (memory_of (at_place n v.nodes))) ≡ true → list_any test (table n (take p v.lines)) ≡ true
   pub others : (k : ℕ) → (k == n) ≡ false → at_place k v.nodes ≡ at_place k w.nodes
+  pub first : ((p : ℕ) → length w.lines ≤ p → table 1 (take p v.lines) ≡ table 1 w.lines) ⊎ (memory_of (at_place 1 w.nodes) ≡ None)
+
+pub all_own : (n : ℕ) (bs : List Body) → AllByRecursion (IsMute n) bs → list_all (is_of n) bs ≡ true
+all_own n [] all = refl
+all_own n (b ∷ bs) all = λ i. all.0.0 i && all_own n bs all.1 i
 
 of_restart : (n : ℕ) (w v : World) → Restarts n w v → Lately n w.event w v
 of_restart n w v r = record {
@@ -49,11 +55,12 @@ of_restart n w v r = record {
   mute = r.mute;
   own = λ x p le test any. never_row test (subst (λ (rows : List Row). list_any test rows ≡ true) (r.gone x) any);
   others = r.others;
+  first = by (1 == n) refl;
 }
-
-all_own : (n : ℕ) (bs : List Body) → AllByRecursion (IsMute n) bs → list_all (is_of n) bs ≡ true
-all_own n [] all = refl
-all_own n (b ∷ bs) all = λ i. all.0.0 i && all_own n bs all.1 i
+  where
+    by : (b : Bool) → (1 == n) ≡ b → ((p : ℕ) → length w.lines ≤ p → table 1 (take p v.lines) ≡ table 1 w.lines) ⊎ (memory_of (at_place 1 w.nodes) ≡ None)
+    by true is = inr (ap (λ k. memory_of (at_place k w.nodes)) (eqb-true 1 n is) ∙ r.down)
+    by false off = inl (λ p le. let t = take_behind w.lines w.event r.said p le in ap (table 1) (ap (take p) r.lines ∙ t.1) ∙ other_tables 1 n w.event off (take t.0 r.said) (all_taken (is_of n) t.0 r.said (all_own n r.said r.mute)) w.lines)
 
 none_called : (n : ℕ) (bs : List Body) → AllByRecursion (IsMute n) bs → AllByRecursion (λ (b : Body). calls_commit b ≡ false) bs
 none_called n [] all = tt
@@ -86,6 +93,7 @@ quiet_lately n e w v shown bs quiet lines nodes = record {
   mute = quiet_mute n bs (quiet_of n bs quiet) quiet;
   own = λ x p le test any. other_shown x e (suc n) w.lines (λ k. at_place k w.nodes) v.lines bs lines (quiet_of (suc n) bs quiet) n (next_off n) (shown n) p le test (subst (λ (ns : List Node). list_any test (locks_in x (memory_of (at_place n ns))) ≡ true) nodes any);
   others = λ k off. ap (at_place k) nodes;
+  first = inl (λ p le. let t = take_behind w.lines e bs p le in ap (table 1) (ap (take p) lines ∙ t.1) ∙ quiet_table 1 e (take t.0 bs) (all_taken is_quiet_line t.0 bs quiet) w.lines);
 }
 
 module _ (hd : Header) (w : World) (h : IsShown hd w) (n : ℕ) where
@@ -97,7 +105,7 @@ module _ (hd : Header) (w : World) (h : IsShown hd w) (n : ℕ) where
   unless_lately a None is =
       let v = steps n input.Restart (counted w) in
       let z = of_restart n (counted w) (limited v) (limited_restarts n (counted w) v (node_event n n input.Restart (counted w) (at_place n w.nodes)) (its_restart hd w h n is)) in
-      record { said = z.said; lines = z.lines; mute = z.mute; own = z.own; others = z.others }
+      record { said = z.said; lines = z.lines; mute = z.mute; own = z.own; others = z.others; first = z.first }
 
   pub event_lately : (e : Asked) → e.event ≡ event.Restart n → Lately n E w (run_event e w)
   event_lately e is = by w.over

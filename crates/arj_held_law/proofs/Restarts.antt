@@ -171,11 +171,13 @@ module _ (n : ℕ) where
 
 -- ---- a node that restarts
 
--- What a restart of this node leaves: lines of the node alone, in which no commit is called, no call answered and no action begins, no lock on an object there, and the other nodes as they were.
+-- What a restart of this node leaves: lines of the node alone, in which no commit is called, no call answered and no action begins, no lock on an object there, where the
+-- node was down, and the other nodes as they were.
 pub record Restarts (n : ℕ) (w v : World) : Type 0 where
   pub said : List Body
   pub lines : v.lines ≡ w.lines ++ numbered w.event said
   pub mute : AllByRecursion (IsMute n) said
+  pub down : memory_of (at_place n w.nodes) ≡ None
   pub gone : (x : ℕ) → locks_in x (memory_of (at_place n v.nodes)) ≡ []
   pub others : (k : ℕ) → (k == n) ≡ false → at_place k v.nodes ≡ at_place k w.nodes
 
@@ -237,6 +239,7 @@ module _ (w : World) (n : ℕ) (d : Disk) (there : at_place n w.nodes ≡ Some (
     said = bodies n (length w.frames) (effects_of n input.Restart w);
     lines = steps_lines n input.Restart w;
     mute = bodies_mute n n (length w.frames) (effects_of n input.Restart w) (subst (λ (o : Option Node). Mute n (effects_of_node n input.Restart w o)) (sym there) (until_mute (at_number n w.arms)));
+    down = ap memory_of there;
     gone = λ x. subst (λ (o : Option Node). locks_in x (memory_of (at_place n (step_node n input.Restart w o).nodes)) ≡ []) (sym there) (with_gone x (at_number n w.arms));
     others = λ k off. subst (λ (o : Option Node). at_place k (step_node n input.Restart w o).nodes ≡ at_place k w.nodes) (sym there) (with_others k off (at_number n w.arms));
   }
@@ -251,6 +254,7 @@ limited_restarts n w v same r = by v.full
       said = r.said ++ body.Limit which.Frames ∷ [];
       lines = (λ i. r.lines i ++ numbered (same i) (body.Limit which.Frames ∷ [])) ∙ append_assoc w.lines (numbered w.event r.said) (numbered w.event (body.Limit which.Frames ∷ [])) ∙ ap (λ ls. w.lines ++ ls) (sym (map-append (λ (b : Body). record { event = w.event; body = b }) r.said (body.Limit which.Frames ∷ [])));
       mute = all_append (IsMute n) r.said (body.Limit which.Frames ∷ []) r.mute ((refl, refl, refl, refl), tt);
+      down = r.down;
       gone = r.gone;
       others = r.others;
     }
