@@ -18,7 +18,7 @@ use Rattle.arj_protocol.specs.Step as input
 use Rattle.arj_protocol.specs.Step.{Input, Node, acts, begin_refusal, first_node, numbers_to, parent_of, parts_in, refusal_up, restart_outs}
 use Rattle.arj_protocol.specs.Tree.{Tree, at_place}
 use Rattle.arj_protocol.specs.Words.{Asked, Header, Kind, Label, Message, Uid}
-use Rattle.arj_protocol.specs.World.{Asked as event_asked, World, format, is_serial_kind, run_all}
+use Rattle.arj_protocol.specs.World.{World, format, is_serial_kind}
 use Rattle.arj_part_law.proofs.Begun.{begun_tree, path_found}
 use Rattle.arj_run_law.specs.Worlds.{IsGood, IsMemory, IsUp}
 use Rattle.arj_run_law.proofs.AllRuns.{all_keep}
@@ -32,9 +32,11 @@ use Rattle.arj_coord_law.proofs.CoordRooms.{Room, room_acked, room_acts, room_ag
 use Rattle.arj_coord_law.proofs.TreeRooms.{room_new}
 use Rattle.arj_told_law.specs.Sends.{HasFewEnds}
 use Rattle.arj_view_law.specs.Keeps.{Holds, Keeps, is_act}
+use Rattle.arj_view_law.specs.Moves.{Move, world_by}
 use Rattle.arj_view_law.specs.Seen.{Seen, at, given, posted, said, see, up}
 use Rattle.arj_view_law.specs.Walks.{Up, Walks, halted}
-use Rattle.arj_view_law.proofs.Happens.{runs_hold}
+use Rattle.arj_view_law.proofs.Happens.{keeps_asked}
+use Rattle.arj_view_law.proofs.Moving.{moves_asked}
 use Rattle.arj_view_law.proofs.Together.{walks_both}
 
 -- What holds of a coordinator as it begins, and is kept by what it hears, does and begins.
@@ -147,8 +149,8 @@ module _ (Q : Coord → Type 0) (kept : IsKept Q) where
       keep : Keeps hd IsGood
       keep = all_keep hd
 
-  pub runs_so : (hd : Header) (es : List event_asked) (k : ℕ) (n : Node) (t : Parts) → at_place k (let w = run_all es (format hd) in w.nodes) ≡ Some n → n.live ≡ Some t → Q t.coord
-  runs_so hd es k n t is live = let h = runs_hold hd IsSo (all_keep_so hd) es in let all = h.holds in all.1 k n t is live
+  pub runs_so : (hd : Header) (ms : List Move) (k : ℕ) (n : Node) (t : Parts) → at_place k (let w = world_by hd ms in w.nodes) ≡ Some n → n.live ≡ Some t → Q t.coord
+  runs_so hd ms k n t is live = let h = moves_asked hd IsSo (keeps_asked hd IsSo (all_keep_so hd)) ms in let all = h.holds in all.1 k n t is live
 
 -- ---- room
 
@@ -162,8 +164,8 @@ rooms_kept = record {
   asks = room_again;
 }
 
-pub trees_room : (hd : Header) (es : List event_asked) (k : ℕ) (n : Node) (t : Parts) → at_place k (let w = run_all es (format hd) in w.nodes) ≡ Some n → n.live ≡ Some t → HasRoom t.coord.tree
-trees_room hd es k n t is live = runs_so Room rooms_kept hd es k n t is live
+pub trees_room : (hd : Header) (ms : List Move) (k : ℕ) (n : Node) (t : Parts) → at_place k (let w = world_by hd ms in w.nodes) ≡ Some n → n.live ≡ Some t → HasRoom t.coord.tree
+trees_room hd ms k n t is live = runs_so Room rooms_kept hd ms k n t is live
 
 -- room is for few ends
 pub few_ends : (t : Tree) → HasRoom t → HasFewEnds t
@@ -198,12 +200,12 @@ module _ (k : ℕ) (n : Node) (t : Parts) (M : Seen) (all : IsSo HasNames names_
     waits = λ u d m found is. (subst (IsNumbered d.req) is (its.numbered u d found)).1.1;
   }
 
-pub labels_named : (hd : Header) (es : List event_asked) → AreNamed (run_all es (format hd))
-labels_named hd es k n t is live = let h = runs_hold hd (IsSo HasNames names_are_kept) (all_keep_so HasNames names_are_kept hd) es in knows_names k n t (see h.sent (run_all es (format hd))) h.holds is live
-
 -- whatever keeps what each handler keeps
 pub keeps_names : (hd : Header) → Keeps hd (IsSo HasNames names_are_kept)
 keeps_names hd = all_keep_so HasNames names_are_kept hd
 
 pub holds_named : (hd : Header) (w : World) → Holds hd (IsSo HasNames names_are_kept) w → AreNamed w
 holds_named hd w h k n t is live = knows_names k n t (see h.sent w) h.holds is live
+
+pub labels_named : (hd : Header) (ms : List Move) → AreNamed (world_by hd ms)
+labels_named hd ms = holds_named hd (world_by hd ms) (moves_asked hd (IsSo HasNames names_are_kept) (keeps_asked hd (IsSo HasNames names_are_kept) (keeps_names hd)) ms)

@@ -2,11 +2,11 @@
 ghost use Rattle.std.specs.Prelude.{List};
 ghost use Rattle.arj_event_law.specs.Named.{AreNamed};
 ghost use Rattle.arj_journal.specs.declared.header.Header.{Header};
-ghost use Rattle.arj_protocol.specs.World.{Asked, format, run_all};
+ghost use Rattle.arj_view_law.specs.Moves.{Move, world_by};
 
 /// In each run, with all frames in any order, again or never, all stops, crashes and restarts, each label that a coordinator knows
 /// is that of the action at work at its number, so that what it says of an action it says by the label that it was begun with;
 /// and a commit under way waits for some node, so that a giveup says of which. It does nothing when it runs.
 pub fn labels_are_known()
-    ensures runs { (hd : Header) (es : List Asked) → AreNamed (run_all es (format hd)) }
+    ensures runs { (hd : Header) (ms : List Move) → AreNamed (world_by hd ms) }
 {}

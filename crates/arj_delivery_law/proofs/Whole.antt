@@ -1,20 +1,22 @@
--- Deliveries in whole runs, with the stops of a script's own arms, and with others.
+-- Deliveries in whole runs, whatever stops fall.
 use Rattle.std.proofs.Common.{◌≡◌, ◌&&◌, ℕ, true, false, List, [], ◌∷◌, ◌∙◌, ap, nat_le}
 use Rattle.std.specs.List.{AllByRecursion}
 use Rattle.arj_protocol.specs.Words.{Event, FrameNo, Header}
 use Rattle.arj_protocol.specs.Words.event
 use Rattle.arj_protocol.specs.Words.frame_no
-use Rattle.arj_protocol.specs.World.{Arm, Asked, Frame, World, format, frame_number, is_node, run_all, run_event}
-use Rattle.arj_event_law.specs.Writes.{Owes, Writes, has_own}
+use Rattle.arj_protocol.specs.World.{Arm, Frame, World, format, frame_number, is_node, run_event}
+use Rattle.arj_event_law.specs.Writes.{IsWhole, Owes, Writes, has_own}
 use Rattle.arj_event_law.proofs.Spoken.{event_writes}
-use Rattle.arj_event_law.proofs.Whole.{runs_whole}
+use Rattle.arj_event_law.proofs.Whole.{runs_whole, whole_with}
 use Rattle.arj_journal.specs.ScriptForm.{HeaderInForm}
 use Rattle.arj_view_law.specs.Keeps.{Holds}
+use Rattle.arj_view_law.specs.Moves.{Move, moved, world_by}
 use Rattle.arj_view_law.proofs.Happens.{arms_hold}
+use Rattle.arj_view_law.proofs.Moving.{moves_asked}
 use Rattle.arj_address_law.specs.Addresses.{AreAddressed}
-use Rattle.arj_address_law.proofs.Runs.{event_within, first_within, within_of}
+use Rattle.arj_address_law.proofs.Runs.{event_within, first_within, kept, within_of}
 use Rattle.arj_world.specs.Turns.{Turn, all_turned, asked, turned, with_arms}
-use Rattle.arj_world.proofs.Owns.{runs_whole as turns_whole}
+use Rattle.arj_world.proofs.Owns.{answers_without, runs_whole as turns_whole}
 use Rattle.arj_delivery_law.specs.Deliveries.{AreForNodes, Delivers, IsTaken}
 use Rattle.arj_delivery_law.proofs.Delivered.{delivery_taken, each_for_node}
 
@@ -30,10 +32,6 @@ module _ (hd : Header) (form : HeaderInForm hd) where
       by [] all = tt
       by (f ∷ fs) all = (ap (λ (d : Header). nat_le 1 f.to && nat_le f.to d.nodes) h.stands.header ∙ all.0, by fs all.1)
 
-  runs_kept : (es : List Asked) (w : World) → Kept w → Kept (run_all es w)
-  runs_kept [] w h = h
-  runs_kept (e ∷ es) w h = runs_kept es (run_event e w) (event_within hd form e w h)
-
   turn_kept : (t : Turn) (w : World) → Kept w → Kept (turned t w)
   turn_kept t w h = arms_hold hd (AreAddressed hd) [] (run_event (asked t.event) (with_arms t.falls w)) (event_within hd form (asked t.event) (with_arms t.falls w) (arms_hold hd (AreAddressed hd) t.falls w h))
 
@@ -41,14 +39,11 @@ module _ (hd : Header) (form : HeaderInForm hd) where
   turns_kept [] w h = h
   turns_kept (t ∷ ts) w h = turns_kept ts (turned t w) (turn_kept t w h)
 
-  run_nodes : (es : List Asked) → AreForNodes (run_all es (format hd))
-  run_nodes es = for_nodes (run_all es (format hd)) (runs_kept es (format hd) (first_within hd form))
+  run_nodes : (ms : List Move) → AreForNodes (world_by hd ms)
+  run_nodes ms = for_nodes (world_by hd ms) (moves_asked hd (AreAddressed hd) (kept hd form) ms)
 
   pub turn_nodes : (ts : List Turn) → AreForNodes (all_turned ts (format hd))
   turn_nodes ts = for_nodes (all_turned ts (format hd)) (turns_kept ts (format hd) (first_within hd form))
-
-  pub runs_take : (es : List Asked) (e : Asked) (k : FrameNo) → (let w = run_all es (format hd) in Delivers e.event k w → IsTaken (frame_number k w) w (run_event e w))
-  runs_take es e k d = delivery_taken (run_all es (format hd)) (runs_whole hd es) (run_nodes es) e k d
 
   -- which stops fall is nothing to a frame
   same_frames : (arms : List (ℕ × Arm)) (w : World) (e : Event) (k : FrameNo) → Delivers e k w → Delivers e k (with_arms arms w)
@@ -59,12 +54,16 @@ module _ (hd : Header) (form : HeaderInForm hd) where
   same_taken arms w v (frame_no.Number n) r = record { before = r.before; line = r.line; after = r.after; are = r.are; taken = r.taken }
   same_taken arms w v frame_no.Last r = record { before = r.before; line = r.line; after = r.after; are = r.are; taken = r.taken }
 
+  move_takes : (w : World) → IsWhole w → AreForNodes w → (m : Move) (k : FrameNo) → Delivers m.asked.event k w → IsTaken (frame_number k w) w (moved m w)
+  move_takes w whole nodes m k d =
+      let r = delivery_taken (with_arms m.falls w) (whole_with m.falls w whole) nodes m.asked k (same_frames m.falls w m.asked.event k d) in
+      same_taken m.falls w (run_event m.asked (with_arms m.falls w)) k r
+
+  pub runs_take : (ms : List Move) (m : Move) (k : FrameNo) → (let w = world_by hd ms in Delivers m.asked.event k w → IsTaken (frame_number k w) w (moved m w))
+  runs_take ms m k d = move_takes (world_by hd ms) (runs_whole hd ms) (run_nodes ms) m k d
+
   pub turns_take : (ts : List Turn) (t : Turn) (k : FrameNo) → (let w = all_turned ts (format hd) in Delivers t.event k w → IsTaken (frame_number k w) w (turned t w))
-  turns_take ts t k d =
-      let w = all_turned ts (format hd) in
-      let g = turns_whole hd ts in
-      let r = delivery_taken (with_arms t.falls w) (record { nodes = g.nodes; numbers = g.numbers; labels = g.labels }) (turn_nodes ts) (asked t.event) k (same_frames t.falls w t.event k d) in
-      same_taken t.falls w (run_event (asked t.event) (with_arms t.falls w)) k r
+  turns_take ts t k d = move_takes (all_turned ts (format hd)) (turns_whole hd ts) (turn_nodes ts) (record { asked = asked t.event; falls = t.falls }) k d
 
   -- an event of a kind with a line owes it
   owes_of : (w : World) → AreForNodes w → (e : Event) → has_own e ≡ true → Owes e w
@@ -88,8 +87,11 @@ module _ (hd : Header) (form : HeaderInForm hd) where
   owes_of w all event.Settle own = own
   owes_of w all (event.Show x) own = own
 
-  pub runs_write : (es : List Asked) (e : Asked) → has_own e.event ≡ true → (let w = run_all es (format hd) in w.over ≡ false → Writes e.event w (run_event e w))
-  runs_write es e own running = let w = run_all es (format hd) in event_writes e w (runs_whole hd es) running (owes_of w (run_nodes es) e.event own)
+  pub runs_write : (ms : List Move) (m : Move) → has_own m.asked.event ≡ true → (let w = world_by hd ms in w.over ≡ false → Writes m.asked.event w (moved m w))
+  runs_write ms m own running =
+      let w = world_by hd ms in
+      let r = event_writes m.asked (with_arms m.falls w) (whole_with m.falls w (runs_whole hd ms)) running (owes_of (with_arms m.falls w) (run_nodes ms) m.asked.event own) in
+      record { before = r.before; line = r.line; after = r.after; are = r.are; answers = answers_without m.falls w m.asked.event (let v = moved m w in v.over) (let l = r.line in l.body) r.answers }
 
   pub turns_owe : (ts : List Turn) (e : Event) → has_own e ≡ true → Owes e (all_turned ts (format hd))
   turns_owe ts e own = owes_of (all_turned ts (format hd)) (turn_nodes ts) e own

@@ -4,9 +4,10 @@ use Rattle.std.specs.List.{AllByRecursion}
 use Rattle.arj_protocol.specs.Words.{Event, FrameNo, Header, Line}
 use Rattle.arj_protocol.specs.Words.body
 use Rattle.arj_protocol.specs.Words.event
-use Rattle.arj_protocol.specs.World.{Asked, Frame, World, format, frame_number, is_frame, is_node, run_all, run_event}
+use Rattle.arj_protocol.specs.World.{Frame, World, format, frame_number, is_frame, is_node}
 use Rattle.arj_event_law.specs.Writes.{Owes, Writes, has_own}
 use Rattle.arj_journal.specs.ScriptForm.{HeaderInForm}
+use Rattle.arj_view_law.specs.Moves.{Move, moved, world_by}
 use Rattle.arj_world.specs.Turns.{Turn, all_turned, turned}
 
 -- each frame is for a node of the world
@@ -27,22 +28,22 @@ pub record Delivers (e : Event) (k : FrameNo) (w : World) : Type 0 where
   pub frame : is_frame k w ≡ true
   pub running : w.over ≡ false
 
--- In each world that a run of events leaves, a delivery is said to be taken.
+-- In each world that a run of events leaves, whatever stops fall, a delivery is said to be taken.
 abbrev pub RunsTake : Type 0
-RunsTake = (hd : Header) → HeaderInForm hd → (es : List Asked) (e : Asked) (k : FrameNo) → (let w = run_all es (format hd) in Delivers e.event k w → IsTaken (frame_number k w) w (run_event e w))
+RunsTake = (hd : Header) → HeaderInForm hd → (ms : List Move) (m : Move) (k : FrameNo) → (let w = world_by hd ms in Delivers m.asked.event k w → IsTaken (frame_number k w) w (moved m w))
 
--- and so it is in each that a run leaves with the stops that disks make
+-- and so it is in each that turns of nodes leave, with the stops that disks make
 abbrev pub TurnsTake : Type 0
 TurnsTake = (hd : Header) → HeaderInForm hd → (ts : List Turn) (t : Turn) (k : FrameNo) → (let w = all_turned ts (format hd) in Delivers t.event k w → IsTaken (frame_number k w) w (turned t w))
 
 -- each event of a kind with a line of its own writes it, or why it didn't
 abbrev pub RunsWriteTheirLines : Type 0
-RunsWriteTheirLines = (hd : Header) → HeaderInForm hd → (es : List Asked) (e : Asked) → has_own e.event ≡ true → (let w = run_all es (format hd) in w.over ≡ false → Writes e.event w (run_event e w))
+RunsWriteTheirLines = (hd : Header) → HeaderInForm hd → (ms : List Move) (m : Move) → has_own m.asked.event ≡ true → (let w = world_by hd ms in w.over ≡ false → Writes m.asked.event w (moved m w))
 
--- and it owes that line whatever stops fell where
+-- and it owes that line whatever stops fell where in turns of nodes
 abbrev pub TurnsOweTheirLines : Type 0
 TurnsOweTheirLines = (hd : Header) → HeaderInForm hd → (ts : List Turn) (e : Event) → has_own e ≡ true → Owes e (all_turned ts (format hd))
 
--- in such a run each frame is for a node
+-- in which each frame is for a node
 abbrev pub TurnsGoToNodes : Type 0
 TurnsGoToNodes = (hd : Header) → HeaderInForm hd → (ts : List Turn) → AreForNodes (all_turned ts (format hd))

@@ -22,7 +22,8 @@ use Rattle.arj_protocol.specs.Words.which
 use Rattle.arj_protocol.specs.Words.event
 use Rattle.arj_protocol.specs.Words.frame_no
 use Rattle.arj_protocol.specs.Words.kind
-use Rattle.arj_protocol.specs.World.{World, Arm, Asked, Frame, Giving, Labelled, armed, gives_label, is_given, is_serial_kind, kind_below, labels_unless, node_of, refused_at, giving, as_delivered, begins, change_frame, count_works, counted, cut, deliver, deliver_frame, disarmed, done_step, format, halted_at, happens, is_node, is_quiet, is_up_at, junk_fits, lacks_labels, limited, lose, lose_frame, lowest, most_frames, no_labels, node_numbers, quiesce, quiet_line, reasons, run_all, run_event, run_unless, says, settle, settle_for, show_all, show_up, step_node, step_with, steps, tick_all, tick_up}
+use Rattle.arj_protocol.specs.World.{World, Arm, Asked, Frame, Giving, Labelled, armed, gives_label, is_given, is_serial_kind, kind_below, labels_unless, node_of, refused_at, giving, as_delivered, begins, change_frame, count_works, counted, cut, deliver, deliver_frame, disarmed, done_step, format, halted_at, happens, is_node, is_quiet, is_up_at, junk_fits, lacks_labels, limited, lose, lose_frame, lowest, most_frames, no_labels, node_numbers, quiesce, quiet_line, reasons, run_event, run_unless, says, settle, settle_for, show_all, show_up, step_node, step_with, steps, tick_all, tick_up}
+use Rattle.arj_view_law.specs.Moves.{Move, all_moved, moved, world_by}
 
 -- ---- a step keeps the node's number
 
@@ -311,9 +312,16 @@ event_whole e w whole = over w.over
     over true = whole
     over false = by (first_reason (reasons e.event w)) refl
 
-run_whole : (es : List Asked) (w : World) → IsWhole w → IsWhole (run_all es w)
-run_whole [] w whole = whole
-run_whole (e ∷ es) w whole = run_whole es (run_event e w) (event_whole e w whole)
+-- which stops are to fall is nothing to it
+pub whole_with : (arms : List (ℕ × Arm)) (w : World) → IsWhole w → IsWhole (record w { arms = arms })
+whole_with arms w whole = record { nodes = whole.nodes; numbers = whole.numbers; labels = whole.labels }
+
+pub move_whole : (m : Move) (w : World) → IsWhole w → IsWhole (moved m w)
+move_whole m w whole = whole_with [] (run_event m.asked (record w { arms = m.falls })) (event_whole m.asked (record w { arms = m.falls }) (whole_with m.falls w whole))
+
+moves_whole : (ms : List Move) (w : World) → IsWhole w → IsWhole (all_moved ms w)
+moves_whole [] w whole = whole
+moves_whole (m ∷ ms) w whole = moves_whole ms (moved m w) (move_whole m w whole)
 
 -- ---- as a run begins
 
@@ -365,5 +373,5 @@ module _ (hd : Header) where
       numbers zero m at = absurd (cc at)
       numbers (suc k) m at = number_at 1 (firsts hd.nodes) k m (firsts_numbered hd.nodes) at ∙ grind arith
 
-pub runs_whole : (hd : Header) (es : List Asked) → IsWhole (run_all es (format hd))
-runs_whole hd es = run_whole es (format hd) (format_whole hd)
+pub runs_whole : (hd : Header) (ms : List Move) → IsWhole (world_by hd ms)
+runs_whole hd ms = moves_whole ms (format hd) (format_whole hd)

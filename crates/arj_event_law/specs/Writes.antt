@@ -9,8 +9,9 @@ use Rattle.arj_protocol.specs.Words.body
 use Rattle.arj_protocol.specs.Words.event
 use Rattle.arj_protocol.specs.Words.frame
 use Rattle.arj_protocol.specs.Words.which
-use Rattle.arj_protocol.specs.World.{Asked, Frame, Giving, Labelled, World, frame_number, format, giving, is_node, kind_below, lacks_labels, most_frames, node_of, reasons, refused_at, run_all, run_event}
+use Rattle.arj_protocol.specs.World.{Asked, Frame, Giving, Labelled, World, frame_number, format, giving, is_node, kind_below, lacks_labels, most_frames, node_of, reasons, refused_at, run_event}
 use Rattle.arj_protocol.specs.Words.kind
+use Rattle.arj_view_law.specs.Moves.{Move, world_by}
 
 -- the world has each node of its header at its number's place, and labels are of actions of these
 pub record IsWhole (w : World) : Type 0 where
@@ -152,6 +153,6 @@ EventsKeepWhole = (e : Asked) (w : World) → IsWhole w → IsWhole (run_event e
 abbrev pub FormatsAreWhole : Type 0
 FormatsAreWhole = (hd : Header) → IsWhole (format hd)
 
--- in every run
+-- in every run, whatever stops fall in it
 abbrev pub RunsAreWhole : Type 0
-RunsAreWhole = (hd : Header) (es : List Asked) → IsWhole (run_all es (format hd))
+RunsAreWhole = (hd : Header) (ms : List Move) → IsWhole (world_by hd ms)

@@ -7,8 +7,8 @@ use Rattle.arj_protocol.specs.Words.{Header}
 use Rattle.arj_protocol.specs.Step.{first_reason}
 use Rattle.arj_protocol.specs.World.{Asked, World, format, journal, reasons, run_all, run_event, run_unless}
 use Rattle.arj_view_law.specs.Keeps.{Holds}
+use Rattle.arj_view_law.specs.Moves.{as_moves, moves_of}
 use Rattle.arj_view_law.proofs.Happens.{runs_asked}
-use Rattle.arj_view_law.specs.Moves.{moves_of}
 use Rattle.arj_view_law.proofs.Moving.{scripts_are_moves}
 use Rattle.arj_call_law.specs.Reached.{IsReached}
 use Rattle.arj_call_law.proofs.Reaching.{scripts_keep}
@@ -21,17 +21,14 @@ use Rattle.arj_joint_law.proofs.CommitCalls.{commits_begin}
 use Rattle.arj_joint_law.proofs.FitRuns.{runs_fit, scripts_in_form}
 use Rattle.arj_joint_law.proofs.RunsInTime.{reached_in_time}
 use Rattle.arj_held_law.proofs.Holding.{runs_hold}
-use Rattle.arj_round_law.specs.Quiet.{AreGivenUp, NobodyWaits}
+use Rattle.arj_round_law.specs.Quiet.{AreGivenUp, IsGiveUp, NobodyWaits}
 use Rattle.arj_round_law.specs.Rounds.{AreUp}
-use Rattle.arj_round_law.proofs.GiveUps.{one_more, runs_on}
 use Rattle.arj_settle_law.specs.Last.{HoldTheLast}
 use Rattle.arj_settle_law.specs.Overtaken.{OnlyOvertakenWait}
 use Rattle.arj_settle_law.specs.Settled.{EndsQuiet, KnowsPrepared}
-use Rattle.arj_settle_law.proofs.Aborting.{runs_show}
-use Rattle.arj_settle_law.proofs.Idle.{quiesces_idle, rounds_idle}
 use Rattle.arj_settle_law.proofs.Last.{idle_files_hold}
 use Rattle.arj_settle_law.proofs.Settled.{handlers_settle}
-use Rattle.arj_settle_law.proofs.Waiting.{runs_leave_overtaken}
+use Rattle.arj_promise_law.proofs.Scripts.{one_more, quiesces_idle, rounds_idle, runs_leave_overtaken, runs_on, runs_show}
 use Rattle.arj_promise_law.specs.Promise.{CalmQuiescesEndAtRest, EndsAtRest, EndsInQuiesce, EndsInRound, HasFiles, IsInForm, KeptAfterEveryEvent, QuiescesLeaveOvertaken, RoundsEndAtRest, RunsKeepThePromise, world_of}
 
 -- ---- the promise
@@ -137,7 +134,7 @@ module _ (hd : Header) (es : List Asked) (f : IsInForm hd es) (r : EndsInRound h
   last_is = end_is hd es (r.between ++ r.giveups) r.second ∙ ap (run_event r.second.last) w_is
 
   quiet_at_end : EndsQuiet (world_of hd es)
-  quiet_at_end = subst EndsQuiet (sym last_is) (rounds_idle hd f.header r.before r.giveups r.first.last r.second.last r.first.quiesces r.give_up r.second.quiesces
+  quiet_at_end = subst EndsQuiet (sym last_is) (rounds_idle hd f.header r.before r.giveups r.first.last r.second.last r.first.quiesces (subst (λ x. AllByRecursion IsGiveUp (as_moves r.giveups x)) v_is r.give_up) r.second.quiesces
       (open_before hd r.between r.before r.first) (open_at_end hd r.between r.before r.first) (up_at_end hd r.between r.before r.first) open_w who open_last (subst AreUp last_is r.second.up))
     where
       open_last : (run_event r.second.last w).over ≡ false
@@ -146,8 +143,8 @@ module _ (hd : Header) (es : List Asked) (f : IsInForm hd es) (r : EndsInRound h
       open_w : w.over ≡ false
       open_w = over_before r.second.last w open_last
 
-      who : AreGivenUp r.giveups v ⊎ NobodyWaits w
-      who = ⊎_elim (λ given. inl (subst (AreGivenUp r.giveups) v_is given)) (λ nobody. inr (subst NobodyWaits w_is nobody)) r.who_waits
+      who : AreGivenUp (as_moves r.giveups v) v ⊎ NobodyWaits w
+      who = ⊎_elim (λ given. inl (subst (λ x. AreGivenUp (as_moves r.giveups x) x) v_is given)) (λ nobody. inr (subst NobodyWaits w_is nobody)) r.who_waits
 
 pub rounds_end : RoundsEndAtRest
 rounds_end hd es f r = at_rest hd es f (quiet_at_end hd es f r)

@@ -7,7 +7,7 @@ use Rattle.arj_model.specs.Last.{first_values}
 use Rattle.arj_protocol.specs.Words.{Header}
 use Rattle.arj_protocol.specs.Words.event
 use Rattle.arj_protocol.specs.World.{Asked, World, format, journal, lowest_from, run_all}
-use Rattle.arj_view_law.specs.Moves.{moves_of}
+use Rattle.arj_view_law.specs.Moves.{as_moves, moves_of}
 use Rattle.arj_view_law.specs.Seen.{see}
 use Rattle.arj_binding_law.specs.Scripts.{most_events}
 use Rattle.arj_serial_law.specs.Seen.{IsSerialBy}
@@ -99,8 +99,8 @@ pub record EndsInRound (hd : Header) (es : List Asked) : Type 0 where
   pub between : List Asked
   pub giveups : List Asked
   pub first : EndsInQuiesce hd between before
-  pub give_up : AllByRecursion IsGiveUp giveups
-  pub who_waits : AreGivenUp giveups (world_of hd between) ⊎ NobodyWaits (world_of hd (between ++ giveups))
+  pub give_up : AllByRecursion IsGiveUp (as_moves giveups (world_of hd between))
+  pub who_waits : AreGivenUp (as_moves giveups (world_of hd between)) (world_of hd between) ⊎ NobodyWaits (world_of hd (between ++ giveups))
   pub second : EndsInQuiesce hd es (between ++ giveups)
 
 -- and so does every run that ends with the stated round

@@ -10,7 +10,8 @@ use Rattle.arj_protocol.specs.Words.which
 use Rattle.arj_protocol.specs.Step as input
 use Rattle.arj_protocol.specs.Step.{Input, first_reason}
 use Rattle.arj_protocol.specs.Tree.{at_place, set_place}
-use Rattle.arj_protocol.specs.World.{Arm, Asked, Frame, Giving, World, as_delivered, as_lost, begins, begins_any, counted, deliver, deliver_frame, format, frame_number, giving, happens, is_quiet, is_up_at, junk_fits, labels_unless, lacks_labels, limited, lose_frame, lowest, most_frames, new_frame, no_labels, node_numbers, node_of, quiesce, quiet_line, reasons, refused_at, run_all, run_event, run_unless, says, settle, settle_for, show_all, show_up, steps, tick_all, tick_up}
+use Rattle.arj_protocol.specs.World.{Arm, Asked, Frame, Giving, World, as_delivered, as_lost, begins, begins_any, counted, deliver, deliver_frame, format, frame_number, giving, happens, is_quiet, is_up_at, junk_fits, labels_unless, lacks_labels, limited, lose_frame, lowest, most_frames, new_frame, no_labels, node_numbers, node_of, quiesce, quiet_line, reasons, refused_at, run_event, run_unless, says, settle, settle_for, show_all, show_up, steps, tick_all, tick_up}
+use Rattle.arj_view_law.specs.Moves.{Move, all_moved, moved, world_by}
 
 abbrev pub Few : World → Type 0
 Few w = length w.frames ≤ most_frames
@@ -117,9 +118,9 @@ unless_few e a w None few = either_few (lacks_labels (giving e w) w) (no_labels 
 events_few : (e : Asked) (w : World) → Few w → Few (run_event e w)
 events_few e w few = either_few w.over w (run_unless e.event e.arm w (first_reason (reasons e.event w))) few (unless_few e.event e.arm w (first_reason (reasons e.event w)) few)
 
-all_few : (es : List Asked) (w : World) → Few w → Few (run_all es w)
+pub all_few : (ms : List Move) (w : World) → Few w → Few (all_moved ms w)
 all_few [] w few = few
-all_few (e ∷ es) w few = all_few es (run_event e w) (events_few e w few)
+all_few (m ∷ ms) w few = all_few ms (moved m w) (events_few m.asked (record w { arms = m.falls }) few)
 
-pub runs_few : (hd : Header) (es : List Asked) → Few (run_all es (format hd))
-runs_few hd es = all_few es (format hd) (omega arith)
+pub runs_few : (hd : Header) (ms : List Move) → Few (world_by hd ms)
+runs_few hd ms = all_few ms (format hd) (omega arith)

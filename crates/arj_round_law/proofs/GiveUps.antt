@@ -4,11 +4,11 @@ use Rattle.std.specs.Prelude.{⊤, ◌&&◌, ◌==◌, nat_le, nat_lt, not, opti
 use Rattle.std.specs.List.{AllByRecursion}
 use Rattle.std.proofs.lemmas.Bool.Decides.{nat_tests}
 use Rattle.arj_coord_law.proofs.CoordUses.{on_cases, some_is}
-use Rattle.arj_coord_law.proofs.RunCoords.{labels_named}
-use Rattle.arj_event_law.specs.Named.{AreNamed, KnowsNames}
+use Rattle.arj_coord_law.proofs.RunCoords.{IsSo, holds_named, keeps_names, names_are_kept}
+use Rattle.arj_event_law.specs.Named.{AreNamed, HasNames, KnowsNames}
 use Rattle.arj_event_law.specs.Writes.{IsWhole}
 use Rattle.arj_event_law.proofs.Settled.{events_settle}
-use Rattle.arj_event_law.proofs.Whole.{runs_whole}
+use Rattle.arj_event_law.proofs.Whole.{move_whole, runs_whole, whole_with}
 use Rattle.arj_protocol.proofs.Maps.{place_other}
 use Rattle.arj_protocol.specs.Words.{Body, Header, Label, Uid, Path, label_cmp}
 use Rattle.arj_protocol.specs.Words.body
@@ -28,19 +28,20 @@ use Rattle.arj_protocol.specs.Step as input
 use Rattle.arj_protocol.specs.Step.{Node, Step, acts, branch_named, first_reason, is_waiting_now, step, step_unless, refusal_at}
 use Rattle.arj_protocol.specs.Tree.{Branch, at_place, root_of, set_place, branch_of, is_own}
 use Rattle.arj_protocol.specs.World as world
-use Rattle.arj_protocol.specs.World.{Arm, Asked, World, armed, count_works, counted, cut, disarmed, done_step, format, frames_with, halted_at, halted_outs, is_given, limited, lowest_from, most_frames, node_of, run_all, run_event, run_unless, says as world_says, sends, step_node, step_with, steps, labelled}
-use Rattle.arj_run_law.proofs.AllRuns.{all_keep}
+use Rattle.arj_protocol.specs.World.{Arm, Asked, World, armed, count_works, counted, cut, disarmed, done_step, format, frames_with, halted_at, halted_outs, is_given, limited, lowest_from, most_frames, node_of, run_event, run_unless, says as world_says, sends, step_node, step_with, steps, labelled}
 use Rattle.arj_run_law.specs.Worlds.{IsGood, IsMemory}
 use Rattle.arj_view_law.specs.Keeps.{Holds, KeepsAsked}
+use Rattle.arj_view_law.specs.Moves.{Move, all_moved, moved, world_by}
 use Rattle.arj_view_law.specs.Seen.{Seen}
-use Rattle.arj_view_law.proofs.Happens.{place_same, runs_asked, runs_hold}
+use Rattle.arj_view_law.proofs.Happens.{keeps_asked, place_same}
+use Rattle.arj_view_law.proofs.Moving.{more_moves, move_asked, moves_asked, moves_go_on}
 use Rattle.arj_event_law.proofs.Spoken.{given_node}
 use Rattle.arj_round_law.specs.Quiet.{AreQuiet, IsGiveUp, NobodyWaits, RoundsSettle, SettlesAll, AreGivenUp, AreIdle, GivesUp}
 use Rattle.arj_round_law.specs.Rounds.{AnswersWaits, AreUp, WaitOvertaken}
 use Rattle.arj_round_law.specs.Waits.{IsToSettle, coord_in, coord_of}
-use Rattle.arj_round_law.proofs.Fits.{Few, runs_few}
-use Rattle.arj_round_law.proofs.Quiesces.{keeps_good, run_answers}
-use Rattle.arj_round_law.proofs.Quiets.{quiesce_settles}
+use Rattle.arj_round_law.proofs.Fits.{Few, all_few, runs_few}
+use Rattle.arj_round_law.proofs.Quiesces.{keeps_good, move_answers}
+use Rattle.arj_round_law.proofs.Quiets.{move_settles}
 use Rattle.arj_round_law.proofs.Worlds.{Of}
 use Rattle.std.specs.Map.{lookup}
 use Rattle.std.specs.BTreeMap.{is_at}
@@ -398,22 +399,22 @@ giveup_goes hd e l w is whole header over calm sound = subst (λ b. HasGivenUp h
 calm_goes : (hd : Header) (l : Label) (w v : World) → HasGivenUp hd l w v → IsCalm hd w → IsCalm hd v
 calm_goes hd l w v g calm = record { none = g.none; only = λ k e of is u q found waits. let c = g.coords k e of is in calm.only k c.0 of c.1 u q (c.3 u q found waits).0 waits }
 
--- who waits is given up by an event that is still to come
-given_goes : (hd : Header) (e : Asked) (gs : List Asked) (l : Label) (w v : World) → e.event ≡ event.GiveUp l → w.header ≡ hd → v.header ≡ hd → HasGivenUp hd l w v → AreGivenUp (e ∷ gs) w → AreGivenUp gs v
-given_goes hd e gs l w v is old_header new_header g all k c u q of at found waits =
+-- who waits is given up by a move that is still to come
+given_goes : (hd : Header) (m : Move) (gs : List Move) (l : Label) (w v : World) → m.asked.event ≡ event.GiveUp l → w.header ≡ hd → v.header ≡ hd → HasGivenUp hd l w v → AreGivenUp (m ∷ gs) w → AreGivenUp gs v
+given_goes hd m gs l w v is old_header new_header g all k c u q of at found waits =
     let of_hd = subst (λ (x : Header). (nat_le 1 k && nat_le k x.nodes) ≡ true) new_header of in
     let b = g.coords k c of_hd at in
     let o = b.3 u q found waits in
     let i = all k b.0 u q (subst (λ (x : Header). (nat_le 1 k && nat_le k x.nodes) ≡ true) (sym old_header) of_hd) b.1 o.0 waits in
-    by b.0 b.2 i.0 i.2 o.1 (in_from i.0 (e ∷ gs) i.1)
+    by b.0 b.2 i.0 i.2 o.1 (in_from i.0 (m ∷ gs) i.1)
   where
-    this : (l m : Label) → event.GiveUp l ≡ event.GiveUp m → l ≡ m
-    this l m same = cc same
+    this : (l j : Label) → event.GiveUp l ≡ event.GiveUp j → l ≡ j
+    this l j same = cc same
 
-    by : (b : Coord) → c.labels ≡ b.labels → (f : Asked) → GivesUp w k b u f → (node_of l w ≡ k → number_of l b ≡ Some u.num → ⊥) → In f (e ∷ gs) → (f : Asked) × Contains gs f × GivesUp v k c u f
+    by : (b : Coord) → c.labels ≡ b.labels → (f : Move) → GivesUp w k b u f → (node_of l w ≡ k → number_of l b ≡ Some u.num → ⊥) → In f (m ∷ gs) → (f : Move) × Contains gs f × GivesUp v k c u f
     by b labels f up ended (inl same) =
-        let one : up.label ≡ l = this up.label l (sym up.is ∙ ap (λ (x : Asked). x.event) (sym same) ∙ is) in
-        absurd (ended (ap (λ m. node_of m w) (sym one) ∙ up.node) (ap (λ m. number_of m b) (sym one) ∙ up.number))
+        let one : up.label ≡ l = this up.label l (sym up.is ∙ ap (λ (x : Move). x.asked.event) (sym same) ∙ is) in
+        absurd (ended (ap (λ j. node_of j w) (sym one) ∙ up.node) (ap (λ j. number_of j b) (sym one) ∙ up.number))
     by b labels f up ended (inr there) = (
       f,
       in_to f gs there,
@@ -425,75 +426,86 @@ given_goes hd e gs l w v is old_header new_header g all k c u q of at found wait
       },
     )
 
--- ---- the stated round
+-- ---- moves
 
-pub runs_on : (es gs : List Asked) (w : World) → run_all (es ++ gs) w ≡ run_all gs (run_all es w)
-runs_on [] gs w = refl
-runs_on (e ∷ es) gs w = runs_on es gs (run_event e w)
-
-pub one_more : (hd : Header) (es : List Asked) (e : Asked) → run_all (es ++ e ∷ []) (format hd) ≡ run_event e (run_all es (format hd))
-one_more hd es e = runs_on es (e ∷ []) (format hd)
+-- a move more at the end
+pub one_more : (hd : Header) (ms : List Move) (m : Move) → world_by hd (ms ++ m ∷ []) ≡ moved m (world_by hd ms)
+one_more hd ms m = more_moves ms (m ∷ []) (format hd)
 
 -- once over, nothing changes
-stays_over : (gs : List Asked) (w : World) → (run_all gs w).over ≡ false → w.over ≡ false
-stays_over gs w last = by w.over refl
+pub over_before : (m : Move) (w : World) → (moved m w).over ≡ false → w.over ≡ false
+over_before m w last = by w.over refl
   where
-    halts : (gs : List Asked) (w : World) → w.over ≡ true → run_all gs w ≡ w
-    halts [] w over = refl
-    halts (g ∷ gs) w over =
-        let same : run_event g w ≡ w = λ i. if over i then w else run_unless g.event g.arm w (first_reason (world.reasons g.event w)) in
-        ap (run_all gs) same ∙ halts gs w over
+    v : World
+    v = record w { arms = m.falls }
 
     by : (b : Bool) → w.over ≡ b → w.over ≡ false
-    by true over = let no_way : true ≡ false = sym over ∙ ap (λ (x : World). x.over) (sym (halts gs w over)) ∙ last in absurd (cc no_way)
-    by false over = over
+    by false is = is
+    by true is = sym (λ i. (if is i then v else run_unless m.asked.event m.asked.arm v (first_reason (world.reasons m.asked.event v))).over) ∙ last
 
--- nodes of a run are good, and its coordinators know their labels
-runs_sound : (hd : Header) (es : List Asked) → AreSound hd (run_all es (format hd))
-runs_sound hd es k c of is = by (at_place k (run_all es (format hd)).nodes) refl is
+pub over_front : (ms : List Move) (w : World) → (all_moved ms w).over ≡ false → w.over ≡ false
+over_front [] w last = last
+over_front (m ∷ ms) w last = over_before m w (over_front ms (moved m w) last)
+
+-- what is known of each run's world: it has its nodes, which are good, and its coordinators know their labels
+record IsInRun (hd : Header) (w : World) : Type 0 where
+  whole : IsWhole w
+  named : Holds hd (IsSo HasNames names_are_kept) w
+
+names_asked : (hd : Header) → KeepsAsked hd (IsSo HasNames names_are_kept)
+names_asked hd = keeps_asked hd (IsSo HasNames names_are_kept) (keeps_names hd)
+
+in_run : (hd : Header) (ms : List Move) → IsInRun hd (world_by hd ms)
+in_run hd ms = record { whole = runs_whole hd ms; named = moves_asked hd (IsSo HasNames names_are_kept) (names_asked hd) ms }
+
+run_goes : (hd : Header) (m : Move) (w : World) → IsInRun hd w → IsInRun hd (moved m w)
+run_goes hd m w r = record { whole = move_whole m w r.whole; named = move_asked hd (IsSo HasNames names_are_kept) (names_asked hd) m w r.named }
+
+run_header : (hd : Header) (w : World) → IsInRun hd w → w.header ≡ hd
+run_header hd w r = let h = r.named in h.stands.header
+
+run_sound : (hd : Header) (w : World) → IsInRun hd w → AreSound hd w
+run_sound hd w r k c of is = by (at_place k w.nodes) refl is
   where
-    w : World
-    w = run_all es (format hd)
-
-    held : Holds hd IsGood (run_all es (format hd))
-    held = runs_hold hd IsGood (all_keep hd) es
-
     up : (n : Node) → at_place k w.nodes ≡ Some n → (o : Option Parts) → n.live ≡ o → option_map coord_of o ≡ Some c → IsSoundAt c
     up n there None live at = absurd (cc at)
     up n there (Some t) live at =
-        let good = held.holds in
+        let h = r.named in
+        let all = h.holds in
+        let good = all.0 in
         let place = (let g = good.1 in g.places k n there) in
         let begun = (let g = good.1 in g.begun) in
-        let memory = subst (IsMemory good.0 held.sent w.labels k n.disk.inc) live place.memory in
+        let memory = subst (IsMemory good.0 h.sent w.labels k n.disk.inc) live place.memory in
         let good_node = memory.good (paths_of good.0) (begun_tree good.0 begun) (path_found good.0 begun) in
-        subst IsSoundAt (some_is t.coord c at) (labels_named hd es k n t there live, let g = good_node.coord in g.busy)
+        subst IsSoundAt (some_is t.coord c at) (holds_named hd w h k n t there live, let g = good_node.coord in g.busy)
 
     by : (o : Option Node) → at_place k w.nodes ≡ o → coord_in o ≡ Some c → IsSoundAt c
     by None none at = absurd (cc at)
     by (Some n) there at = up n there n.live refl at
 
-run_header : (hd : Header) (es : List Asked) → (run_all es (format hd)).header ≡ hd
-run_header hd es = let h = runs_hold hd IsGood (all_keep hd) es in h.stands.header
+-- a giveup in which stops may fall
+move_goes : (hd : Header) (m : Move) (l : Label) (w : World) → m.asked.event ≡ event.GiveUp l → IsInRun hd w → w.over ≡ false → IsCalm hd w → HasGivenUp hd l w (moved m w)
+move_goes hd m l w is r over calm = record { none = goes.none; labels = goes.labels; coords = goes.coords }
+  where
+    goes : HasGivenUp hd l (record w { arms = m.falls }) (run_event m.asked (record w { arms = m.falls }))
+    goes = giveup_goes hd m.asked l (record w { arms = m.falls }) is (whole_with m.falls w r.whole) (run_header hd w r) over (record { none = calm.none; only = calm.only }) (run_sound hd w r)
 
 -- giveups leave a world calm, in which who waits is given up by none of them
-abbrev AllEnd : Header → List Asked → World → Type 0
-AllEnd hd gs w = IsCalm hd w → (run_all gs w).over ≡ false → IsCalm hd (run_all gs w) × (AreGivenUp gs w → AreGivenUp [] (run_all gs w))
+abbrev AllEnd : Header → List Move → World → Type 0
+AllEnd hd gs w = IsCalm hd w → (all_moved gs w).over ≡ false → IsCalm hd (all_moved gs w) × (AreGivenUp gs w → AreGivenUp [] (all_moved gs w))
 
-one_ends : (hd : Header) (g : Asked) (gs es : List Asked) → IsGiveUp g → AllEnd hd gs (run_all (es ++ g ∷ []) (format hd)) → AllEnd hd (g ∷ gs) (run_all es (format hd))
-one_ends hd g gs es (l, is) rest calm last = (later.0, λ given. later.1 (given_goes hd g gs l (run_all es (format hd)) (run_event g (run_all es (format hd))) is (run_header hd es) (subst (λ (x : World). x.header ≡ hd) next (run_header hd (es ++ g ∷ []))) goes given))
+one_ends : (hd : Header) (g : Move) (gs : List Move) (w : World) → IsInRun hd w → IsGiveUp g → AllEnd hd gs (moved g w) → AllEnd hd (g ∷ gs) w
+one_ends hd g gs w r (l, is) rest calm last = (later.0, λ given. later.1 (given_goes hd g gs l w (moved g w) is (run_header hd w r) (run_header hd (moved g w) (run_goes hd g w r)) goes given))
   where
-    next : run_all (es ++ g ∷ []) (format hd) ≡ run_event g (run_all es (format hd))
-    next = one_more hd es g
+    goes : HasGivenUp hd l w (moved g w)
+    goes = move_goes hd g l w is r (over_front (g ∷ gs) w last) calm
 
-    goes : HasGivenUp hd l (run_all es (format hd)) (run_event g (run_all es (format hd)))
-    goes = giveup_goes hd g l (run_all es (format hd)) is (runs_whole hd es) (run_header hd es) (stays_over (g ∷ gs) (run_all es (format hd)) last) calm (runs_sound hd es)
+    later : IsCalm hd (all_moved gs (moved g w)) × (AreGivenUp gs (moved g w) → AreGivenUp [] (all_moved gs (moved g w)))
+    later = rest (calm_goes hd l w (moved g w) goes calm) last
 
-    later : IsCalm hd (run_all gs (run_event g (run_all es (format hd)))) × (AreGivenUp gs (run_event g (run_all es (format hd))) → AreGivenUp [] (run_all gs (run_event g (run_all es (format hd)))))
-    later = subst (AllEnd hd gs) next rest (calm_goes hd l (run_all es (format hd)) (run_event g (run_all es (format hd))) goes calm) last
-
-giveups_end : (hd : Header) (gs es : List Asked) → AllByRecursion IsGiveUp gs → AllEnd hd gs (run_all es (format hd))
-giveups_end hd [] es all = λ calm last. (calm, λ given. given)
-giveups_end hd (g ∷ gs) es all = one_ends hd g gs es all.0 (giveups_end hd gs (es ++ g ∷ []) all.1)
+giveups_end : (hd : Header) (gs : List Move) (w : World) → IsInRun hd w → AllByRecursion IsGiveUp gs → AllEnd hd gs w
+giveups_end hd [] w r all = λ calm last. (calm, λ given. given)
+giveups_end hd (g ∷ gs) w r all = one_ends hd g gs w r all.0 (giveups_end hd gs (moved g w) (run_goes hd g w r) all.1)
 
 -- where nobody waits all actions at work are idle
 nobody_idle : (c : Coord) → ((u : Uid) (q : Doing) → doing_of u c ≡ Some q → is_waiting_now q.now ≡ true → ⊥) → AreIdle c
@@ -515,7 +527,7 @@ nobody_idle c none = each c.doings (λ i q at. by q.now refl (none (uid_at (suc 
 pub nobody_waits : (w : World) → AreGivenUp [] w → NobodyWaits w
 nobody_waits w none k c of at = nobody_idle c (λ u q found waits. let g = none k c u q of at found waits in nothing g.0 g.1)
   where
-    nothing : (f : Asked) → Contains {X = Asked} [] f → ⊥
+    nothing : (f : Move) → Contains {X = Move} [] f → ⊥
     nothing f there = in_from f [] there
 
 -- who waits behind a quiesce is such a call, since a commit waits for somebody
@@ -542,38 +554,51 @@ module _ (hd : Header) (R : Seen → Type 0) (keeps : KeepsAsked hd R) (answers 
   abbrev P : Seen → Type 0
   P M = R M × IsGood M
 
-  module _ (es gs : List Asked) (e f : Asked) where
-    abbrev u : World
-    u = run_all es (format hd)
-
+  -- from this world on
+  module _ (u : World) (gs : List Move) (m n : Move) (r : IsInRun hd u) (held : Holds hd P u) (few : Few u) where
     abbrev v : World
-    v = run_event e (run_all es (format hd))
+    v = moved m u
 
     abbrev w : World
-    w = run_all gs (run_event e (run_all es (format hd)))
+    w = all_moved gs (moved m u)
 
-    v_is : run_all (es ++ e ∷ []) (format hd) ≡ run_event e (run_all es (format hd))
-    v_is = one_more hd es e
+    held_v : Holds hd P (moved m u)
+    held_v = move_asked hd P (keeps_good hd R keeps) m u held
 
-    w_is : run_all ((es ++ e ∷ []) ++ gs) (format hd) ≡ run_all gs (run_event e (run_all es (format hd)))
-    w_is = runs_on (es ++ e ∷ []) gs (format hd) ∙ ap (run_all gs) v_is
+    few_v : Few (moved m u)
+    few_v = all_few (m ∷ []) u few
 
-    module _ (is : e.event ≡ event.Quiesce) (all : AllByRecursion IsGiveUp gs) (over : u.over ≡ false) (went : v.over ≡ false) (ups : AreUp v) (over_w : w.over ≡ false) where
-      first : IsCalm hd (run_event e (run_all es (format hd)))
-      first = answered_calm hd (run_event e (run_all es (format hd))) (subst (λ (x : World). x.header ≡ hd) v_is (run_header hd (es ++ e ∷ []))) (subst AreNamed v_is (labels_named hd (es ++ e ∷ []))) (events_settle e (run_all es (format hd)) (inr is) (runs_few hd es) over went)
-          (run_answers hd R keeps answers es e is over went ups)
+    named : AreNamed (moved m u)
+    named = holds_named hd (moved m u) (let z = run_goes hd m u r in z.named)
 
-      ends : IsCalm hd (run_all gs (run_event e (run_all es (format hd)))) × (AreGivenUp gs (run_event e (run_all es (format hd))) → AreGivenUp [] (run_all gs (run_event e (run_all es (format hd)))))
-      ends = subst (λ x. IsCalm hd (run_all gs x) × (AreGivenUp gs x → AreGivenUp [] (run_all gs x))) v_is (giveups_end hd gs (es ++ e ∷ []) all (subst (IsCalm hd) (sym v_is) first) (subst (λ (x : World). (run_all gs x).over ≡ false) (sym v_is) over_w))
+    module _ (is : m.asked.event ≡ event.Quiesce) (all : AllByRecursion IsGiveUp gs) (over : u.over ≡ false) (went : v.over ≡ false) (ups : AreUp v) (over_w : w.over ≡ false) where
+      first : IsCalm hd (moved m u)
+      first = answered_calm hd (moved m u) (run_header hd (moved m u) (run_goes hd m u r)) named (events_settle m.asked (record u { arms = m.falls }) (inr is) few over went) (move_answers hd R keeps answers m u held few is over went ups)
 
-      settles_on : f.event ≡ event.Quiesce → NobodyWaits w → (run_event f w).over ≡ false → AreUp (run_event f w) → AreQuiet (run_event f w)
-      settles_on last nobody over_f ups_f =
-          quiesce_settles hd R keeps settles f w (subst (Holds hd P) w_is (runs_asked hd P (keeps_good hd R keeps) ((es ++ e ∷ []) ++ gs))) (subst Few w_is (runs_few hd ((es ++ e ∷ []) ++ gs))) ends.0.none nobody last over_w over_f ups_f
+      ends : IsCalm hd (all_moved gs (moved m u)) × (AreGivenUp gs (moved m u) → AreGivenUp [] (all_moved gs (moved m u)))
+      ends = giveups_end hd gs (moved m u) (run_goes hd m u r) all first over_w
 
-  pub round_settles : (es gs : List Asked) (e f : Asked) → let u = run_all es (format hd) in let v = run_event e u in let w = run_all gs v in e.event ≡ event.Quiesce → AllByRecursion IsGiveUp gs → f.event ≡ event.Quiesce
-      → u.over ≡ false → v.over ≡ false → AreUp v → w.over ≡ false → AreGivenUp gs v ⊎ NobodyWaits w → (run_event f w).over ≡ false → AreUp (run_event f w) → AreQuiet (run_event f w)
-  round_settles es gs e f is all last over went ups over_w nobody over_f ups_f =
-      settles_on es gs e f is all over went ups over_w last (⊎_elim (λ given. nobody_waits (w es gs e f) ((ends es gs e f is all over went ups over_w).1 given)) (λ none. none) nobody) over_f ups_f
+      settles_on : n.asked.event ≡ event.Quiesce → NobodyWaits w → (moved n w).over ≡ false → AreUp (moved n w) → AreQuiet (moved n w)
+      settles_on last nobody over_n ups_n = move_settles hd R keeps settles n w (moves_go_on hd P (keeps_good hd R keeps) gs (moved m u) held_v) (all_few gs (moved m u) few_v) ends.0.none nobody last over_w over_n ups_n
+
+  pub round_settles : (ms gs : List Move) (m n : Move) → let u = world_by hd ms in let v = moved m u in let w = all_moved gs v in m.asked.event ≡ event.Quiesce → AllByRecursion IsGiveUp gs → n.asked.event ≡ event.Quiesce
+      → u.over ≡ false → v.over ≡ false → AreUp v → w.over ≡ false → AreGivenUp gs v ⊎ NobodyWaits w → (moved n w).over ≡ false → AreUp (moved n w) → AreQuiet (moved n w)
+  round_settles ms gs m n is all last over went ups over_w nobody over_n ups_n = settles_on u gs m n r held few is all over went ups over_w last (⊎_elim (λ given. nobody_waits (all_moved gs (moved m u)) (done.1 given)) (λ none. none) nobody) over_n ups_n
+    where
+      u : World
+      u = world_by hd ms
+
+      r : IsInRun hd (world_by hd ms)
+      r = in_run hd ms
+
+      held : Holds hd P (world_by hd ms)
+      held = moves_asked hd P (keeps_good hd R keeps) ms
+
+      few : Few (world_by hd ms)
+      few = runs_few hd ms
+
+      done : IsCalm hd (all_moved gs (moved m (world_by hd ms))) × (AreGivenUp gs (moved m (world_by hd ms)) → AreGivenUp [] (all_moved gs (moved m (world_by hd ms))))
+      done = ends (world_by hd ms) gs m n r held few is all over went ups over_w
 
 pub rounds_settle : RoundsSettle
-rounds_settle hd test keeps answers settles es gs e f is all last over went ups over_w nobody over_f ups_f = round_settles hd (λ M. test M ≡ true) keeps answers settles es gs e f is all last over went ups over_w nobody over_f ups_f
+rounds_settle hd test keeps answers settles ms gs m n is all last over went ups over_w nobody over_n ups_n = round_settles hd (λ M. test M ≡ true) keeps answers settles ms gs m n is all last over went ups over_w nobody over_n ups_n

@@ -22,13 +22,15 @@ use Rattle.arj_protocol.specs.Node.{Handled, Parts, Took, Void, holders, query_a
 use Rattle.arj_protocol.specs.Order.{has}
 use Rattle.arj_protocol.specs.Step.{Node, acts, is_waiting_now, parent_of, parts_in, restart_outs, tolds_again}
 use Rattle.arj_protocol.specs.Tree.{at_place, ends_of, is_own, root_of}
-use Rattle.arj_protocol.specs.World.{Asked, World, format, is_serial_kind, lowest_from, most_frames, numbered, run_all, run_event, says}
+use Rattle.arj_protocol.specs.World.{Asked, World, is_serial_kind, lowest_from, most_frames, numbered, run_event, says}
 use Rattle.arj_run_law.proofs.AllRuns.{all_keep}
 use Rattle.arj_run_law.specs.Worlds.{IsGood, IsGoodPlace}
 use Rattle.arj_view_law.specs.Keeps.{Holds, KeepsAsked}
+use Rattle.arj_view_law.specs.Moves.{Move, moved, world_by}
 use Rattle.arj_view_law.specs.Seen.{In, Post, Seen, given, up}
 use Rattle.arj_view_law.specs.Walks.{Up}
-use Rattle.arj_view_law.proofs.Happens.{keeps_asked, runs_asked}
+use Rattle.arj_view_law.proofs.Happens.{arms_hold, keeps_asked}
+use Rattle.arj_view_law.proofs.Moving.{moves_asked}
 use Rattle.arj_view_law.proofs.Together.{walks_both}
 use Rattle.arj_round_law.specs.Rounds.{AnswersWaits, AreUp, QuiescesAnswer, RunsAnswer, WaitOvertaken}
 use Rattle.arj_round_law.specs.Waits.{AreBrought, Asking, HasWay, IsOvertaken, IsSaid, Want, coord_in, want_of_call, want_of_commit}
@@ -242,11 +244,15 @@ module _ (hd : Header) (R : Seen → Type 0) (keeps : KeepsAsked hd R) (gives : 
       homes : (k : ℕ) (d : Disk) (t : Parts) (M : Seen) → R (up k d t M) × IsGood (up k d t M) → IsHome t.coord
       homes k d t M p = good_home k d t M p.1
 
-  pub run_answers : (es : List Asked) (e : Asked) → let w = run_all es (format hd) in e.event ≡ event.Quiesce → w.over ≡ false → (run_event e w).over ≡ false → AreUp (run_event e w) → WaitOvertaken (run_event e w)
-  run_answers es e is over last ups = quiesce_answers e (run_all es (format hd)) (runs_asked hd P (keeps_good hd R keeps) es) (runs_few hd es) is over last ups
+  -- whatever stops fall in it
+  pub move_answers : (m : Move) (w : World) → Holds hd P w → length w.frames ≤ most_frames → m.asked.event ≡ event.Quiesce → w.over ≡ false → (moved m w).over ≡ false → AreUp (moved m w) → WaitOvertaken (moved m w)
+  move_answers m w h few is over last ups = quiesce_answers m.asked (record w { arms = m.falls }) (arms_hold hd P m.falls w h) few is over last ups
+
+  pub run_answers : (ms : List Move) (m : Move) → let w = world_by hd ms in m.asked.event ≡ event.Quiesce → w.over ≡ false → (moved m w).over ≡ false → AreUp (moved m w) → WaitOvertaken (moved m w)
+  run_answers ms m is over last ups = move_answers m (world_by hd ms) (moves_asked hd P (keeps_good hd R keeps) ms) (runs_few hd ms) is over last ups
 
 pub quiesces_answer : QuiescesAnswer
 quiesces_answer hd test keeps gives e w h few is over last ups = quiesce_answers hd (λ M. test M ≡ true) keeps gives e w h few is over last ups
 
 pub runs_answer : RunsAnswer
-runs_answer hd test keeps gives es e is over last ups = run_answers hd (λ M. test M ≡ true) keeps gives es e is over last ups
+runs_answer hd test keeps gives ms m is over last ups = run_answers hd (λ M. test M ≡ true) keeps gives ms m is over last ups

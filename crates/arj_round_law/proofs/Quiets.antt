@@ -30,7 +30,9 @@ use Rattle.arj_protocol.specs.World as world
 use Rattle.arj_protocol.specs.World.{World, lowest_from, most_frames, run_event}
 use Rattle.arj_run_law.specs.Worlds.{IsGood}
 use Rattle.arj_view_law.specs.Keeps.{Holds, KeepsAsked}
+use Rattle.arj_view_law.specs.Moves.{Move, moved}
 use Rattle.arj_view_law.specs.Seen.{In, Post, Seen, see, up}
+use Rattle.arj_view_law.proofs.Happens.{arms_hold}
 use Rattle.arj_round_law.specs.Quiet.{Acking, AreIdle, AreKept, AreQuiet, AreSettling, BringsAck, BringsEnd, Ending, IsPrepared, NobodyWaits, Querying, QuiescesSettle, SettlesAll, Telling, TellsCommit, TellsLast}
 use Rattle.arj_round_law.specs.Rounds.{AreUp}
 use Rattle.arj_round_law.specs.Waits.{IsSaid, coord_in}
@@ -642,6 +644,10 @@ module _ (hd : Header) (R : Seen → Type 0) (keeps : KeepsAsked hd R) (gives : 
         acks = λ k a t u i j there. absurd there;
         ends = λ k a u there. absurd there;
       }
+
+  -- whatever stops fall in it
+  pub move_settles : (m : Move) (w : World) → Holds hd P w → length w.frames ≤ most_frames → lowest_from 1 w.frames ≡ None → NobodyWaits w → m.asked.event ≡ event.Quiesce → w.over ≡ false → (moved m w).over ≡ false → AreUp (moved m w) → AreQuiet (moved m w)
+  move_settles m w h few none nobody is over last ups = quiesce_settles m.asked (record w { arms = m.falls }) (arms_hold hd P m.falls w h) few none nobody is over last ups
 
 pub quiesces_settle : QuiescesSettle
 quiesces_settle hd test keeps gives e w h few none nobody is over last ups = quiesce_settles hd (λ M. test M ≡ true) keeps gives e w h few none nobody is over last ups

@@ -13,11 +13,12 @@ use Rattle.arj_protocol.specs.Node.{Parts}
 use Rattle.arj_protocol.specs.Order.{at_uid, has}
 use Rattle.arj_protocol.specs.Step.{Node, is_idle, is_waiting_now}
 use Rattle.arj_protocol.specs.Tree.{at_place, is_open}
-use Rattle.arj_protocol.specs.World.{Asked, World, format, is_node, lowest_from, most_frames, run_all, run_event, node_of}
+use Rattle.arj_protocol.specs.World.{Asked, World, is_node, lowest_from, most_frames, run_event, node_of}
 use Rattle.arj_part_law.specs.Coords.{IsCommitting}
 use Rattle.arj_part_law.specs.Objects.{AreSorted}
 use Rattle.arj_run_law.specs.Worlds.{IsGood}
 use Rattle.arj_view_law.specs.Keeps.{Holds, KeepsAsked}
+use Rattle.arj_view_law.specs.Moves.{Move, all_moved, moved, world_by}
 use Rattle.arj_view_law.specs.Seen.{In, Post, Seen, up}
 use Rattle.arj_round_law.specs.Rounds.{AnswersWaits, AreUp}
 use Rattle.arj_round_law.specs.Waits.{coord_in}
@@ -90,7 +91,8 @@ NobodyWaits w = (k : ℕ) (c : Coord) → is_node k w ≡ true → coord_in (at_
 abbrev pub AreQuiet : World → Type 0
 AreQuiet w = (k : ℕ) (a : Node) → is_node k w ≡ true → at_place k w.nodes ≡ Some a → is_idle a ≡ true
 
--- After a quiesce that begins where nobody waits and no frame is open, in which every node stays up and no limit is met, each node is idle.
+-- After a quiesce that begins where nobody waits and no frame is open, in which every node stays up and no limit is met, each node is idle,
+-- whatever stops were to fall in it.
 abbrev pub QuiescesSettle : Type 0
 QuiescesSettle = (hd : Header) (test : Seen → Bool) → KeepsAsked hd (λ M. test M ≡ true) → SettlesAll hd (λ M. (test M ≡ true) × IsGood M)
     → (e : Asked) (w : World) → Holds hd (λ M. (test M ≡ true) × IsGood M) w → length w.frames ≤ most_frames → lowest_from 1 w.frames ≡ None → NobodyWaits w
@@ -99,23 +101,23 @@ QuiescesSettle = (hd : Header) (test : Seen → Bool) → KeepsAsked hd (λ M. t
 -- ---- the stated round
 
 -- the event gives up what an action waits for
-abbrev pub IsGiveUp : Asked → Type 0
-IsGiveUp e = (l : Label) × (e.event ≡ event.GiveUp l)
+abbrev pub IsGiveUp : Move → Type 0
+IsGiveUp m = (l : Label) × (m.asked.event ≡ event.GiveUp l)
 
 -- the event gives up what this action of the node's coordinator waits for: its label stands for the action there
-pub record GivesUp (w : World) (k : ℕ) (c : Coord) (u : Uid) (e : Asked) : Type 0 where
+pub record GivesUp (w : World) (k : ℕ) (c : Coord) (u : Uid) (m : Move) : Type 0 where
   pub label : Label
-  pub is : e.event ≡ event.GiveUp label
+  pub is : m.asked.event ≡ event.GiveUp label
   pub node : node_of label w ≡ k
   pub number : number_of label c ≡ Some u.num
 
 -- each action that waits at a node of the header is given up by one of these events
-abbrev pub AreGivenUp : List Asked → World → Type 0
-AreGivenUp gs w = (k : ℕ) (c : Coord) (u : Uid) (q : Doing) → is_node k w ≡ true → coord_in (at_place k w.nodes) ≡ Some c → doing_of u c ≡ Some q → is_waiting_now q.now ≡ true → (e : Asked) × Contains gs e × GivesUp w k c u e
+abbrev pub AreGivenUp : List Move → World → Type 0
+AreGivenUp gs w = (k : ℕ) (c : Coord) (u : Uid) (q : Doing) → is_node k w ≡ true → coord_in (at_place k w.nodes) ≡ Some c → doing_of u c ≡ Some q → is_waiting_now q.now ≡ true → (m : Move) × Contains gs m × GivesUp w k c u m
 
--- After a quiesce, giveups of each action that waits then, and a second quiesce, each node is idle: where every node stays up in both, and no
--- limit is met. So it is behind any giveups where nobody waits then.
+-- After a quiesce, giveups of each action that waits then, and a second quiesce, each node is idle: where every node is up at the end of both,
+-- whatever stops fall, and no limit is met. So it is behind any giveups where nobody waits then.
 abbrev pub RoundsSettle : Type 0
 RoundsSettle = (hd : Header) (test : Seen → Bool) → KeepsAsked hd (λ M. test M ≡ true) → AnswersWaits hd (λ M. (test M ≡ true) × IsGood M) → SettlesAll hd (λ M. (test M ≡ true) × IsGood M)
-    → (es gs : List Asked) (e f : Asked) → let u = run_all es (format hd) in let v = run_event e u in let w = run_all gs v in e.event ≡ event.Quiesce → AllByRecursion IsGiveUp gs → f.event ≡ event.Quiesce
-    → u.over ≡ false → v.over ≡ false → AreUp v → w.over ≡ false → AreGivenUp gs v ⊎ NobodyWaits w → (run_event f w).over ≡ false → AreUp (run_event f w) → AreQuiet (run_event f w)
+    → (ms gs : List Move) (m n : Move) → let u = world_by hd ms in let v = moved m u in let w = all_moved gs v in m.asked.event ≡ event.Quiesce → AllByRecursion IsGiveUp gs → n.asked.event ≡ event.Quiesce
+    → u.over ≡ false → v.over ≡ false → AreUp v → w.over ≡ false → AreGivenUp gs v ⊎ NobodyWaits w → (moved n w).over ≡ false → AreUp (moved n w) → AreQuiet (moved n w)

@@ -13,9 +13,10 @@ use Rattle.arj_protocol.specs.Node.{Handled, Parts, Took, Void, reply_is_meant, 
 use Rattle.arj_protocol.specs.Order.{has}
 use Rattle.arj_protocol.specs.Step.{is_waiting_now}
 use Rattle.arj_protocol.specs.Tree.{at_place}
-use Rattle.arj_protocol.specs.World.{Asked, World, format, is_node, is_up_at, most_frames, run_all, run_event}
+use Rattle.arj_protocol.specs.World.{Asked, World, is_node, is_up_at, most_frames, run_event}
 use Rattle.arj_run_law.specs.Worlds.{IsGood}
 use Rattle.arj_view_law.specs.Keeps.{Holds, KeepsAsked}
+use Rattle.arj_view_law.specs.Moves.{Move, moved, world_by}
 use Rattle.arj_view_law.specs.Seen.{In, Post, Seen, up}
 use Rattle.arj_round_law.specs.Waits.{AsksFor, IsOvertaken, IsSaid, Want, coord_in, want_of_call, want_of_commit}
 
@@ -54,12 +55,12 @@ WaitOvertaken w = (k : ℕ) (c : Coord) (u : Uid) (q : Doing) → is_node k w �
     → ((s : Steps) × (q.now ≡ Calling s) × IsOvertaken (IsSaid w.lines) s) ⊎ ((m : Machine) × (q.now ≡ Committing m) × (left_of m ≡ []))
 
 -- After a quiesce in which every node stays up and no limit is met nobody waits but calls that are overtaken, where a relation that is
--- kept gives which requests aren't void. So it is of a world that has no more frames than a run may have, and so in every run.
+-- kept gives which requests aren't void. So it is of a world that has no more frames than a run may have, whatever stops fall in the quiesce.
 abbrev pub QuiescesAnswer : Type 0
 QuiescesAnswer = (hd : Header) (test : Seen → Bool) → KeepsAsked hd (λ M. test M ≡ true) → AnswersWaits hd (λ M. (test M ≡ true) × IsGood M)
     → (e : Asked) (w : World) → Holds hd (λ M. (test M ≡ true) × IsGood M) w → length w.frames ≤ most_frames → e.event ≡ event.Quiesce → w.over ≡ false → (run_event e w).over ≡ false → AreUp (run_event e w) → WaitOvertaken (run_event e w)
 
--- so it is of a quiesce in a run that goes on, at the end of which every node is up
+-- so it is of a quiesce in a run that goes on, whatever stops fall in it, at the end of which every node is up
 abbrev pub RunsAnswer : Type 0
 RunsAnswer = (hd : Header) (test : Seen → Bool) → KeepsAsked hd (λ M. test M ≡ true) → AnswersWaits hd (λ M. (test M ≡ true) × IsGood M)
-    → (es : List Asked) (e : Asked) → let w = run_all es (format hd) in e.event ≡ event.Quiesce → w.over ≡ false → (run_event e w).over ≡ false → AreUp (run_event e w) → WaitOvertaken (run_event e w)
+    → (ms : List Move) (m : Move) → let w = world_by hd ms in m.asked.event ≡ event.Quiesce → w.over ≡ false → (moved m w).over ≡ false → AreUp (moved m w) → WaitOvertaken (moved m w)

@@ -15,9 +15,11 @@ use Rattle.arj_journal.specs.declared.body.Role.TheVariants as role
 use Rattle.arj_lock.proofs.Members.{In, in_to}
 use Rattle.arj_model.specs.Actions.{Act, acts, committed, is_committed, recovered}
 use Rattle.arj_journal.specs.declared.header.Header.{Header}
-use Rattle.arj_protocol.specs.World.{Asked, World, format, run_all}
+use Rattle.arj_protocol.specs.World.{World}
 use Rattle.arj_view_law.specs.Keeps.{Holds}
-use Rattle.arj_view_law.proofs.Happens.{runs_hold}
+use Rattle.arj_view_law.specs.Moves.{Move, world_by}
+use Rattle.arj_view_law.proofs.Happens.{keeps_asked}
+use Rattle.arj_view_law.proofs.Moving.{moves_asked}
 use Rattle.arj_line_law.specs.Book.{book, is_decided, new_book}
 use Rattle.arj_line_law.specs.Right.{AreRight}
 use Rattle.arj_line_law.proofs.Tops.{is_sound}
@@ -96,14 +98,14 @@ module _ (hd : Header) (w : World) (rights : Holds hd IsRight w) (namings : Hold
 
 -- ---- runs
 
-lines_run : (hd : Header) (es : List Asked) → Holds hd IsKept (run_all es (format hd))
-lines_run hd es = runs_hold hd IsKept (lines_keep hd) es
+lines_run : (hd : Header) (ms : List Move) → Holds hd IsKept (world_by hd ms)
+lines_run hd ms = moves_asked hd IsKept (keeps_asked hd IsKept (lines_keep hd)) ms
 
 pub stores_abort : StoresAbortByCauses
-stores_abort hd es = stores_have_causes hd (run_all es (format hd)) (right_run hd es) (naming_run hd es) (lines_run hd es)
+stores_abort hd ms = stores_have_causes hd (world_by hd ms) (right_run hd ms) (naming_run hd ms) (lines_run hd ms)
 
 pub naming_aborts_none : NamingAbortsNoneDecided
-naming_aborts_none hd es = aborts_none_decided hd (run_all es (format hd)) (right_run hd es) (naming_run hd es) (lines_run hd es)
+naming_aborts_none hd ms = aborts_none_decided hd (world_by hd ms) (right_run hd ms) (naming_run hd ms) (lines_run hd ms)
 
 pub runs_show : RunsShowOneOutcome
-runs_show hd es = shows hd (run_all es (format hd)) (right_run hd es) (naming_run hd es) (lines_run hd es)
+runs_show hd ms = shows hd (world_by hd ms) (right_run hd ms) (naming_run hd ms) (lines_run hd ms)

@@ -13,12 +13,14 @@ use Rattle.arj_protocol.specs.Node.{Parts, ack_told, naming_told, store_told, wi
 use Rattle.arj_protocol.specs.Step.{first_disk, parent_of, parts_in}
 use Rattle.arj_protocol.specs.Tree.{next_uid}
 use Rattle.arj_protocol.specs.World as world
-use Rattle.arj_protocol.specs.World.{format, is_serial_kind, numbered, run_all}
+use Rattle.arj_protocol.specs.World.{format, is_serial_kind, numbered}
 use Rattle.arj_part_law.specs.Actions.{Action}
 use Rattle.arj_view_law.specs.Keeps.{Holds, Keeps}
+use Rattle.arj_view_law.specs.Moves.{Move, world_by}
 use Rattle.arj_view_law.specs.Seen.{AreQuiet, In, Seen, given, is_quiet_line, said, see, up}
 use Rattle.arj_view_law.specs.Walks.{Up, Walks}
-use Rattle.arj_view_law.proofs.Happens.{runs_hold}
+use Rattle.arj_view_law.proofs.Happens.{keeps_asked}
+use Rattle.arj_view_law.proofs.Moving.{moves_asked}
 use Rattle.arj_call_law.proofs.Given.{keeps_given, kept_both}
 use Rattle.arj_disk_run_law.specs.Records.{AreRecorded}
 use Rattle.arj_disk_view_law.proofs.FirstSeen.{first_at}
@@ -234,5 +236,5 @@ naming_keep hd = record {
     its : Keeps hd AllKnown
     its = all_keep hd
 
-pub naming_run : (hd : Header) (es : List world.Asked) → Holds hd IsNaming (run_all es (format hd))
-naming_run hd es = runs_hold hd IsNaming (naming_keep hd) es
+pub naming_run : (hd : Header) (ms : List Move) → Holds hd IsNaming (world_by hd ms)
+naming_run hd ms = moves_asked hd IsNaming (keeps_asked hd IsNaming (naming_keep hd)) ms

@@ -5,18 +5,19 @@ use Rattle.arj_protocol.specs.Words.body
 use Rattle.arj_protocol.specs.Words.event
 use Rattle.arj_protocol.specs.Words.which
 use Rattle.arj_protocol.specs.Step.{Node, first_reason, is_idle}
-use Rattle.arj_protocol.specs.World.{format, run_all, Asked, World, counted, is_quiet, limited, node_numbers, numbered, quiesce, quiet_line, reasons, run_event, run_unless, says, settle, tick_all}
+use Rattle.arj_protocol.specs.World.{Asked, World, counted, is_quiet, limited, node_numbers, numbered, quiesce, quiet_line, reasons, run_event, run_unless, says, settle, tick_all}
 use Rattle.arj_run_law.specs.Worlds.{IsGood}
 use Rattle.arj_view_law.specs.Keeps.{Holds, KeepsAsked}
+use Rattle.arj_view_law.specs.Moves.{Move, all_moved, moved, world_by}
 use Rattle.arj_view_law.specs.Seen.{Seen}
-use Rattle.arj_view_law.proofs.Happens.{runs_asked}
+use Rattle.arj_view_law.proofs.Moving.{move_asked, moves_asked, moves_go_on}
 use Rattle.arj_address_law.specs.Addresses.{AreAddressed, IsNode}
 use Rattle.arj_address_law.proofs.Runs.{kept}
 use Rattle.arj_round_law.specs.Quiet.{AreQuiet, SettlesAll}
 use Rattle.arj_round_law.proofs.Fits.{runs_few}
-use Rattle.arj_round_law.proofs.GiveUps.{one_more, round_settles, runs_on}
+use Rattle.arj_round_law.proofs.GiveUps.{round_settles}
 use Rattle.arj_round_law.proofs.Quiesces.{asked_both, keeps_good}
-use Rattle.arj_round_law.proofs.Quiets.{quiesce_settles}
+use Rattle.arj_round_law.proofs.Quiets.{move_settles}
 use Rattle.arj_settle_law.specs.Settled.{EndsQuiet, KnowsPrepared, QuiescesIdle, RoundsIdle}
 use Rattle.arj_settle_law.proofs.Settled.{handlers_settle}
 use Rattle.arj_settle_law.proofs.Waiting.{AllKnown, all_answer, all_kept}
@@ -69,34 +70,37 @@ world_idle hd w h idle = all_idle w.nodes each
         let at_k : a.number ≡ suc k = h.stands.numbers (suc k) a is in
         idle (suc k) a ((λ i. nat_le 1 (sym at_k i) && nat_le (sym at_k i) (let x = h.stands.header i in x.nodes)) ∙ node) is
 
-ends_quiet : (hd : Header) (e : Asked) (w : World) → Holds hd (AreAddressed hd) (run_event e w) → e.event ≡ event.Quiesce → w.over ≡ false → (run_event e w).over ≡ false → AreQuiet (run_event e w) → EndsQuiet (run_event e w)
-ends_quiet hd e w h is over last idle = record {
+ends_quiet : (hd : Header) (m : Move) (w : World) → Holds hd (AreAddressed hd) (moved m w) → m.asked.event ≡ event.Quiesce → w.over ≡ false → (moved m w).over ≡ false → AreQuiet (moved m w) → EndsQuiet (moved m w)
+ends_quiet hd m w h is over last idle = record {
   idle = idle;
   quiet = quiet;
-  line = let s = quiesce_said e w is over last in (s.0, s.1 ∙ (λ i. s.0 ++ numbered (let v = run_event e w in v.event) (body.Quiet (quiet i) ∷ [])));
+  line = let s = quiesce_said m.asked (record w { arms = m.falls }) is over last in (s.0, s.1 ∙ (λ i. s.0 ++ numbered (let v = moved m w in v.event) (body.Quiet (quiet i) ∷ [])));
 }
   where
-    quiet : is_quiet (run_event e w) ≡ true
-    quiet = world_idle hd (run_event e w) h idle
+    quiet : is_quiet (moved m w) ≡ true
+    quiet = world_idle hd (moved m w) h idle
 
 -- ---- in every run
 
 pub quiesces_idle : QuiescesIdle
-quiesces_idle hd form es e none nobody is over last ups = ends_quiet hd e (run_all es (format hd)) (subst (Holds hd (AreAddressed hd)) (one_more hd es e) (runs_asked hd (AreAddressed hd) (kept hd form) (es ++ e ∷ []))) is over last
-    (quiesce_settles hd (KnowsPrepared hd) s.0 (settles_less hd (KnowsPrepared hd) (λ M. KnowsPrepared hd M × IsGood M) (λ M q. q.0) s.1)
-    e (run_all es (format hd)) (runs_asked hd (λ M. KnowsPrepared hd M × IsGood M) (keeps_good hd (KnowsPrepared hd) s.0) es) (runs_few hd es) none nobody is over last ups)
+quiesces_idle hd form ms m none nobody is over last ups = ends_quiet hd m (world_by hd ms) (move_asked hd (AreAddressed hd) (kept hd form) m (world_by hd ms) (moves_asked hd (AreAddressed hd) (kept hd form) ms)) is over last
+    (move_settles hd (KnowsPrepared hd) s.0 (settles_less hd (KnowsPrepared hd) (λ M. KnowsPrepared hd M × IsGood M) (λ M q. q.0) s.1)
+    m (world_by hd ms) (moves_asked hd (λ M. KnowsPrepared hd M × IsGood M) (keeps_good hd (KnowsPrepared hd) s.0) ms) (runs_few hd ms) none nobody is over last ups)
   where
     s : KeepsAsked hd (KnowsPrepared hd) × SettlesAll hd (KnowsPrepared hd)
     s = handlers_settle hd form
 
 pub rounds_idle : RoundsIdle
-rounds_idle hd form es gs e f is all last over went ups over_w nobody over_f ups_f = ends_quiet hd f (run_all gs (run_event e (run_all es (format hd)))) (subst (Holds hd (AreAddressed hd)) whole (runs_asked hd (AreAddressed hd) (kept hd form) (((es ++ e ∷ []) ++ gs) ++ f ∷ []))) last over_w over_f
+rounds_idle hd form ms gs m n is all last over went ups over_w nobody over_n ups_n = ends_quiet hd n (all_moved gs (moved m (world_by hd ms))) addressed last over_w over_n
     (round_settles hd (λ M. KnowsPrepared hd M × AllKnown hd M) (asked_both hd (KnowsPrepared hd) (AllKnown hd) s.0 (all_kept hd form))
     (all_answer hd form (λ M. (KnowsPrepared hd M × AllKnown hd M) × IsGood M) (λ M q. q.0.1))
-    (settles_less hd (KnowsPrepared hd) (λ M. (KnowsPrepared hd M × AllKnown hd M) × IsGood M) (λ M q. q.0.0) s.1) es gs e f is all last over went ups over_w nobody over_f ups_f)
+    (settles_less hd (KnowsPrepared hd) (λ M. (KnowsPrepared hd M × AllKnown hd M) × IsGood M) (λ M q. q.0.0) s.1) ms gs m n is all last over went ups over_w nobody over_n ups_n)
   where
-    whole : run_all (((es ++ e ∷ []) ++ gs) ++ f ∷ []) (format hd) ≡ run_event f (run_all gs (run_event e (run_all es (format hd))))
-    whole = one_more hd ((es ++ e ∷ []) ++ gs) f ∙ ap (run_event f) (runs_on (es ++ e ∷ []) gs (format hd) ∙ ap (run_all gs) (one_more hd es e))
+    keeps : KeepsAsked hd (AreAddressed hd)
+    keeps = kept hd form
+
+    addressed : Holds hd (AreAddressed hd) (moved n (all_moved gs (moved m (world_by hd ms))))
+    addressed = move_asked hd (AreAddressed hd) keeps n (all_moved gs (moved m (world_by hd ms))) (moves_go_on hd (AreAddressed hd) keeps gs (moved m (world_by hd ms)) (move_asked hd (AreAddressed hd) keeps m (world_by hd ms) (moves_asked hd (AreAddressed hd) keeps ms)))
 
     s : KeepsAsked hd (KnowsPrepared hd) × SettlesAll hd (KnowsPrepared hd)
     s = handlers_settle hd form

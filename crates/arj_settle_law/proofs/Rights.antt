@@ -20,16 +20,18 @@ use Rattle.arj_protocol.specs.Order.{at_uid}
 use Rattle.arj_protocol.specs.Step.{Node, first_disk, naming_at, naming_back, parent_of, parts_in, recovered_records, restart_outs, tolds_again}
 use Rattle.arj_protocol.specs.Tree.{at_place, is_own, next_uid}
 use Rattle.arj_protocol.specs.World as world
-use Rattle.arj_protocol.specs.World.{format, is_serial_kind, numbered, run_all}
+use Rattle.arj_protocol.specs.World.{format, is_serial_kind, numbered}
 use Rattle.arj_part_law.specs.Objects.{AreSorted}
 use Rattle.arj_part_law.proofs.SaidIncs.{all_both, all_flat, all_map}
 use Rattle.arj_part_law.proofs.Keys.{at_in, in_at}
 use Rattle.arj_run_law.specs.Worlds.{IsGood}
 use Rattle.arj_address_law.specs.Binds.{BindsAreKnown}
 use Rattle.arj_view_law.specs.Keeps.{Holds, Keeps}
+use Rattle.arj_view_law.specs.Moves.{Move, world_by}
 use Rattle.arj_view_law.specs.Seen.{AreQuiet, In, Post, Seen, down, given, is_quiet_line, said, see, up}
 use Rattle.arj_view_law.specs.Walks.{Up, Walks}
-use Rattle.arj_view_law.proofs.Happens.{runs_hold}
+use Rattle.arj_view_law.proofs.Happens.{keeps_asked}
+use Rattle.arj_view_law.proofs.Moving.{moves_asked}
 use Rattle.arj_call_law.proofs.Given.{keeps_given, kept_both}
 use Rattle.arj_disk_run_law.specs.Records.{AreRecorded, IsRecorded}
 use Rattle.arj_disk_view_law.specs.Sees.{is_awaited_by}
@@ -337,5 +339,5 @@ right_keep hd = record {
     its : Keeps hd Known
     its = known_keep hd
 
-pub right_run : (hd : Header) (es : List world.Asked) → Holds hd IsRight (run_all es (format hd))
-right_run hd es = runs_hold hd IsRight (right_keep hd) es
+pub right_run : (hd : Header) (ms : List Move) → Holds hd IsRight (world_by hd ms)
+right_run hd ms = moves_asked hd IsRight (keeps_asked hd IsRight (right_keep hd)) ms

@@ -3,13 +3,14 @@ use Rattle.std.proofs.Common.{◌≡◌, ℕ, true, false, [], Some, sym, ◌∙
 use Rattle.arj_protocol.specs.Words.{Header, Uid}
 use Rattle.arj_protocol.specs.Commit.{Machine, is_empty, left_of}
 use Rattle.arj_protocol.specs.Coord.{Committing, Coord, Doing, doing_of}
-use Rattle.arj_protocol.specs.World.{format, run_all, run_event}
 use Rattle.arj_journal.specs.ScriptForm.{HeaderInForm}
 use Rattle.arj_part_law.specs.Requests.{IsNumbered}
 use Rattle.arj_run_law.specs.Worlds.{IsGood}
 use Rattle.arj_view_law.specs.Keeps.{Holds, KeepsAsked}
+use Rattle.arj_view_law.specs.Moves.{moved, world_by}
 use Rattle.arj_view_law.specs.Seen.{Seen, see}
-use Rattle.arj_view_law.proofs.Happens.{event_asked, keeps_asked, runs_asked}
+use Rattle.arj_view_law.proofs.Happens.{keeps_asked}
+use Rattle.arj_view_law.proofs.Moving.{move_asked, moves_asked}
 use Rattle.arj_round_law.specs.Rounds.{AnswersWaits, WaitOvertaken}
 use Rattle.arj_round_law.specs.Waits.{coord_in}
 use Rattle.arj_round_law.proofs.Quiesces.{asked_both, keeps_good, run_answers}
@@ -41,8 +42,8 @@ pub all_answer : (hd : Header) → HeaderInForm hd → (P : Seen → Type 0) →
 all_answer hd form P to = known_give_by hd form P (λ M p. (to M p).0) (loads_given hd P (λ M p. (to M p).1))
 
 pub runs_leave_overtaken : RunsLeaveOvertaken
-runs_leave_overtaken hd form es e is over last ups k c u q node found does waits =
-    ⊎_elim (λ s. s) (λ m. absurd (none_left (see after.sent (run_event e (run_all es (format hd)))) (let p = after.holds in p.1) k c u q m.0 found does m.1 m.2)) (answer k c u q node found does waits)
+runs_leave_overtaken hd form ms v is over last ups k c u q node found does waits =
+    ⊎_elim (λ s. s) (λ m. absurd (none_left (see after.sent (moved v (world_by hd ms))) (let p = after.holds in p.1) k c u q m.0 found does m.1 m.2)) (answer k c u q node found does waits)
   where
     kept : KeepsAsked hd (AllKnown hd)
     kept = all_kept hd form
@@ -50,8 +51,8 @@ runs_leave_overtaken hd form es e is over last ups k c u q node found does waits
     P : Seen → Type 0
     P M = AllKnown hd M × IsGood M
 
-    after : Holds hd P (run_event e (run_all es (format hd)))
-    after = event_asked hd P (keeps_good hd (AllKnown hd) kept) e (run_all es (format hd)) (runs_asked hd P (keeps_good hd (AllKnown hd) kept) es)
+    after : Holds hd P (moved v (world_by hd ms))
+    after = move_asked hd P (keeps_good hd (AllKnown hd) kept) v (world_by hd ms) (moves_asked hd P (keeps_good hd (AllKnown hd) kept) ms)
 
-    answer : WaitOvertaken (run_event e (run_all es (format hd)))
-    answer = run_answers hd (AllKnown hd) kept (all_answer hd form P (λ M p. p.0)) es e is over last ups
+    answer : WaitOvertaken (moved v (world_by hd ms))
+    answer = run_answers hd (AllKnown hd) kept (all_answer hd form P (λ M p. p.0)) ms v is over last ups

@@ -1,4 +1,5 @@
--- Each run shows one outcome of each top: what stores abort of a decided one has a cause, and naming aborts nothing of it.
+-- Each run shows one outcome of each top, whatever stops fall in it: what stores abort of a decided one has a cause, and naming aborts nothing
+-- of it.
 use Rattle.std.specs.Prelude.{◌≡◌, ℕ, true, false, List, ◌∷◌, ◌++◌}
 use Rattle.arj_base.specs.declared.mode.End.TheVariants as ending
 use Rattle.arj_base.specs.declared.uid.Uid.{Uid}
@@ -6,7 +7,7 @@ use Rattle.arj_journal.specs.declared.body.Body.TheVariants as body
 use Rattle.arj_journal.specs.declared.body.Line.{Line}
 use Rattle.arj_journal.specs.declared.body.Role.TheVariants as role
 use Rattle.arj_journal.specs.declared.header.Header.{Header}
-use Rattle.arj_protocol.specs.World.{Asked, journal}
+use Rattle.arj_view_law.specs.Moves.{Move, journal_by}
 use Rattle.arj_joint_law.specs.Outcome.{ShowsOneOutcome, is_said, may_abort}
 
 -- what a store aborts of a decided top has a cause
@@ -15,7 +16,7 @@ StoresHaveCauses lines = (before : List Line) (line : Line) (behind : List Line)
 
 -- so it is in every run
 abbrev pub StoresAbortByCauses : Type 0
-StoresAbortByCauses = (hd : Header) (es : List Asked) → StoresHaveCauses (journal hd es)
+StoresAbortByCauses = (hd : Header) (ms : List Move) → StoresHaveCauses (journal_by hd ms)
 
 -- naming aborts nothing that it prepared for an action that was decided before
 abbrev pub AbortsNoneDecided : List Line → Type 0
@@ -23,8 +24,8 @@ AbortsNoneDecided lines = (before : List Line) (line : Line) (behind : List Line
 
 -- so it is in every run
 abbrev pub NamingAbortsNoneDecided : Type 0
-NamingAbortsNoneDecided = (hd : Header) (es : List Asked) → AbortsNoneDecided (journal hd es)
+NamingAbortsNoneDecided = (hd : Header) (ms : List Move) → AbortsNoneDecided (journal_by hd ms)
 
 -- and each run shows one outcome of each top
 abbrev pub RunsShowOneOutcome : Type 0
-RunsShowOneOutcome = (hd : Header) (es : List Asked) → ShowsOneOutcome (journal hd es)
+RunsShowOneOutcome = (hd : Header) (ms : List Move) → ShowsOneOutcome (journal_by hd ms)

@@ -7,7 +7,8 @@ use Rattle.arj_protocol.specs.Call.{Steps}
 use Rattle.arj_protocol.specs.Coord.{Calling, Coord, Doing, doing_of}
 use Rattle.arj_protocol.specs.Step.{is_waiting_now}
 use Rattle.arj_protocol.specs.Tree.{at_place}
-use Rattle.arj_protocol.specs.World.{Asked, World, format, is_node, run_all, run_event}
+use Rattle.arj_protocol.specs.World.{World, is_node}
+use Rattle.arj_view_law.specs.Moves.{Move, moved, world_by}
 use Rattle.arj_round_law.specs.Rounds.{AreUp}
 use Rattle.arj_round_law.specs.Waits.{IsOvertaken, IsSaid, coord_in}
 
@@ -15,6 +16,6 @@ use Rattle.arj_round_law.specs.Waits.{IsOvertaken, IsSaid, coord_in}
 abbrev pub OnlyOvertakenWait : World → Type 0
 OnlyOvertakenWait w = (k : ℕ) (c : Coord) (u : Uid) (q : Doing) → is_node k w ≡ true → coord_in (at_place k w.nodes) ≡ Some c → doing_of u c ≡ Some q → is_waiting_now q.now ≡ true → (s : Steps) × (q.now ≡ Calling s) × IsOvertaken (IsSaid w.lines) s
 
--- So it is after a quiesce of a run in which every node stays up and no limit is met.
+-- So it is after a quiesce of a run at whose end every node is up, whatever stops fall, and in which no limit is met.
 abbrev pub RunsLeaveOvertaken : Type 0
-RunsLeaveOvertaken = (hd : Header) → HeaderInForm hd → (es : List Asked) (e : Asked) → let w = run_all es (format hd) in e.event ≡ event.Quiesce → w.over ≡ false → (run_event e w).over ≡ false → AreUp (run_event e w) → OnlyOvertakenWait (run_event e w)
+RunsLeaveOvertaken = (hd : Header) → HeaderInForm hd → (ms : List Move) (m : Move) → let w = world_by hd ms in m.asked.event ≡ event.Quiesce → w.over ≡ false → (moved m w).over ≡ false → AreUp (moved m w) → OnlyOvertakenWait (moved m w)

@@ -7,10 +7,11 @@ use Rattle.arj_protocol.specs.Words.body
 use Rattle.arj_protocol.specs.Words.event
 use Rattle.arj_protocol.specs.Node.{Parts}
 use Rattle.arj_protocol.specs.Step.{Node}
-use Rattle.arj_protocol.specs.World.{Asked, World, format, is_quiet, lowest_from, run_all, run_event}
+use Rattle.arj_protocol.specs.World.{World, is_quiet, lowest_from}
 use Rattle.arj_part_law.specs.Actions.{Action}
 use Rattle.arj_run_law.specs.Worlds.{IsGood, IsGoodOf}
 use Rattle.arj_view_law.specs.Keeps.{KeepsAsked}
+use Rattle.arj_view_law.specs.Moves.{Move, all_moved, moved, world_by}
 use Rattle.arj_view_law.specs.Seen.{Seen}
 use Rattle.arj_address_law.specs.Addresses.{AreAddressed}
 use Rattle.arj_address_law.specs.Binds.{BindsAreKnown}
@@ -41,15 +42,15 @@ pub record EndsQuiet (w : World) : Type 0 where
   pub quiet : is_quiet w ≡ true
   pub line : (before : List Line) × (w.lines ≡ before ++ record { event = w.event; body = body.Quiet true } ∷ [])
 
--- In every run a quiesce that begins where nobody waits and no frame is open, in which every node stays up and no limit is met, leaves
--- every node idle, and its line says so.
+-- In every run a quiesce that begins where nobody waits and no frame is open, at whose end every node is up, whatever stops fall, and in
+-- which no limit is met, leaves every node idle, and its line says so.
 abbrev pub QuiescesIdle : Type 0
-QuiescesIdle = (hd : Header) → HeaderInForm hd → (es : List Asked) (e : Asked) → let w = run_all es (format hd) in lowest_from 1 w.frames ≡ None → NobodyWaits w
-    → e.event ≡ event.Quiesce → w.over ≡ false → (run_event e w).over ≡ false → AreUp (run_event e w) → EndsQuiet (run_event e w)
+QuiescesIdle = (hd : Header) → HeaderInForm hd → (ms : List Move) (m : Move) → let w = world_by hd ms in lowest_from 1 w.frames ≡ None → NobodyWaits w
+    → m.asked.event ≡ event.Quiesce → w.over ≡ false → (moved m w).over ≡ false → AreUp (moved m w) → EndsQuiet (moved m w)
 
--- So does the stated round, in every run: a quiesce, giveups of each action that waits then, and a second quiesce, where every node stays
--- up in both and no limit is met (or any giveups behind which nobody waits).
+-- So does the stated round, in every run: a quiesce, giveups of each action that waits then, and a second quiesce, where every node is up
+-- at the end of both, whatever stops fall, and no limit is met (or any giveups behind which nobody waits).
 abbrev pub RoundsIdle : Type 0
 RoundsIdle = (hd : Header) → HeaderInForm hd
-    → (es gs : List Asked) (e f : Asked) → let u = run_all es (format hd) in let v = run_event e u in let w = run_all gs v in e.event ≡ event.Quiesce → AllByRecursion IsGiveUp gs → f.event ≡ event.Quiesce
-    → u.over ≡ false → v.over ≡ false → AreUp v → w.over ≡ false → AreGivenUp gs v ⊎ NobodyWaits w → (run_event f w).over ≡ false → AreUp (run_event f w) → EndsQuiet (run_event f w)
+    → (ms gs : List Move) (m n : Move) → let u = world_by hd ms in let v = moved m u in let w = all_moved gs v in m.asked.event ≡ event.Quiesce → AllByRecursion IsGiveUp gs → n.asked.event ≡ event.Quiesce
+    → u.over ≡ false → v.over ≡ false → AreUp v → w.over ≡ false → AreGivenUp gs v ⊎ NobodyWaits w → (moved n w).over ≡ false → AreUp (moved n w) → EndsQuiet (moved n w)

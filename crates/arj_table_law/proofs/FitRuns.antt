@@ -8,15 +8,17 @@ use Rattle.arj_protocol.specs.Words.{Ask, Head, Header, Message, Path, asks}
 use Rattle.arj_protocol.specs.Words.ask
 use Rattle.arj_protocol.specs.Follow.{FitsPath}
 use Rattle.arj_protocol.specs.Laws.{Holders}
-use Rattle.arj_protocol.specs.World.{Asked, Frame, World, format, run_all}
+use Rattle.arj_protocol.specs.World.{Frame, World}
 use Rattle.arj_part_law.specs.Actions.{Action, action_of, paths_of}
 use Rattle.arj_part_law.specs.Coords.{IsGoodCoord}
 use Rattle.arj_part_law.specs.Messages.{FitsAsk, FitsAsked, FitsMessage, IsAsker}
 use Rattle.arj_part_law.proofs.Begun.{begun_tree, path_found}
 use Rattle.arj_run_law.specs.Worlds.{IsGoodOf, IsMemory, IsUp}
 use Rattle.arj_view_law.specs.Keeps.{IsSent}
+use Rattle.arj_view_law.specs.Moves.{Move, world_by}
 use Rattle.arj_view_law.specs.Seen.{In, Post, see}
-use Rattle.arj_view_law.proofs.Happens.{runs_hold}
+use Rattle.arj_view_law.proofs.Happens.{keeps_asked}
+use Rattle.arj_view_law.proofs.Moving.{moves_asked}
 use Rattle.arj_line_law.specs.Paths.{AreAlike, IsAlike}
 use Rattle.arj_line_law.proofs.Models.{its_acts}
 use Rattle.arj_line_law.proofs.Paths.{IsNamed, paths_keep}
@@ -63,11 +65,11 @@ module _ (begun : List Action) (xs : List Act) (w : World) (sent : List Post) (g
   pub fit : AllByRecursion (IsSent sent) w.frames → CoordsFit h w × AllByRecursion (FrameFits h) w.frames
   fit all = (coords, frames w.frames all)
 
-pub holders_fit : (hd : Header) (es : List Asked) → HoldersFit (run_all es (format hd))
-holders_fit hd es =
-    let r = runs_hold hd (λ M. IsNamed M × IsAlike M) (paths_keep hd) es in
+pub holders_fit : (hd : Header) (ms : List Move) → HoldersFit (world_by hd ms)
+holders_fit hd ms =
+    let r = moves_asked hd (λ M. IsNamed M × IsAlike M) (keeps_asked hd (λ M. IsNamed M × IsAlike M) (paths_keep hd)) ms in
     let h = r.holds in
-    let w = run_all es (format hd) in
+    let w = world_by hd ms in
     let s = r.stands in
     let written = h.1.1.2 in
     fit h.1.0 (acts w.lines) w r.sent h.1.1.0 (subst (AreAlike h.1.0) (its_acts w.lines written.right) h.1.1.1) s.frames

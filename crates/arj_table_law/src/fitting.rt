@@ -1,6 +1,6 @@
 // The paths of holders in a journal's table, in runs.
 ghost use Rattle.arj_protocol.specs.Words.{Header};
-ghost use Rattle.arj_protocol.specs.World.{Asked, format, run_all};
+ghost use Rattle.arj_view_law.specs.Moves.{Move, world_by};
 ghost use Rattle.std.specs.Prelude.{List};
 ghost use Rattle.arj_table_law.specs.Fitting.{HoldersFit};
 
@@ -8,5 +8,5 @@ ghost use Rattle.arj_table_law.specs.Fitting.{HoldersFit};
 /// that is up has, and each action by whose path a request in a frame is, has as a holder in the journal's table the path that it has
 /// there, and its top the leading part of it. It does nothing when it runs.
 pub fn holders_have_their_paths()
-    ensures { (hd : Header) (es : List Asked) → HoldersFit (run_all es (format hd)) }
+    ensures { (hd : Header) (ms : List Move) → HoldersFit (world_by hd ms) }
 {}

@@ -9,7 +9,7 @@ use Rattle.arj_disk.specs.FileMap.{FileMap}
 use Rattle.arj_event_law.proofs.EndLines.{ends_write}
 use Rattle.arj_event_law.proofs.Settled.{events_settle}
 use Rattle.arj_event_law.proofs.Spoken.{event_writes}
-use Rattle.arj_event_law.proofs.Whole.{event_whole, format_whole}
+use Rattle.arj_event_law.proofs.Whole.{event_whole, format_whole, whole_with}
 use Rattle.arj_event_law.specs.Named.{AnswersEnd, AreNamed, EndHalted, EndRefused, IsEndAnswered, OwnEnd, ends_label}
 use Rattle.arj_event_law.specs.Writes.{Answers, Own, IsRefused, HasHalted, IsFrames, IsLabels, IsAnswered, IsDone, IsOwn, IsRefusedWith, IsRun, IsWhole, Owes, asks, halts_for, may_lack_frames, node_refusal, refused_to}
 use Rattle.arj_journal.specs.declared.body.Line.{Line}
@@ -32,9 +32,6 @@ use Rattle.arj_world.specs.Wire.{AreFew, frame_of}
 use Rattle.arj_world.proofs.Tests.{keeps_of}
 
 -- ---- stops that are to fall change nothing of what an event owes
-
-pub whole_with : (arms : List (ℕ × Arm)) (w : World) → IsWhole w → IsWhole (with_arms arms w)
-whole_with arms w whole = record { nodes = whole.nodes; numbers = whole.numbers; labels = whole.labels }
 
 own_without : (arms : List (ℕ × Arm)) (w : World) (e : Event) (b : Body) → IsOwn e (with_arms arms w) b → IsOwn e w b
 own_without arms w (event.Begin l n) b own = own
@@ -201,7 +198,7 @@ frames_without arms w (event.Restart n) lacks = absurd lacks
 frames_without arms w (event.Stop n c how) lacks = absurd lacks
 frames_without arms w (event.Show x) lacks = absurd lacks
 
-answers_without : (arms : List (ℕ × Arm)) (w : World) (e : Event) (over : Bool) (b : Body) → Answers e (with_arms arms w) over b → Answers e w over b
+pub answers_without : (arms : List (ℕ × Arm)) (w : World) (e : Event) (over : Bool) (b : Body) → Answers e (with_arms arms w) over b → Answers e w over b
 answers_without arms w e over b (Own done own) = Own (done_without arms w e done) (own_without arms w e b own)
 answers_without arms w e over b (HasHalted m done halts is) = HasHalted m (done_without arms w e done) (halts_without arms w e m halts) is
 answers_without arms w e over b (IsFrames done lacks ends is) = IsFrames (done_without arms w e done) (frames_without arms w e lacks) ends is
