@@ -26,7 +26,7 @@ use Rattle.arj_view_law.specs.Seen.{In, Seen, at, down, given, said, see, up}
 use Rattle.arj_view_law.specs.Walks.{Up, Walks, halted}
 use Rattle.arj_view_law.proofs.Together.{walks_both, walks_to}
 use Rattle.arj_call_law.specs.Runs.{KnowsFew}
-use Rattle.arj_call_law.proofs.Given.{KeepsGiven, given_more, while_given}
+use Rattle.arj_call_law.proofs.Given.{KeepsGiven}
 use Rattle.arj_binding_law.proofs.Doings.{one_more}
 use Rattle.arj_line_law.specs.Paths.{IsAlikeOf}
 use Rattle.arj_line_law.proofs.Paths.{IsPathedOf, act_pathed, message_pathed}
@@ -35,8 +35,6 @@ use Rattle.arj_disk_law.specs.Names.{Office}
 use Rattle.arj_disk_view_law.specs.Sees.{Kinds}
 use Rattle.arj_disk_run_law.specs.Bindings.{KnowsScript}
 use Rattle.arj_disk_run_law.specs.Kinds.{Agrees}
-use Rattle.arj_disk_run_law.proofs.Scripts.{part_more}
-use Rattle.arj_disk_line_law.specs.Said.{AreNotLate}
 use Rattle.arj_disk_line_law.proofs.Steps.{nothing_more}
 use Rattle.arj_lock_law.specs.Machine.{Run, stay}
 use Rattle.arj_lock_law.specs.State.{State}
@@ -57,10 +55,9 @@ use Rattle.arj_lock_whole_law.proofs.Gives.{gives_locks}
 use Rattle.arj_joint_law.specs.Apt.{IsApt}
 use Rattle.arj_joint_law.specs.Fit.{OpsFit}
 use Rattle.arj_joint_law.specs.Joined.{IsPaired}
-use Rattle.arj_joint_law.proofs.Fits.{fits_before}
 use Rattle.arj_joint_law.proofs.GivenOn.{AreFew, IsGrown, as_it_is, few_first, few_walk, fewer_labels, grown_said}
-use Rattle.arj_joint_law.proofs.HeldRuns.{Calm, IsCarriedThere, IsThere, calm, know, there_given}
-use Rattle.arj_joint_law.proofs.JoinedParts.{Base, Carried, Early, Whole, base, header_has, locked}
+use Rattle.arj_joint_law.proofs.HeldRuns.{Calm, IsCarriedThere, IsThere, beside_given, calm, know}
+use Rattle.arj_joint_law.proofs.JoinedParts.{Base, Carried, Whole, header_has}
 use Rattle.arj_joint_law.proofs.Joining.{WithLocks}
 use Rattle.arj_joint_law.proofs.RestGiven.{rest_beside}
 use Rattle.arj_held_law.proofs.Acted.{HasActs, alike_acts, none_alike}
@@ -177,10 +174,7 @@ module _ (hd : Header) (x : ℕ) (form : HeaderInForm hd) (there : is_some (obje
   stays M L N (inr some) f S T run past has = ⊎_elim {C = Before Apt x Known first event M f T} (λ none. inl none) (λ was. inr (was_later Apt x Known first event M f S T run was)) (past some)
 
   coming_given : (M : Seen) → KeepsGiven hd (λ N. KnowsScript N × Acted M N) (Comes M)
-  coming_given M = while_given (OpsFit x) (fits_before x) (IsThere x (Base hd x) (Both M)) hd (λ N. KnowsScript N × Acted M N)
-      (given_more hd (λ N. KnowsScript N × (OpsFit x N.lines × Acted M N)) (λ N. (KnowsScript N × Acted M N) × OpsFit x N.lines) (IsThere x (Base hd x) (Both M)) (λ N k. (k.0.0, (k.1, k.0.1)))
-      (there_given hd x (Base hd x) (λ N. OpsFit x N.lines × Acted M N) (base hd x form there (λ N. ⊤) (λ f S N. ⊤) (λ N Z l f S T run past. tt) (λ f S. tt)) (Both M)
-      (part_more hd x (λ W N. Early hd x W N × Acted M N) (λ W N. Base hd x N × ((KnowsScript N × (OpsFit x N.lines × Acted M N)) × AreNotLate W N)) (Both M) (λ W N q. let r = q.1 in ((q.0, ((r.0.0, r.0.1.0), r.1)), r.0.1.1)) (locked hd x form there (Acted M) (From M) (stays M) (λ f S has. absurd (has refl))))))
+  coming_given M = beside_given hd x form there (Acted M) (From M) (stays M) (λ f S has. absurd (has refl))
 
   again : (M N : Seen) → Goes M N → Comes M N → Comes N N
   again M N on coming = turned hd x first event first event M N on coming

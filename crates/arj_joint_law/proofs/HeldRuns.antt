@@ -86,6 +86,17 @@ module _ (hd : Header) (x : ℕ) (form : HeaderInForm hd) (there : is_some (obje
   abbrev Fits : Seen → Type 0
   Fits M = OpsFit x M.lines
 
+  -- Where operations are in form, both machines go on beside each other with more of the lock machine's states that stays as they go on, where this holds
+  -- before each handler.
+  pub beside_given : (L : Seen → Type 0) (P : Fixed → State → Seen → Type 0) → ((M N : Seen) → L M → (f : Fixed) (S T : State) → Run S T → P f S M → P f T N) → ((f : Fixed) (S : State) → P f S (see [] (format hd)))
+      → KeepsGiven hd (λ M. KnowsScript M × L M) (λ M. OpsFit x M.lines → IsThere x (Base hd x) (WithLocks (first_values hd) x (Whole x) P (Carried hd x)) M)
+  beside_given L P stays starts =
+      let Q : Kinds → Office → Seen → Type 0 = WithLocks (first_values hd) x (Whole x) P (Carried hd x) in
+      while_given (OpsFit x) (fits_before x) (IsThere x (Base hd x) Q) hd (λ M. KnowsScript M × L M)
+      (given_more hd (λ M. KnowsScript M × (Fits M × L M)) (λ M. (KnowsScript M × L M) × Fits M) (IsThere x (Base hd x) Q) (λ M k. (k.0.0, (k.1, k.0.1)))
+      (there_given hd x (Base hd x) (λ M. Fits M × L M) counted Q
+      (part_more hd x (λ W M. Early hd x W M × L M) (λ W M. Base hd x M × ((KnowsScript M × (Fits M × L M)) × AreNotLate W M)) Q (λ W M q. let r = q.1 in ((q.0, ((r.0.0, r.0.1.0), r.1)), r.0.1.1)) (locked hd x form there L P stays starts))))
+
   -- the object was seen in each of these worlds, in a state from which the machine goes on to this one
   abbrev pub Past : List World → Fixed → State → Seen → Type 0
   Past ws f S M = HasLines M → AllByRecursion (WasSeen (first_values hd) x f S) ws
@@ -102,10 +113,7 @@ module _ (hd : Header) (x : ℕ) (form : HeaderInForm hd) (there : is_some (obje
   Fitting ws M = Fits M → IsThere x (Base hd x) (Pairs ws) M
 
   pairs_given : (ws : List World) → KeepsGiven hd (λ M. KnowsScript M × HasLines M) (Fitting ws)
-  pairs_given ws = while_given (OpsFit x) (fits_before x) (IsThere x (Base hd x) (Pairs ws)) hd (λ M. KnowsScript M × HasLines M)
-      (given_more hd (λ M. KnowsScript M × (Fits M × HasLines M)) (λ M. (KnowsScript M × HasLines M) × Fits M) (IsThere x (Base hd x) (Pairs ws)) (λ M k. (k.0.0, (k.1, k.0.1)))
-      (there_given hd x (Base hd x) (λ M. Fits M × HasLines M) counted (Pairs ws)
-      (part_more hd x (λ W M. Early hd x W M × HasLines M) (λ W M. Base hd x M × ((KnowsScript M × (Fits M × HasLines M)) × AreNotLate W M)) (Pairs ws) (λ W M q. let r = q.1 in ((q.0, ((r.0.0, r.0.1.0), r.1)), r.0.1.1)) (locked hd x form there HasLines (Past ws) (stays ws) (λ f S later. absurd (later refl))))))
+  pairs_given ws = beside_given HasLines (Past ws) (stays ws) (λ f S later. absurd (later refl))
 
   -- what is known as long as few bindings were made
   abbrev pub Calm : Seen → Type 0
@@ -183,9 +191,7 @@ module _ (hd : Header) (x : ℕ) (form : HeaderInForm hd) (there : is_some (obje
 
   plain_given : KeepsGiven hd KnowsScript (λ M. Base hd x M × (Fits M → IsThere x (Base hd x) Plain M))
   plain_given = both_given hd KnowsScript (Base hd x) (λ M. Fits M → IsThere x (Base hd x) Plain M) (keeps_given hd (λ M. KnowsScript M × (Fits M → IsThere x (Base hd x) Plain M)) (Base hd x) counted)
-      (given_more hd KnowsScript (λ M. KnowsScript M × Base hd x M) (λ M. Fits M → IsThere x (Base hd x) Plain M) (λ M k. k.0) (while_given (OpsFit x) (fits_before x) (IsThere x (Base hd x) Plain) hd KnowsScript
-      (there_given hd x (Base hd x) Fits counted Plain
-      (part_more hd x (λ W M. Early hd x W M × ⊤) (λ W M. Base hd x M × ((KnowsScript M × Fits M) × AreNotLate W M)) Plain (λ W M q. ((q.0, q.1), tt)) (locked hd x form there (λ M. ⊤) (λ f S M. ⊤) (λ M N l f S T run past. tt) (λ f S. tt))))))
+      (given_more hd (λ M. KnowsScript M × ⊤) (λ M. KnowsScript M × Base hd x M) (λ M. Fits M → IsThere x (Base hd x) Plain M) (λ M k. (k.0, tt)) (beside_given (λ M. ⊤) (λ f S M. ⊤) (λ M N l f S T run past. tt) (λ f S. tt)))
 
   -- after moves behind which something was said
   started : (ms : List Move) → length ms ≤ most_events → HasBegun (world_by hd ms) → Holds hd (Going []) (world_by hd ms)
