@@ -228,7 +228,7 @@ seen_runs_in_time hd w h = record { sent = h.sent; stands = h.stands; holds = se
 -- ---- by the lock machine
 
 -- an object that was written was called
-was_called : (values : Values) (lines : List Line) (x : ℕ) (c : Call) → members.In c (committed_calls lines) → writes_on x c ≡ true → list_any (λ (z : Placed Said). z.it.x == x) (said lines) ≡ true
+pub was_called : (values : Values) (lines : List Line) (x : ℕ) (c : Call) → members.In c (committed_calls lines) → writes_on x c ≡ true → list_any (λ (z : Placed Said). z.it.x == x) (said lines) ≡ true
 was_called values lines x c i write =
     let f = in_filter_map (kept (committed lines) (recovered lines)) c (said lines) i in
     let k = kept_shape values lines x f.0 c f.2 in

@@ -1,5 +1,5 @@
 -- Excluded in time, by a journal and the files of nodes' disks: what files hold, and what is prepared in them.
-use Rattle.std.specs.Prelude.{◌≡◌, ◌⊎◌, ◌&&◌, ℕ, true, false, List, [], Some, IsSomeAnd, Contains, is_some, nat_le}
+use Rattle.std.specs.Prelude.{◌≡◌, ◌⊎◌, ℕ, true, false, List, [], Some, IsSomeAnd, Contains}
 use Rattle.arj_base.specs.State.{StateInForm, state_bytes}
 use Rattle.arj_base.specs.Uid.{entry, object}
 use Rattle.arj_base.specs.declared.state.ObjectState.{ObjectState}
@@ -12,7 +12,7 @@ use Rattle.arj_journal.specs.declared.body.Line.{Line}
 use Rattle.arj_journal.specs.declared.header.Header.{Header}
 use Rattle.arj_model.specs.Calls.{Top, tops}
 use Rattle.arj_model.specs.Clean.{Disks}
-use Rattle.arj_model.specs.Last.{is_among, last_state, object_line}
+use Rattle.arj_model.specs.Last.{is_among, last_state}
 use Rattle.arj_protocol.specs.Values.{state_entry}
 use Rattle.arj_view_law.specs.Moves.{Move, world_by}
 use Rattle.arj_view_law.specs.Seen.{see}
@@ -50,11 +50,10 @@ FileIsInTime header lines x disks t s = (held (disks s) role.Store (object x) �
     ⊎ HasPrepared (disks s) role.Store (uid_of lines t) (last_state header lines x)
     ⊎ FileTakesOut lines x (disks 1) t s
 
--- Excluded in time: so it is at the end of this event, the last one that was run, of each top that is new in it, of each object of the header
--- that it wrote, and of each node that the entry in naming's files lists.
+-- Excluded in time: so it is at the end of this event, the last one that was run, of each top that is new in it, of each object that it wrote,
+-- and of each store that the object's entry in naming's files lists.
 abbrev pub FilesAreInTime : Header → ℕ → List Line → Disks → Type 0
-FilesAreInTime header e lines disks = (t : Top) (x s : ℕ) → is_some (object_line header x) ≡ true → IsNew e lines t → Wrote lines x t
-    → (nat_le 1 s && nat_le s header.nodes) ≡ true → Lists (disks 1) x s → FileIsInTime header lines x disks t s
+FilesAreInTime header e lines disks = (t : Top) (x s : ℕ) → IsNew e lines t → Wrote lines x t → Lists (disks 1) x s → FileIsInTime header lines x disks t s
 
 -- After each run in form, whatever stops fall, files that are those of its nodes' pairs are in time.
 abbrev pub RunsExcludeFilesInTime : Type 0

@@ -1,14 +1,21 @@
 -- Small journals, right ones and ones that are wrong in one place; and what nodes have at the end of one.
-use Rattle.std.specs.Prelude.{refl, ℕ, List, [], ◌∷◌, ◌++◌, replicate, codes, None}
+use Rattle.std.specs.Prelude.{refl, ℕ, ◌==◌, ◌&&◌, if◌then◌else◌, List, [], ◌∷◌, ◌++◌, replicate, codes, Option, None, Some}
 use Rattle.std.proofs.Common.{arith}
 use Rattle.arj_base.specs.declared.mode.End.{End}
 use Rattle.arj_base.specs.declared.mode.End.TheVariants as ending
 use Rattle.arj_base.specs.declared.uid.Uid.{Uid}
-use Rattle.arj_base.specs.Uid.{entry, nobody, object}
+use Rattle.arj_base.specs.State.{state_bytes}
+use Rattle.arj_base.specs.Uid.{entry, nobody, object, uid_eq}
 use Rattle.arj_base.specs.declared.state.Class.TheVariants as class
 use Rattle.arj_base.specs.declared.state.ObjectState.{ObjectState}
 use Rattle.arj_class.specs.declared.op.Op.TheVariants.{Add}
 use Rattle.arj_class.specs.declared.value.Value.TheVariants.{Counter}
+use Rattle.arj_disk.specs.FileMap.{FileMap}
+use Rattle.arj_disk.specs.Formed.{prepared_bytes}
+use Rattle.arj_disk.specs.Says.{role_eq}
+use Rattle.arj_disk.specs.declared.slot.Role.{Role as Side}
+use Rattle.arj_disk.specs.declared.slot.Role.TheVariants as side
+use Rattle.arj_disk.specs.declared.slot.Slot.TheVariants.{Committed, Prepared, Shadow}
 use Rattle.arj_journal.specs.declared.body.Body.{Body}
 use Rattle.arj_journal.specs.declared.body.Body.TheVariants as body
 use Rattle.arj_journal.specs.declared.body.Kind.TheVariants as kind
@@ -16,6 +23,7 @@ use Rattle.arj_journal.specs.declared.body.Line.{Line}
 use Rattle.arj_journal.specs.declared.body.Role.TheVariants as role
 use Rattle.arj_journal.specs.declared.header.Header.{Header}
 use Rattle.arj_model.specs.Calls.{Top}
+use Rattle.arj_model.specs.Clean.{Disks}
 use Rattle.arj_model.specs.Last.{entry_payload}
 use Rattle.arj_protocol.specs.Effect.{Pair}
 use Rattle.arj_protocol.specs.Step.{Node}
@@ -119,3 +127,26 @@ naming_node = node_with 1 empty (pair_with (entry 1) (entry_with 0 nobody (2 ∷
 -- the naming node with the old entry and nothing prepared
 abbrev pub naming_late : Node
 naming_late = node_with 1 empty (pair_with (entry 1) (entry_with 0 nobody (2 ∷ 3 ∷ [])) [])
+
+-- ---- files, at the end of a journal
+
+-- files that hold a state, and have another one prepared for the top, or nothing
+abbrev pub files_with : Side → ObjectState → Option ObjectState → FileMap
+files_with r held new (Committed u) = if uid_eq u held.uid then Some (state_bytes held) else None
+files_with r held (Some new) (Shadow u) = if uid_eq u new.uid then Some (state_bytes new) else None
+files_with r held (Some new) (Prepared q a) = if role_eq q r && uid_eq a its_uid then Some (prepared_bytes its_uid (new.uid ∷ [])) else None
+files_with r held new q = None
+
+-- The stores 2 and 3 hold the first state, and store 2 has the new one prepared; naming's entry is the old one, and this one is prepared, if any.
+abbrev pub disks_with : Option ObjectState → Disks
+disks_with new n =
+    if n == 1 then files_with side.Names (entry_with 0 nobody (2 ∷ 3 ∷ [])) new
+    else if n == 2 then files_with side.Store first_counter (Some (counter_state 1 its_uid 5)) else files_with side.Store first_counter None
+
+-- the entry without store 3 is prepared
+abbrev pub disks_decided : Disks
+disks_decided = disks_with (Some (entry_with 1 its_uid (2 ∷ [])))
+
+-- no entry is prepared
+abbrev pub disks_late : Disks
+disks_late = disks_with None

@@ -1,10 +1,10 @@
 // One outcome of each top, and that stores are excluded in time, by a journal.
 ghost use Rattle.std.specs.Prelude.{◌≡◌, false};
 ghost use Rattle.arj_joint_law.specs.Excluded.{IsInTime, IsNew, NewWritersAreLast, NodesHaveForm, RunsBeginWithCalls, RunsExcludeInTimeByCalls, SeenRunsExcludeInTime};
-ghost use Rattle.arj_joint_law.specs.FilesInTime.{RunsExcludeFilesInTime};
+ghost use Rattle.arj_joint_law.specs.FilesInTime.{FileIsInTime, Lists, RunsExcludeFilesInTime};
 ghost use Rattle.arj_joint_law.specs.InTime.{RunsExcludeInTime};
 ghost use Rattle.arj_joint_law.specs.Outcome.{CommitsAreBehind, ShowsOneOutcome, aborts_have_cause, commits_are_behind};
-ghost use Rattle.arj_joint_law.specs.Samples.{decided_lines, found_commit, halted_abort, header, its_top, naming_late, naming_node, right_end, store_three, store_two, wrong_abort, wrong_commit, wrong_names_abort};
+ghost use Rattle.arj_joint_law.specs.Samples.{decided_lines, disks_decided, disks_late, found_commit, halted_abort, header, its_top, naming_late, naming_node, right_end, store_three, store_two, wrong_abort, wrong_commit, wrong_names_abort};
 
 /// In each run, with all frames in any order, again or never, all crashes and restarts, and stops wherever disks make them, each line that a
 /// commit was done, by a store or by naming, stands behind the `committed` line of its action, or behind the line that a restart found its record. It does
@@ -25,13 +25,17 @@ pub fn one_outcome_tells_journals_apart()
 
 /// The definition of stores that are excluded in time, tried on what nodes have at the end of a small journal: a store that has the state
 /// prepared and one that is about to be taken out are in time; where the entry without that one isn't prepared, it isn't. The top is new in
-/// the event with its `committed` line, and not later. It does nothing when it runs.
+/// the event with its `committed` line, and not later. So it is by the files of such disks. It does nothing when it runs.
 pub fn exclusion_in_time_tells_disks_apart()
     ensures prepared { IsInTime header decided_lines 1 naming_node store_two its_top 2 }
     ensures taken_out { IsInTime header decided_lines 1 naming_node store_three its_top 3 }
     ensures late { IsInTime header decided_lines 1 naming_late store_three its_top 3 → ⊥ }
     ensures new { IsNew 5 decided_lines its_top }
     ensures old { IsNew 6 decided_lines its_top → ⊥ }
+    ensures lists { Lists (disks_late 1) 1 3 }
+    ensures file_prepared { FileIsInTime header decided_lines 1 disks_decided its_top 2 }
+    ensures file_taken_out { FileIsInTime header decided_lines 1 disks_decided its_top 3 }
+    ensures file_late { FileIsInTime header decided_lines 1 disks_late its_top 3 → ⊥ }
 {}
 
 /// Take a world in which each object's disk machine is seen with its decided tops tied to the journal, what stands of objects is of their
