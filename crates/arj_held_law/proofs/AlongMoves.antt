@@ -1,7 +1,8 @@
--- After moves each object was seen at each place of the journal, so that calls are held at each line.
+-- After moves each object was seen at each place of the journal, so that calls and includes are held at each line.
 use Rattle.std.proofs.Common.{◌≡◌, ◌⊎◌, ◌≤◌, ◌<◌, ◌+◌, ℕ, List, [], ◌∷◌, true, length, take, is_some, refl, inl, inr, ⊎_elim, arith}
 use Rattle.arj_journal.specs.ScriptForm.{HeaderInForm}
-use Rattle.arj_model.specs.Last.{first_values, object_line}
+use Rattle.arj_lock.proofs.Members.{in_to}
+use Rattle.arj_model.specs.Last.{first_values, included, object_line}
 use Rattle.arj_protocol.specs.Words.{Event, Header}
 use Rattle.arj_protocol.specs.Words.event
 use Rattle.arj_protocol.specs.World.{Asked, World, format, run_event}
@@ -13,13 +14,14 @@ use Rattle.arj_binding_law.proofs.Events.{moves_reached}
 use Rattle.arj_disk_run_law.specs.Kinds.{kinds_of}
 use Rattle.arj_disk_run_law.proofs.Begun.{kinds_agree}
 use Rattle.arj_lock_law.specs.State.{State}
+use Rattle.arj_lock_fact_law.specs.Entries.{HasObject}
 use Rattle.arj_lock_run_law.specs.Fixed.{AgreesAs, Fixed}
 use Rattle.arj_lock_run_law.specs.Sees.{SeesLocks}
 use Rattle.arj_lock_run_law.specs.Tied.{AreTied}
 use Rattle.arj_serial_law.specs.Seen.{RequestsAreOne}
 use Rattle.arj_serial_law.specs.Tied.{AreApart}
 use Rattle.arj_serial_law.proofs.Codes.{codes_are_apart}
-use Rattle.arj_lock_whole_law.proofs.WholeRuns.{runs_call_objects}
+use Rattle.arj_lock_whole_law.proofs.WholeRuns.{runs_call_objects, runs_include_objects}
 use Rattle.arj_joint_law.specs.Fit.{OpsFit}
 use Rattle.arj_joint_law.proofs.Clean.{object_some}
 use Rattle.arj_joint_law.proofs.FitRuns.{moves_fit}
@@ -110,6 +112,7 @@ module _ (hd : Header) (x : ℕ) (form : HeaderInForm hd) (there : is_some (obje
     its_object = of_each (first_values hd) x M j.0 j.1 seen knows placed
 
 pub runs_hold_each : RunsHoldEach
-runs_hold_each hd ms f = held_each (journal_by hd ms) (first_values hd) (λ x called.
-    let there = object_some hd x (runs_call_objects hd ms x called) in
-    its_object hd x f.header there (world_by hd ms) (moves_reached hd ms f.few) (moves_fit hd x ms f.events) (moves_along hd x f.header there ms))
+runs_hold_each hd ms f = held_each (journal_by hd ms) (first_values hd) (λ x called. of_object x (runs_call_objects hd ms x called)) (λ i there. let has = runs_include_objects hd ms i (in_to i (included (journal_by hd ms)) there) in of_object i.it.x has.0)
+  where
+    of_object : (x : ℕ) → HasObject hd x → OfEach (journal_by hd ms) x
+    of_object x has = let there = object_some hd x has in its_object hd x f.header there (world_by hd ms) (moves_reached hd ms f.few) (moves_fit hd x ms f.events) (moves_along hd x f.header there ms)

@@ -1,15 +1,18 @@
--- Each surviving call is locked for in the journal's tables at each place, where the machine of its object was seen at each.
-use Rattle.std.proofs.Common.{◌≡◌, ◌<◌, ◌≤◌, ◌+◌, ◌∙◌, ◌==◌, ◌&&◌, ℕ, List, [], ◌∷◌, length, take, Bool, true, false, Option, Some, None, refl, sym, ap, subst, inl, inr, arith, Contains}
-use Rattle.std.specs.List.{AllByRecursion, list_any}
+-- Each surviving call is locked for in the journal's tables at each place, and entries are for calls and includes, where the machine of the object was seen at each.
+use Rattle.std.proofs.Common.{◌≡◌, ◌<◌, ◌≤◌, ◌+◌, ◌∙◌, ◌==◌, ◌&&◌, ℕ, zero, suc, List, [], ◌∷◌, length, take, slice_get, eqb-true, Bool, true, false, Option, Some, None, refl, sym, ap, subst, inl, inr, arith, Contains}
+use Rattle.std.specs.List.{AllByRecursion, list_all, list_any}
 use Rattle.std.specs.Prelude.{◌||◌}
 use Rattle.std.proofs.Math.Bool.{Bool-set}
+use Rattle.std.proofs.lemmas.Bool.{and_parts}
 use Rattle.arj_base.specs.Rows.{Row, is_on, last_uid}
-use Rattle.arj_lock.proofs.Members.{In, in_from, in_to}
+use Rattle.arj_base.specs.Uid.{entry}
+use Rattle.arj_lock.proofs.Members.{In, in_filter, in_from, in_to}
 use Rattle.arj_protocol.specs.Words.{Body, Line, name, uids_of}
 use Rattle.arj_protocol.specs.Words.body
-use Rattle.arj_model.specs.Actions.{Act, Begun, Placed, acts, acts_after, acts_from, begun_of, numbered, path, put, read, uids}
-use Rattle.arj_model.specs.Calls.{Call, Said, committed_calls, said, said_of}
-use Rattle.arj_model.specs.Serial.{Values}
+use Rattle.arj_model.specs.Actions.{Act, Begun, Placed, acts, acts_after, acts_from, begun_of, chain_in, committed, has_end, numbered, path, put, read, top_in, uids}
+use Rattle.arj_model.specs.Calls.{Call, Said, Top, committed_calls, said, said_of, tops}
+use Rattle.arj_model.specs.Last.{Inclusion, included, included_of}
+use Rattle.arj_model.specs.Serial.{Values, unit_place}
 use Rattle.arj_law.specs.Held.{AreAtOneNode, IsHeldAt, locks_for, tables_of, unit_end}
 use Rattle.arj_part_law.specs.Actions.{Action, act_of, paths_of}
 use Rattle.arj_view_law.specs.Seen.{Seen}
@@ -25,7 +28,7 @@ use Rattle.arj_lock_run_law.specs.Fixed.{AgreesAs, Fixed}
 use Rattle.arj_lock_run_law.specs.Sees.{SeesLocks}
 use Rattle.arj_lock_run_law.specs.Tied.{AreTied}
 use Rattle.arj_serial_law.specs.Codes.{code_of}
-use Rattle.arj_serial_law.specs.Locked.{IsSeenAt, caller_at, locks_call, ran_at}
+use Rattle.arj_serial_law.specs.Locked.{IsSeenAt, IsWrittenIn, caller_at, joins_top, joins_with, locks_call, locks_entry, ran_at, writes_entry}
 use Rattle.arj_serial_law.specs.Seen.{IsCalled, RequestsAreOne}
 use Rattle.arj_serial_law.specs.Tied.{AreApart, Began, IsTied, path_of}
 use Rattle.arj_serial_law.proofs.Begun.{path_same}
@@ -36,8 +39,9 @@ use Rattle.arj_serial_law.proofs.Paths.{own_there}
 use Rattle.arj_serial_law.proofs.Seeing.{agrees_at, fixed_at, tied_at, tree}
 use Rattle.arj_held_law.specs.Along.{HoldsEach}
 use Rattle.arj_held_law.proofs.Acted.{HasActs}
+use Rattle.arj_held_law.proofs.Names.{IsNamed}
 use Rattle.arj_held_law.proofs.Places.{IsPlaced}
-use Rattle.arj_held_law.proofs.Placing.{locked_there}
+use Rattle.arj_held_law.proofs.Placing.{entry_there, locked_there, unit_line, written_there}
 
 -- ---- lines by which no action began
 
@@ -59,13 +63,31 @@ no_path us n (l ∷ ls) none s i = by l.body (none_before us (l ∷ ls) none) i 
     by (body.Ok m x o a) empty (inr j) rest = rest j
     by b empty j rest = rest j
 
+-- nor has who included then
+no_joins : (us : List Act) (n : ℕ) (ls : List Line) → acts_from us ls ≡ [] → (s : Placed Inclusion) → In s (read included_of us n ls) → s.it.path ≡ []
+no_joins us n [] none s i = absurd i
+no_joins us n (l ∷ ls) none s i = by l.body (none_before us (l ∷ ls) none) i (no_joins (acts_after us l.body) (n + 1) ls none s)
+  where
+    by : (b : Body) → us ≡ [] → In s (put n (included_of us b) (read included_of (acts_after us l.body) (n + 1) ls)) → (In s (read included_of (acts_after us l.body) (n + 1) ls) → s.it.path ≡ []) → s.it.path ≡ []
+    by (body.Includes m x k) empty (inl is) rest = sym (ap (λ (z : Placed Inclusion). z.it.path) is) ∙ ap (λ (vs : List Act). path vs (name m)) empty
+    by (body.Includes m x k) empty (inr j) rest = rest j
+    by b empty j rest = rest j
+
+-- a line of a journal stands before its end
+got_less : (ls : List Line) (j : ℕ) (l : Line) → slice_get ls j ≡ Some l → j < length ls
+got_less [] j l is = absurd (cc is)
+got_less (k ∷ ls) zero l is = omega arith
+got_less (k ∷ ls) (suc j) l is = let less = got_less ls j l is in omega (arith, less)
+
 -- ---- one object
 
--- all that is held of an object's calls at each line
+-- all that is held of an object's calls and includes at each line
 pub record OfEach (lines : List Line) (x : ℕ) : Type 0 where
   pub node : Call → ℕ
   pub answered : (c : Call) → In c (committed_calls lines) → c.x ≡ x → c.at < unit_end lines c
   pub held : (c : Call) → In c (committed_calls lines) → c.x ≡ x → (p : ℕ) → c.at < p → p ≤ unit_end lines c → list_any (locks_call lines c) (tables_of lines (node c) p) ≡ true
+  pub entries : (c : Call) → In c (committed_calls lines) → c.x ≡ x → (p : ℕ) → c.at < p → p ≤ unit_end lines c → list_any (locks_entry lines c) (tables_of lines 1 p) ≡ true
+  pub written : (u : Top) → In u (tops lines) → (i : Placed Inclusion) → In i (joins_with lines u) → i.it.x ≡ x → (p : ℕ) → i.at < p → p ≤ unit_place (tops lines) u.root → IsWrittenIn lines (tables_of lines 1 p) u x
   pub one : (c d : Call) → In c (committed_calls lines) → In d (committed_calls lines) → c.x ≡ x → d.x ≡ x → AreAtOneNode lines node c d
 
 -- an action that was begun is one of the journal
@@ -97,6 +119,9 @@ module _ (values : Values) (x : ℕ) (M : Seen) (begun : List Action) (alike : I
 
   sound : AreSound (acts lines)
   sound = its_sound lines right
+
+  its_action : (a : Action) → Contains begun a → (b : Act) × Began lines b × (b.uid ≡ act_of a)
+  its_action a there = let r = journal_has begun (acts lines) (subst (AreAlike begun) (its_acts lines right) alike.1) a (in_from a begun there) in (r.0, in_to r.0 (acts lines) r.1, r.2)
 
   -- whose paths are those of the journal
   its_path : (a : Action) → Contains begun a → (b : Act) × Began lines b × (uids_of a.path ≡ uids (path_of lines b))
@@ -139,12 +164,55 @@ module _ (values : Values) (x : ℕ) (M : Seen) (begun : List Action) (alike : I
         (locked_there values lines right x last t c s h.front p behind within h.place at h.servers h.to h.incs h.actives h.rows
         (λ n r i of. let k = h.known n r i in let b = its_path k.0 k.1 in (b.0, b.1, k.2 ∙ b.2)) h.sees)
 
+    -- where naming was seen, as it was there
+    abbrev Named : ℕ → Type 0
+    Named p = IsNamed fixed x begun last lines p
+
+    abbrev seen_at : (p : ℕ) (q : Named p) → IsSeenAt values lines x last t q.front
+    seen_at p q = record { state = q.state; before = q.run; behind = q.behind; tied = q.tied values (let a = agreed in a.1) }
+
+    its_askers : (p : ℕ) (q : Named p) (r : Row) → Contains q.rows r → r.object ≡ entry x → (b : Act) × Began lines b × (last_uid r.holder ≡ b.uid)
+    its_askers p q r i of = let k = q.known r i in let b = its_action k.0 k.1 in (b.0, b.1, k.2 ∙ sym b.2)
+
+    entry_at : (c : Call) → Shows c → (p : ℕ) → c.at < p → p ≤ unit_end lines c → list_any (locks_entry lines c) (tables_of lines 1 p) ≡ true
+    entry_at c s p behind within =
+        let h = placed p (let e = end_there c s in omega (arith, e, within)) (acted c s p behind) in
+        let q : Named p = h.named in
+        q.shown (locks_entry lines c) (entry_there values lines right x last t c s q.front p behind within q.place (seen_at p q) q.rows (its_askers p q) q.sees)
+
+    written_at : (u : Top) → In u (tops lines) → (i : Placed Inclusion) → In i (joins_with lines u) → i.it.x ≡ x → (p : ℕ) → i.at < p → p ≤ unit_place (tops lines) u.root → IsWrittenIn lines (tables_of lines 1 p) u x
+    written_at u listed i there object p behind within =
+        let f = in_filter (λ (z : Placed Inclusion). joins_top lines u z (top_in z.it.path)) i (included lines) there in
+        by f.0 (top_in i.it.path) refl f.1
+      where
+        bound : p ≤ length lines
+        bound = let l = unit_line lines right u.root p (omega (arith, behind)) within in let less = got_less lines (unit_place (tops lines) u.root) l.0 l.1 in omega (arith, less, within)
+
+        -- an action began before it
+        joined : In i (included lines) → (a : Act) → top_in i.it.path ≡ Some a → HasActs (take p lines)
+        joined j a is none =
+            let empty = no_joins [] 0 (take p lines) none i (read_taken included_of [] 0 lines p i j (omega (arith, behind))) in
+            let no_way : ◌≡◌ {A = Option Act} None (Some a) = sym (ap top_in empty) ∙ is in
+            cc no_way
+
+        by : In i (included lines) → (o : Option Act) → top_in i.it.path ≡ o → joins_top lines u i o ≡ true → IsWrittenIn lines (tables_of lines 1 p) u x
+        by j None is e = absurd (cc e)
+        by j (Some a) is e =
+            let z = and_parts (a.id == u.id) (list_all (λ (b : Act). has_end (committed lines) b.id) (chain_in i.it.path)) e in
+            let h = placed p bound (joined j a is) in
+            let q : Named p = h.named in
+            q.shown (writes_entry lines x u.root)
+            (written_there values lines right x last t u listed i j object a is (eqb-true a.id u.id z.0) z.1 q.front p behind within q.place (seen_at p q) q.locks q.rows
+            (record { servers = q.locks_seen; naming = q.sees; holders = λ n r k of. let w = q.locks_known n r k in let b = its_path w.0 w.1 in (b.0, b.1, w.2 ∙ b.2); askers = its_askers p q }))
+
     -- all of the object
     pub of_each : OfEach lines x
     of_each = record {
       node = ran_at values lines x last t;
       answered = λ c i object. answered values lines right x last t c (is_shown c i object);
       held = λ c i object. held_at c (is_shown c i object);
+      entries = λ c i object. entry_at c (is_shown c i object);
+      written = written_at;
       one = λ c d i j cx dx apart same less within. at_one_node values lines right x last t c d (is_shown c i cx) (is_shown d j dx) apart less within;
     }
       where
@@ -162,11 +230,11 @@ first_of_both f g (x ∷ xs) is = by (f x) (g x) is (first_of_both f g xs)
     by true b h ih = refl
     by false b h ih = ih h
 
-each_call : (P : Call → Type 0) (cs : List Call) → ((c : Call) → In c cs → P c) → AllByRecursion P cs
-each_call P [] f = tt
-each_call P (c ∷ cs) f = (f c (inl refl), each_call P cs (λ d i. f d (inr i)))
+each_of : {A : Type 0} (P : A → Type 0) (cs : List A) → ((c : A) → In c cs → P c) → AllByRecursion P cs
+each_of P [] f = tt
+each_of P (c ∷ cs) f = (f c (inl refl), each_of P cs (λ d i. f d (inr i)))
 
-module _ (lines : List Line) (values : Values) (object_of : (x : ℕ) → IsCalled x lines → OfEach lines x) where
+module _ (lines : List Line) (values : Values) (object_of : (x : ℕ) → IsCalled x lines → OfEach lines x) (include_of : (i : Placed Inclusion) → In i (included lines) → OfEach lines i.it.x) where
   abbrev is_called : ℕ → Bool
   is_called x = list_any (λ (s : Placed Said). s.it.x == x) (said lines)
 
@@ -194,12 +262,16 @@ module _ (lines : List Line) (values : Values) (object_of : (x : ℕ) → IsCall
   pub held_each : HoldsEach lines
   held_each = record {
     node = node_of;
-    held = each_call (λ c. IsHeldAt lines (tables_of lines) (node_of c) c) (committed_calls lines) (λ c i. record {
+    held = each_of (λ c. IsHeldAt lines (tables_of lines) (node_of c) c) (committed_calls lines) (λ c i. record {
       answered = let o = object_of c.x (there c i) in o.answered c i refl;
       locked = λ p behind within. first_of_both (locks_for lines c) (λ (r : Row). is_on (caller_at c.at (said lines)) (last_uid r.holder)) (tables_of lines (node_of c) p) (lock_at c i p behind within);
     });
-    callers = each_call (λ (c : Call). (p : ℕ) → c.at < p → p ≤ unit_end lines c → list_any (locks_call lines c) (tables_of lines (node_of c) p) ≡ true) (committed_calls lines) lock_at;
-    at_one = each_call (λ c. AllByRecursion (AreAtOneNode lines node_of c) (committed_calls lines)) (committed_calls lines) (λ c i. each_call (AreAtOneNode lines node_of c) (committed_calls lines) (λ d j apart same less within.
+    callers = each_of (λ (c : Call). (p : ℕ) → c.at < p → p ≤ unit_end lines c → list_any (locks_call lines c) (tables_of lines (node_of c) p) ≡ true) (committed_calls lines) lock_at;
+    entries = each_of (λ (c : Call). (p : ℕ) → c.at < p → p ≤ unit_end lines c → list_any (locks_entry lines c) (tables_of lines 1 p) ≡ true) (committed_calls lines) (λ c i. let o = object_of c.x (there c i) in o.entries c i refl);
+    includes = each_of (λ (u : Top). AllByRecursion (λ (i : Placed Inclusion). (p : ℕ) → i.at < p → p ≤ unit_place (tops lines) u.root → IsWrittenIn lines (tables_of lines 1 p) u i.it.x) (joins_with lines u)) (tops lines)
+        (λ u listed. each_of (λ (i : Placed Inclusion). (p : ℕ) → i.at < p → p ≤ unit_place (tops lines) u.root → IsWrittenIn lines (tables_of lines 1 p) u i.it.x) (joins_with lines u)
+        (λ i joins. let f = in_filter (λ (z : Placed Inclusion). joins_top lines u z (top_in z.it.path)) i (included lines) joins in let o = include_of i f.0 in o.written u listed i joins refl));
+    at_one = each_of (λ c. AllByRecursion (AreAtOneNode lines node_of c) (committed_calls lines)) (committed_calls lines) (λ c i. each_of (AreAtOneNode lines node_of c) (committed_calls lines) (λ d j apart same less within.
         let o = object_of c.x (there c i) in
         its_node c i ∙ o.one c d i j refl (sym same) apart same less within ∙ sym (node_same c.x (is_called c.x) refl d (there c i)) ∙ (λ k. node_at (same k) (is_called (same k)) refl d)));
   }

@@ -119,7 +119,7 @@ module _ (values : Values) (lines : List Line) (right : AreRight new_book lines)
 -- ---- includes
 
 -- at the last place of a unit that has one a commit is called
-unit_line : (lines : List Line) → AreRight new_book lines → (r p : ℕ) → 0 < p → p ≤ unit_place (tops lines) r → (l : Line) × (slice_get lines (unit_place (tops lines) r) ≡ Some l) × (calls_commit l.body ≡ true)
+pub unit_line : (lines : List Line) → AreRight new_book lines → (r p : ℕ) → 0 < p → p ≤ unit_place (tops lines) r → (l : Line) × (slice_get lines (unit_place (tops lines) r) ≡ Some l) × (calls_commit l.body ≡ true)
 unit_line lines right r p some within = ⊎_elim (λ (none : unit_place (tops lines) r ≡ 0). absurd (omega (arith, some, within, none))) found (unit_last (tops lines) r)
   where
     found : (u : Top) × In u (tops lines) × (u.root ≡ r) × (u.at ≡ unit_place (tops lines) r) → (l : Line) × (slice_get lines (unit_place (tops lines) r) ≡ Some l) × (calls_commit l.body ≡ true)
