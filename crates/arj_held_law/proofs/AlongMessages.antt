@@ -90,7 +90,7 @@ coord_same k d t v from (message.Query m) outs off is =
 coord_same k d t v from m outs off is = by (answers m) refl (is_answer m refl off)
   where
     by : (o : Option (Asked × Reply)) → answers m ≡ o → is_some o ≡ true → (v.server ≡ t.server) × (v.naming ≡ t.naming)
-    by None of some = cc some
+    by None of some = let no_way : false ≡ true = some in absurd (cc no_way)
     by (Some a) of some =
         let n = subst (λ w. handle k d t from w ≡ Took v outs) (response_is m a of) is in
         let q = took_heard t v (heard from a.0 a.1 d.intents t.coord) outs (sym (handled_answer k d t from a.0 a.1) ∙ n) in

@@ -5,8 +5,9 @@
 //! lines are of one event (`proofs/Keeping.antt`), by which no lock is given back as those of a restart are; and what a restart gives back, the
 //! table has with each action alone (`proofs/Starts.antt`). So held and entry held are laws of the journal's own tables, at the end of each event
 //! (`runs_hold_locks_in_tables`). Inside of an event the object's lock machine is seen at each line in the state before or behind what a node did, or behind
-//! some of the ends that came to a server (`proofs/AlongKept.antt`), and at those of a restart in the state behind it (`proofs/RestartPlaces.antt`): so held
-//! is a law at each line (`runs_hold_locks_at_each_line`).
+//! some of the ends that came to a server (`proofs/AlongKept.antt`), and at those of a restart in the state behind it (`proofs/RestartPlaces.antt`). Beside it
+//! naming is: a message changes its locks on an entry by one line at most (`proofs/NamedRuns.antt`), so that at each line they are those before it or those
+//! behind (`proofs/Names.antt`). So held, and entry held, are laws at each line (`runs_hold_locks_at_each_line`).
 #![tactic(auto)]
 
 mod along;
