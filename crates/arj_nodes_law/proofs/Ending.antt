@@ -24,7 +24,7 @@ use Rattle.arj_joint_law.specs.Outcome.{ShowsOneOutcome, aborts_have_cause, comm
 use Rattle.arj_joint_law.proofs.BookRuns.{runs_keep_the_book}
 use Rattle.arj_joint_law.proofs.Clean.{joined_runs_are_serial, runs_are_clean}
 use Rattle.arj_nodes_law.specs.Last.{EndsBehind, IsLast, LastLinesTakeNothing, RunsShow, Shows, ends_run}
-use Rattle.arj_nodes_law.proofs.Outcomes.{moves_show}
+use Rattle.arj_settle_law.proofs.Aborting.{runs_show as one_outcome}
 
 -- ---- what is read of the line
 
@@ -172,6 +172,6 @@ pub runs_show : RunsShow
 runs_show hd ms disks form files = record {
   serial = joined_runs_are_serial hd ms form;
   book = runs_keep_the_book hd ms form;
-  outcome = moves_show hd ms;
+  outcome = one_outcome hd ms;
   clean = runs_are_clean hd ms disks form files;
 }

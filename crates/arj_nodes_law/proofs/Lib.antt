@@ -1,4 +1,3 @@
-pub mod Outcomes
 pub mod Ending
 pub mod Reading
 pub mod Turning

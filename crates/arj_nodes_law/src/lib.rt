@@ -7,13 +7,11 @@
 //! behind its journal, takes nothing of what the journal shows (`specs/Last.antt`). So the journal that `nodes` leaves is serial, keeps the lock
 //! book, shows one outcome of each top, and its disks' files are clean. It stands on `arj_nodes`, and on the laws of `arj_joint_law` and
 //! `arj_settle_law`. What it gives upward: `nodes_run_moves`, `nodes_show_what_is_promised`, `runs_show_what_is_promised`,
-//! `last_lines_take_nothing`, `moves_show_one_outcome`.
+//! `last_lines_take_nothing`.
 #![tactic(auto)]
 
 mod ends;
-mod runs;
 mod turns;
 
 pub use ends::{last_lines_take_nothing, runs_show_what_is_promised};
-pub use runs::moves_show_one_outcome;
 pub use turns::{nodes_run_moves, nodes_show_what_is_promised};
