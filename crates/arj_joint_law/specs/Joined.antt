@@ -106,7 +106,7 @@ IsPaired x P f begun S M = (tops : Kinds) × (tops.walk ≡ None) × (A : Office
 abbrev pub IsCountedJoined : Seen → Type 0
 IsCountedJoined M = (AreGoodCounted M × IsKept M) × NodesAreThere M
 
--- and what is known in every run of a script
+-- and what is known in every run of at most 1,000,000 events
 abbrev pub IsKnownJoined : Seen → Type 0
 IsKnownJoined M = IsCountedJoined M × KnowsScript M
 

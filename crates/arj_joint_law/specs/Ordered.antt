@@ -110,6 +110,6 @@ pub record IsOrderedSo (hd : Header) (x : ℕ) (M : Seen) : Type 0 where
   pub spared : AreSpared M.lines x (let j = (let b = begun in b.journalled) in let W = j.machine in W.disk)
   pub know : IncludersKnow M.lines (let j = (let b = begun in b.journalled) in let W = j.machine in let S = W.disk in S.tops)
 
--- So it is in the run of every script in form, of each object of the header.
+-- So it is after all moves in form, of each object of the header.
 abbrev pub RunsAreOrdered : Type 0
 RunsAreOrdered = (hd : Header) (ms : List Move) → IsInForm hd ms → (x : ℕ) → is_some (object_line hd x) ≡ true → Holds hd (IsOrderedSo hd x) (world_by hd ms)
