@@ -22,15 +22,15 @@ use Rattle.arj_lock_fact_law.specs.Uppers.{AreUppersOf}
 use Rattle.arj_lock_run_law.specs.Fixed.{AgreesBy, Fixed}
 use Rattle.arj_lock_run_law.specs.Sees.{SeesLocks}
 use Rattle.arj_lock_run_law.specs.Tied.{AreTied}
-use Rattle.arj_lock_whole_law.specs.Held.{locks_in, memory_of}
+use Rattle.arj_held_law.specs.Held.{locks_in, memory_of}
 use Rattle.arj_lock_whole_law.specs.Tops.{HoldsNames}
 use Rattle.arj_table_law.specs.Tables.{rows_on, up_of}
 use Rattle.arj_joint_law.specs.Apt.{IsApt}
-use Rattle.arj_joint_law.proofs.HeldRuns.{calm}
+use Rattle.arj_joint_law.proofs.Carrying.{calm}
 use Rattle.arj_held_law.proofs.Acted.{HasActs, none_taken, wider_by}
 use Rattle.arj_held_law.proofs.AlongKept.{Along, Beside, Turns, along_kept, coming_first, turned}
 use Rattle.arj_held_law.proofs.Events.{IsShown, event_shown, first_is_shown, first_showing, later_off}
-use Rattle.arj_held_law.proofs.Holding.{any_shown}
+use Rattle.arj_held_law.proofs.Among.{any_shown}
 use Rattle.arj_held_law.proofs.Lines.{Since, since_all}
 use Rattle.arj_held_law.proofs.Marks.{Guard, take_all}
 use Rattle.arj_held_law.proofs.OnLines.{Before}
@@ -175,7 +175,7 @@ module _ (hd : Header) (x : ℕ) (form : HeaderInForm hd) (there : is_some (obje
     where
       at_first : Along hd x form there 0 1 (see [] (format hd))
       at_first = (
-        ((let c = calm hd x form there in c.first), first_showing hd 1),
+        ((let c = calm hd in c.first), first_showing hd 1),
         (λ few. coming_first hd x form there 0 1),
       )
 

@@ -47,7 +47,7 @@ use Rattle.arj_lock_run_law.specs.Tied.{AreTied}
 use Rattle.arj_lock_run_law.specs.World.{is_for_parts}
 use Rattle.arj_lock_run_law.proofs.ShownSteps.{shown_to_server, up_here}
 use Rattle.arj_lock_whole_law.specs.Called.{SayOf}
-use Rattle.arj_lock_whole_law.specs.Held.{locks_in, memory_of}
+use Rattle.arj_held_law.specs.Held.{locks_in, memory_of}
 use Rattle.arj_lock_whole_law.specs.Tops.{HoldsNames}
 use Rattle.arj_lock_whole_law.specs.Whole.{KnowsWhole}
 use Rattle.arj_lock_whole_law.proofs.CalledSays.{calls_commit}
@@ -55,8 +55,8 @@ use Rattle.arj_lock_whole_law.proofs.Gives.{gives_locks}
 use Rattle.arj_joint_law.specs.Apt.{IsApt}
 use Rattle.arj_joint_law.specs.Fit.{OpsFit}
 use Rattle.arj_joint_law.specs.Joined.{IsPaired}
-use Rattle.arj_joint_law.proofs.GivenOn.{AreFew, IsGrown, as_it_is, few_first, few_walk, fewer_labels, grown_said}
-use Rattle.arj_joint_law.proofs.HeldRuns.{Calm, IsCarriedThere, IsThere, beside_given, calm, know}
+use Rattle.arj_joint_law.proofs.Grown.{AreFew, IsGrown, as_it_is, few_first, few_walk, fewer_labels, grown_said}
+use Rattle.arj_joint_law.proofs.Carrying.{Calm, IsCarriedThere, IsThere, beside_given, calm, know}
 use Rattle.arj_joint_law.proofs.JoinedParts.{Base, Carried, Whole, header_has}
 use Rattle.arj_joint_law.proofs.Joining.{WithLocks}
 use Rattle.arj_joint_law.proofs.RestGiven.{rest_beside}
@@ -181,7 +181,7 @@ module _ (hd : Header) (x : ℕ) (form : HeaderInForm hd) (there : is_some (obje
 
   -- what is kept from the beginning of an event on
   abbrev pub Along : Seen → Type 0
-  Along M = (Calm hd x form there M × Showing hd first event M) × (AreFew M → Comes M M)
+  Along M = (Calm M × Showing hd first event M) × (AreFew M → Comes M M)
 
   -- ---- what messages bring
 
@@ -224,16 +224,16 @@ module _ (hd : Header) (x : ℕ) (form : HeaderInForm hd) (there : is_some (obje
   still_walk begun M e k outs v d N p walk = walks_to (IsPathedOf begun) (Still Apt x Known first event M) e k outs (Up (IsPathedOf begun) k v) (Up (Still Apt x Known first event M) k v) d N (λ Z q. still_by begun M Z p q) (λ c Z q. still_by begun M (up k c v Z) p q) walk
 
   knows : (M : Seen) → Along M → AreFew M → KnowsScript M × Acted M M
-  knows M h few = ((know hd x form there M h.0.0 few.0, few.1), acted M)
+  knows M h few = ((know M h.0.0 few.0, few.1), acted M)
 
   coming_walk : (M : Seen) (e k : ℕ) (outs : List Effect) (v : Parts) (d : Disk) (N : Seen) → Walks (Goes M) e k outs (Up (Goes M) k v) d N → Walks (Comes M) e k outs (Up (Comes M) k v) d N → Walks (λ Z. Comes Z Z) e k outs (Up (λ Z. Comes Z Z) k v) d N
   coming_walk M e k outs v d N one two = walks_to (λ Z. Goes M Z × Comes M Z) (λ Z. Comes Z Z) e k outs (λ c Z. Up (Goes M) k v c Z × Up (Comes M) k v c Z) (Up (λ Z. Comes Z Z) k v) d N (λ Z h. again M Z h.0 h.1) (λ c Z h. again M (up k c v Z) h.0 h.1)
       (walks_both (Goes M) (Comes M) e k outs (Up (Goes M) k v) (Up (Comes M) k v) d N one two)
 
-  along_walk : (M : Seen) (e k : ℕ) (outs : List Effect) (v : Parts) (d : Disk) (N : Seen) → IsGrown M N → Walks (Calm hd x form there) e k outs (Up (Calm hd x form there) k v) d N → Walks (Showing hd first event) e k outs (Up (Showing hd first event) k v) d N
+  along_walk : (M : Seen) (e k : ℕ) (outs : List Effect) (v : Parts) (d : Disk) (N : Seen) → IsGrown M N → Walks Calm e k outs (Up Calm k v) d N → Walks (Showing hd first event) e k outs (Up (Showing hd first event) k v) d N
       → (AreFew M → Walks (λ Z. Comes Z Z) e k outs (Up (λ Z. Comes Z Z) k v) d N) → Walks Along e k outs (Up Along k v) d N
-  along_walk M e k outs v d N grown one two three = walks_both (λ Z. Calm hd x form there Z × Showing hd first event Z) (λ Z. AreFew Z → Comes Z Z) e k outs (λ c Z. Up (Calm hd x form there) k v c Z × Up (Showing hd first event) k v c Z) (Up (λ Z. AreFew Z → Comes Z Z) k v) d N
-      (walks_both (Calm hd x form there) (Showing hd first event) e k outs (Up (Calm hd x form there) k v) (Up (Showing hd first event) k v) d N one two) (few_walk (λ Z. Comes Z Z) M e k outs v d N grown three)
+  along_walk M e k outs v d N grown one two three = walks_both (λ Z. Calm Z × Showing hd first event Z) (λ Z. AreFew Z → Comes Z Z) e k outs (λ c Z. Up Calm k v c Z × Up (Showing hd first event) k v c Z) (Up (λ Z. AreFew Z → Comes Z Z) k v) d N
+      (walks_both Calm (Showing hd first event) e k outs (Up Calm k v) (Up (Showing hd first event) k v) d N one two) (few_walk (λ Z. Comes Z Z) M e k outs v d N grown three)
 
   here_up : (k : ℕ) (d : Disk) (t : Parts) (M : Seen) → IsGrown (up k d t M) M
   here_up k d t M = record { more = []; lines = nothing_more M.lines; labels = refl }
@@ -249,21 +249,21 @@ module _ (hd : Header) (x : ℕ) (form : HeaderInForm hd) (there : is_some (obje
 
   pub along_kept : (F : Type 0) → F → KeepsFrom hd F Along
   along_kept F at_first = record {
-    quiet = λ e bs M quiet h. let quietly = calm hd x form there in (
+    quiet = λ e bs M quiet h. let quietly = calm hd in (
       (quietly.quiet e bs M quiet h.0.0, shows.quiet e bs M quiet h.0.1),
       (λ few.
           let less = few_first M (said e bs M) (grown_said e bs M M (as_it_is M)) few in
           let g = coming_given M in
           again M (said e bs M) (quiet_onward Apt x Known first event M h.0.1.2 e bs quiet) (g.quiet e bs M quiet (knows M h less) (h.1 less))),
     );
-    stop = λ e k d live M h. let quietly = calm hd x form there in (
+    stop = λ e k d live M h. let quietly = calm hd in (
       (quietly.stop e k d live M h.0.0, shows.stop e k d live M h.0.1),
       (λ few.
           let less = few_first (at k d live M) (halted e k d M) (grown_said e (body.Halted k ∷ []) (at k d live M) (down k d M) (here k d live M)) few in
           let g = coming_given (at k d live M) in
           again (at k d live M) (halted e k d M) (stop_along Apt x Known first event M e k d live h.0.1.2 d) (g.stop e k d live M (knows (at k d live M) h less) (h.1 less))),
     );
-    message = λ e k d t v from m outs M h sent meant is. let quietly = calm hd x form there in along_walk (up k d t M) e k outs v d M (here_up k d t M) (quietly.message e k d t v from m outs M h.0.0 sent meant is) (shows.message e k d t v from m outs M h.0.1 sent meant is) (λ few.
+    message = λ e k d t v from m outs M h sent meant is. let quietly = calm hd in along_walk (up k d t M) e k outs v d M (here_up k d t M) (quietly.message e k d t v from m outs M h.0.0 sent meant is) (shows.message e k d t v from m outs M h.0.1 sent meant is) (λ few.
         let begun = h.0.1.0 in
         let known = h.0.1.1 in
         let script = knows (up k d t M) h few in
@@ -277,7 +277,7 @@ module _ (hd : Header) (x : ℕ) (form : HeaderInForm hd) (there : is_some (obje
         (λ f S was mine. its_fronts k d t v from m outs M script.0.0 sent meant is mine f S was)
         (still_walk begun (up k d t M) e k outs v d M known.0 (message_pathed hd begun e k d t v from m outs M known.0 sent meant is)))
         (g.message e k d t v from m outs M script (h.1 few) sent meant is));
-    act = λ e k d t i M is asked free h. let quietly = calm hd x form there in
+    act = λ e k d t i M is asked free h. let quietly = calm hd in
         let did = does i d.intents t.coord in
         let own = acts_own i d.intents t.coord in
         along_walk (up k d t M) e k did.outs (with_coord t did.part) d M (here_up k d t M) (quietly.act e k d t i M is free h.0.0) (shows.act e k d t i M is asked free h.0.1) (λ few.
@@ -291,7 +291,7 @@ module _ (hd : Header) (x : ℕ) (form : HeaderInForm hd) (there : is_some (obje
         (still_walk begun (up k d t M) e k did.outs (with_coord t did.part) d M known.0 (act_pathed hd begun e k d t i M is free known.0)))
         (acts_apart t.coord i d.intents is))
         (g.act e k d t i M is free (knows (up k d t M) h few) (h.1 few)));
-    begin = λ e k d t l how parent M new may free h. let quietly = calm hd x form there in
+    begin = λ e k d t l how parent M new may free h. let quietly = calm hd in
         let did = begin_action l how parent (parent_of parent t.coord) t.coord in
         let own = acts_own (input.Begin l how parent) d.intents t.coord in
         let N = given l (record { node = k; serial = is_serial_kind how }) M in
@@ -301,7 +301,7 @@ module _ (hd : Header) (x : ℕ) (form : HeaderInForm hd) (there : is_some (obje
         coming_walk (up k d t M) e k did.outs (with_coord t did.part) d N
         (coord_along Apt x Known first event M e k d t (with_coord t did.part) did.outs h.0.1.2 N refl refl own (coord_all hd first event k did.outs own) refl refl (begin_commits l how parent t.coord))
         (g.begin e k d t l how parent M new may free (knows (up k d t M) h less) (h.1 less)));
-    tick = λ e k d t M h. let quietly = calm hd x form there in
+    tick = λ e k d t M h. let quietly = calm hd in
         let n : Node = record { number = k; disk = d; live = Some t } in
         let r = again_all t.coord.doings t.coord in
         let own = all_both is_coord_effect (r.outs ++ tolds_again t.coord.telling) (map query_about (holders d t)) (all_both is_coord_effect r.outs (tolds_again t.coord.telling) (again_own t.coord.doings t.coord) (tolds_again_own t.coord.telling)) (map_own query_about (holders d t) (λ u. refl)) in
@@ -310,7 +310,7 @@ module _ (hd : Header) (x : ℕ) (form : HeaderInForm hd) (there : is_some (obje
         coming_walk (up k d t M) e k (tick_outs n t) (with_coord t r.part) d M
         (coord_along Apt x Known first event M e k d t (with_coord t r.part) (tick_outs n t) h.0.1.2 M refl refl own (coord_all hd first event k (tick_outs n t) own) refl refl (tick_commits n t))
         (g.tick e k d t M (knows (up k d t M) h few) (h.1 few)));
-    restart = λ e k d M h. let quietly = calm hd x form there in along_walk (down k d M) e k (restart_outs hd k (d.inc + 1) d) (parts_in k (d.inc + 1) d) d M (here_down k d M) (quietly.restart e k d M h.0.0) (shows.restart e k d M h.0.1) (λ few.
+    restart = λ e k d M h. let quietly = calm hd in along_walk (down k d M) e k (restart_outs hd k (d.inc + 1) d) (parts_in k (d.inc + 1) d) d M (here_down k d M) (quietly.restart e k d M h.0.0) (shows.restart e k d M h.0.1) (λ few.
         let g = coming_given (down k d M) in
         coming_walk (down k d M) e k (restart_outs hd k (d.inc + 1) d) (parts_in k (d.inc + 1) d) d M
         (restart_along Apt x Known hd first event M e k d h.0.1.2)

@@ -32,7 +32,7 @@ use Rattle.arj_lock_run_law.specs.Fixed.{Fixed, view_of}
 use Rattle.arj_lock_run_law.specs.World.{is_for_parts}
 use Rattle.arj_lock_run_law.proofs.KeptSteps.{handled_answer, is_answer, response_is, took_heard}
 use Rattle.arj_lock_whole_law.specs.Called.{SayOf}
-use Rattle.arj_lock_whole_law.specs.Held.{entry_locks_in, locks_in, memory_of, named_locks}
+use Rattle.arj_held_law.specs.Held.{entry_locks_in, locks_in, memory_of, named_locks}
 use Rattle.arj_lock_whole_law.proofs.CalledSays.{calls_commit}
 use Rattle.arj_table_law.specs.Tables.{holders_in, is_steady, rows_on}
 use Rattle.arj_held_law.proofs.AlongSteps.{together}

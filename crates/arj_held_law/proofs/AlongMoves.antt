@@ -25,7 +25,7 @@ use Rattle.arj_lock_whole_law.proofs.WholeRuns.{runs_call_objects, runs_include_
 use Rattle.arj_joint_law.specs.Fit.{OpsFit}
 use Rattle.arj_joint_law.proofs.Clean.{object_some}
 use Rattle.arj_joint_law.proofs.FitRuns.{moves_fit}
-use Rattle.arj_joint_law.proofs.HeldRuns.{IsThere, know}
+use Rattle.arj_joint_law.proofs.Carrying.{IsThere, know}
 use Rattle.arj_joint_law.proofs.JoinedParts.{Base, Whole}
 use Rattle.arj_joint_law.proofs.Joining.{HasLocks}
 use Rattle.arj_joint_law.proofs.NextGiven.{one_requests}
@@ -99,7 +99,7 @@ module _ (hd : Header) (x : ℕ) (form : HeaderInForm hd) (there : is_some (obje
     seen f apart a = let g = j.3 f (a.0, (a.1, apart)) in (g.0, g.1, g.2)
 
     knows : RequestsAreOne M
-    knows = one_requests x j.0 M (know hd x form there M h.holds.0.0 reached.few) j.2.0
+    knows = one_requests x j.0 M (know M h.holds.0.0 reached.few) j.2.0
 
     placed : (p : ℕ) → p ≤ length w.lines → HasActs (take p w.lines) → IsPlaced (fixed (first_values hd) x M j.0 j.1 seen knows) x j.0 (last (first_values hd) x M j.0 j.1 seen knows) w.lines p
     placed p within has =

@@ -22,7 +22,7 @@ use Rattle.arj_view_law.proofs.Together.{walks_both, walks_to}
 use Rattle.arj_lock_law.specs.State.{State}
 use Rattle.arj_lock_run_law.specs.Fixed.{Fixed}
 use Rattle.arj_lock_whole_law.specs.Called.{SayOf}
-use Rattle.arj_lock_whole_law.specs.Held.{entry_locks_in, locks_in, memory_of, named_locks}
+use Rattle.arj_held_law.specs.Held.{entry_locks_in, locks_in, memory_of, named_locks}
 use Rattle.arj_lock_whole_law.proofs.CalledSays.{calls_commit}
 use Rattle.arj_table_law.specs.Tables.{rows_on, up_of}
 use Rattle.arj_held_law.proofs.Calling.{answers_call}

@@ -36,7 +36,7 @@ use Rattle.arj_view_law.specs.Seen.{Seen, see}
 use Rattle.arj_view_law.proofs.Happens.{arms_hold, event_asked, first_asked, place_same}
 use Rattle.arj_line_law.proofs.Paths.{first_pathed}
 use Rattle.arj_table_law.specs.Tables.{rows_on, up_of}
-use Rattle.arj_lock_whole_law.specs.Held.{memory_of, named_locks}
+use Rattle.arj_held_law.specs.Held.{memory_of, named_locks}
 use Rattle.arj_held_law.specs.Shown.{AreShown, ShowsLocks, TablesShowLocks}
 use Rattle.arj_held_law.proofs.Facts.{are_entries, facts_of, on_path, someone}
 use Rattle.arj_held_law.proofs.Keeping.{same_shown}

@@ -18,7 +18,7 @@ use Rattle.arj_view_law.specs.Seen.{AreQuiet, Post, Seen, at, posted, said, up}
 use Rattle.arj_view_law.specs.Walks.{Up, Walks, halted}
 use Rattle.arj_table_law.specs.Tables.{IsOfPart, holders_in, is_steady, rows_on, up_of}
 use Rattle.arj_table_law.proofs.Effects.{acts_stay}
-use Rattle.arj_lock_whole_law.specs.Held.{memory_of, named_locks}
+use Rattle.arj_held_law.specs.Held.{memory_of, named_locks}
 use Rattle.arj_held_law.specs.Shown.{ShowsLocks}
 use Rattle.arj_held_law.proofs.Sorts.{by_kind, is_of}
 use Rattle.arj_held_law.proofs.Lines.{Since, acts_on, halted_table, itself, other_starts, other_tables, own_line, quiet_acts, quiet_of, quiet_starts, quiet_table, since_last, since_less, start_before, ups_on}

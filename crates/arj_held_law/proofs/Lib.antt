@@ -10,7 +10,6 @@ pub mod Telling
 pub mod Starts
 pub mod Restarts
 pub mod Events
-pub mod Holding
 pub mod Machine
 pub mod Prefixes
 pub mod Calling
@@ -32,3 +31,6 @@ pub mod AlongKept
 pub mod AlongEvents
 pub mod AtEach
 pub mod AlongMoves
+pub mod Growing
+pub mod Among
+pub mod Holding

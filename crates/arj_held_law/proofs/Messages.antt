@@ -30,7 +30,7 @@ use Rattle.arj_past_law.specs.Told.{IsNamedBy, SaysPast}
 use Rattle.arj_disk_run_law.specs.Places.{HasNaming}
 use Rattle.arj_table_law.specs.Tables.{holders_in, is_steady, rows_on}
 use Rattle.arj_table_law.proofs.Holders.{path_fits}
-use Rattle.arj_lock_whole_law.specs.Held.{named_locks}
+use Rattle.arj_held_law.specs.Held.{named_locks}
 use Rattle.arj_held_law.proofs.Facts.{HaveNumbers, on_path, someone}
 use Rattle.arj_held_law.proofs.Sorts.{by_kind, is_of}
 use Rattle.arj_held_law.proofs.Keeping.{Own, Shown, along_coord, along_steady, coord_of, others_of, own_of, rows_along, shown_walk}

@@ -28,7 +28,7 @@ use Rattle.arj_lock_fact_law.specs.Uppers.{AreUppersOf}
 use Rattle.arj_lock_run_law.specs.Fixed.{Fixed, view_of}
 use Rattle.arj_lock_run_law.specs.Sees.{SeesLocks, SeesMemory}
 use Rattle.arj_lock_run_law.specs.Tied.{AreTied}
-use Rattle.arj_lock_whole_law.specs.Held.{entry_locks_in, memory_of, named_locks}
+use Rattle.arj_held_law.specs.Held.{entry_locks_in, memory_of, named_locks}
 use Rattle.arj_lock_whole_law.specs.Tops.{HoldsNames}
 use Rattle.arj_lock_whole_law.proofs.CalledSays.{calls_commit}
 use Rattle.arj_held_law.proofs.Acted.{AreWider}

@@ -25,14 +25,14 @@ use Rattle.arj_lock_fact_law.specs.Uppers.{AreUppersOf}
 use Rattle.arj_lock_run_law.specs.Fixed.{AgreesBy, Fixed, view_of}
 use Rattle.arj_lock_run_law.specs.Sees.{SeesLocks}
 use Rattle.arj_lock_run_law.specs.Tied.{AreTied}
-use Rattle.arj_lock_whole_law.specs.Held.{entry_locks_in, locks_in, memory_of, named_locks}
+use Rattle.arj_held_law.specs.Held.{entry_locks_in, locks_in, memory_of, named_locks}
 use Rattle.arj_lock_whole_law.specs.Tops.{HoldsNames}
 use Rattle.arj_lock_whole_law.proofs.CalledSays.{calls_commit}
 use Rattle.arj_table_law.specs.Tables.{rows_on}
 use Rattle.arj_held_law.specs.Shown.{ShowsLocks}
 use Rattle.arj_held_law.proofs.Acted.{HasActs, none_taken, wider_by}
 use Rattle.arj_held_law.proofs.Calling.{answers_call}
-use Rattle.arj_held_law.proofs.Holding.{any_shown}
+use Rattle.arj_held_law.proofs.Among.{any_shown}
 use Rattle.arj_held_law.proofs.Keeping.{Shown}
 use Rattle.arj_held_law.proofs.Lines.{itself, quiet_table}
 use Rattle.arj_held_law.proofs.Marks.{Guard, all_taken, guard_less, take_behind, take_front}

@@ -26,7 +26,7 @@ use Rattle.arj_lock_run_law.specs.Fixed.{Agrees, Fixed, view_of}
 use Rattle.arj_lock_run_law.specs.Sees.{SeesDown, SeesLocks, SeesMemory}
 use Rattle.arj_lock_run_law.specs.Tied.{AreTied}
 use Rattle.arj_lock_fact_law.specs.Uppers.{AreUppersOf}
-use Rattle.arj_lock_whole_law.specs.Held.{locks_in, memory_of}
+use Rattle.arj_held_law.specs.Held.{locks_in, memory_of}
 use Rattle.arj_lock_whole_law.specs.Tops.{HoldsNames}
 use Rattle.arj_lock_whole_law.proofs.CalledSays.{calls_commit}
 use Rattle.arj_held_law.proofs.Acted.{AreWider}

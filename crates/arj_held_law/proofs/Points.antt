@@ -26,7 +26,7 @@ use Rattle.arj_lock_run_law.specs.Fixed.{Agrees, Fixed}
 use Rattle.arj_lock_run_law.specs.Sees.{SeesLocks}
 use Rattle.arj_lock_run_law.specs.Tied.{AreTied}
 use Rattle.arj_lock_fact_law.specs.Uppers.{AreUppersOf}
-use Rattle.arj_lock_whole_law.specs.Held.{entry_locks_in, locks_in, memory_of}
+use Rattle.arj_held_law.specs.Held.{entry_locks_in, locks_in, memory_of}
 use Rattle.arj_lock_whole_law.specs.Tops.{HoldsNames}
 use Rattle.arj_lock_whole_law.proofs.CalledSays.{calls_commit}
 use Rattle.arj_table_law.specs.Tables.{rows_on}
@@ -34,7 +34,7 @@ use Rattle.arj_held_law.specs.Shown.{ShowsLocks}
 use Rattle.arj_held_law.proofs.Acted.{AreWider}
 use Rattle.arj_held_law.proofs.Calling.{answers_call}
 use Rattle.arj_held_law.proofs.Fronts.{front_actives, front_incs, front_known, front_others, front_run, front_sees, front_servers}
-use Rattle.arj_held_law.proofs.Holding.{any_shown}
+use Rattle.arj_held_law.proofs.Among.{any_shown}
 use Rattle.arj_held_law.proofs.Lines.{other_tables}
 use Rattle.arj_held_law.proofs.Marks.{NoneBetween, all_taken, take_all, take_behind, take_front}
 use Rattle.arj_held_law.proofs.Names.{IsNamed, known_wider, names_in}

@@ -19,7 +19,7 @@ use Rattle.arj_lock_view_law.specs.Rows.{SeesRows, held_in, strength}
 use Rattle.arj_lock_run_law.specs.Fixed.{Fixed}
 use Rattle.arj_lock_run_law.specs.Tied.{BeginNone}
 use Rattle.arj_lock_run_law.proofs.TieSteps.{acts_none}
-use Rattle.arj_lock_whole_law.specs.Held.{entry_locks_in, memory_of}
+use Rattle.arj_held_law.specs.Held.{entry_locks_in, memory_of}
 use Rattle.arj_lock_whole_law.proofs.CalledSays.{calls_commit}
 use Rattle.arj_table_law.specs.Tables.{rows_on}
 use Rattle.arj_held_law.specs.Shown.{AreShown}

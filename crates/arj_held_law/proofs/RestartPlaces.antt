@@ -20,7 +20,7 @@ use Rattle.arj_lock_law.specs.State.{State}
 use Rattle.arj_lock_run_law.specs.Fixed.{Agrees, Fixed}
 use Rattle.arj_lock_run_law.specs.Sees.{SeesLocks}
 use Rattle.arj_lock_run_law.specs.Tied.{AreTied, BeginNone}
-use Rattle.arj_lock_whole_law.specs.Held.{locks_in, memory_of}
+use Rattle.arj_held_law.specs.Held.{locks_in, memory_of}
 use Rattle.arj_lock_whole_law.proofs.CalledSays.{calls_commit}
 use Rattle.arj_held_law.specs.Shown.{AreShown}
 use Rattle.arj_held_law.proofs.Calling.{answers_call}

@@ -29,7 +29,7 @@ use Rattle.arj_disk_run_law.specs.Places.{HasNaming}
 use Rattle.arj_disk_run_law.proofs.Lists.{all_append}
 use Rattle.arj_view_law.proofs.Happens.{place_same}
 use Rattle.arj_lock_whole_law.specs.Called.{SayOf}
-use Rattle.arj_lock_whole_law.specs.Held.{locks_in, memory_of}
+use Rattle.arj_held_law.specs.Held.{locks_in, memory_of}
 use Rattle.arj_lock_whole_law.proofs.CalledSays.{message_fine, restart_fine}
 use Rattle.arj_held_law.proofs.Calling.{NoAnswer, NoCommit, apart_answer, apart_commit, message_commits}
 use Rattle.arj_held_law.proofs.Fronts.{none_told}

@@ -29,7 +29,7 @@ use Rattle.arj_protocol.proofs.PartSays.{all_both}
 use Rattle.arj_protocol.proofs.RowSteps.{after_both}
 use Rattle.arj_table_law.specs.Tables.{IsOfPart, holders_in, rows_on, up_of}
 use Rattle.arj_table_law.proofs.Rows.{lines_go_by_objects}
-use Rattle.arj_lock_whole_law.specs.Held.{named_locks}
+use Rattle.arj_held_law.specs.Held.{named_locks}
 use Rattle.arj_held_law.specs.Shown.{ShowsLocks}
 use Rattle.arj_held_law.proofs.Lines.{itself, start_stays, table_more}
 use Rattle.arj_held_law.proofs.Says.{All, kind_says, map_says, says}

@@ -21,7 +21,7 @@ use Rattle.arj_view_law.specs.Walks.{Walks, halted}
 use Rattle.arj_table_law.specs.Tables.{IsOfPart, holders_in, is_steady, rows_on, up_of}
 use Rattle.arj_table_law.proofs.Effects.{acts_stay}
 use Rattle.arj_lock_whole_law.specs.Called.{SayOf}
-use Rattle.arj_lock_whole_law.specs.Held.{memory_of}
+use Rattle.arj_held_law.specs.Held.{memory_of}
 use Rattle.arj_held_law.proofs.Sorts.{is_of}
 use Rattle.arj_held_law.proofs.Lines.{acts_on, itself, other_tables, own_line, quiet_acts, quiet_of, quiet_table}
 use Rattle.arj_held_law.proofs.Marks.{Guard, NoneBetween, all_taken, got_behind, guard_less, guard_one, longer}

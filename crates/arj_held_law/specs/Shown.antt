@@ -7,7 +7,7 @@ use Rattle.arj_protocol.specs.Node.{Parts}
 use Rattle.arj_protocol.specs.Tree.{at_place}
 use Rattle.arj_protocol.specs.World.{World, format}
 use Rattle.arj_view_law.specs.Moves.{AfterMoves, Move}
-use Rattle.arj_lock_whole_law.specs.Held.{entry_locks_in, locks_in, memory_of}
+use Rattle.arj_held_law.specs.Held.{entry_locks_in, locks_in, memory_of}
 use Rattle.arj_table_law.specs.Tables.{rows_on}
 
 -- In the journal's table of a node with this memory the rows on each object are the server's locks, and at node 1 those on each entry are

@@ -1,13 +1,13 @@
-//! Locks that are held, by the tables of a journal.
+//! Locks that are held, by the tables of a journal and at the nodes.
 //!
-//! `arj_table_law` has what lines do to the tables of a journal, object by object, and `arj_joint_law` that calls and includes are held at the
-//! nodes. Here the tables have the nodes' locks after each event of each run (`tables_show_locks`): each handler keeps it, as long as all
-//! lines are of one event (`proofs/Keeping.antt`), by which no lock is given back as those of a restart are; and what a restart gives back, the
-//! table has with each action alone (`proofs/Starts.antt`). So held and entry held are laws of the journal's own tables, at the end of each event
-//! (`runs_hold_locks_in_tables`). Inside of an event the object's lock machine is seen at each line in the state before or behind what a node did, or behind
-//! some of the ends that came to a server (`proofs/AlongKept.antt`), and at those of a restart in the state behind it (`proofs/RestartPlaces.antt`). Beside it
-//! naming is: a message changes its locks on an entry by one line at most (`proofs/NamedRuns.antt`), so that at each line they are those before it or those
-//! behind (`proofs/Names.antt`). So held, and entry held, are laws at each line (`runs_hold_locks_at_each_line`).
+//! `arj_table_law` has what lines do to the tables of a journal, object by object. Here the tables have the nodes' locks after each event of each run
+//! (`tables_show_locks`): each handler keeps it, as long as all lines are of one event (`proofs/Keeping.antt`), by which no lock is given back as those of a
+//! restart are; and what a restart gives back, the table has with each action alone (`proofs/Starts.antt`). Beside both machines of an object, which are those
+//! of `arj_joint_law`, its lock machine is seen at each line in the state before or behind what a node did, or behind some of the ends that came to a server
+//! (`proofs/AlongKept.antt`), and at those of a restart in the state behind it (`proofs/RestartPlaces.antt`). Beside it naming is: a message changes its locks
+//! on an entry by one line at most (`proofs/NamedRuns.antt`), so that at each line they are those before it or those behind (`proofs/Names.antt`). So held,
+//! and entry held, are laws of the journal's tables at each line (`runs_hold_locks_at_each_line`): so they are at the end of each event
+//! (`runs_hold_locks_in_tables`), and at the nodes then, whose locks the tables have (`joint_runs_hold_locks`).
 #![tactic(auto)]
 
 mod along;
@@ -15,5 +15,5 @@ mod held;
 mod tables;
 
 pub use along::runs_hold_locks_at_each_line;
-pub use held::runs_hold_locks_in_tables;
+pub use held::{joint_runs_hold_locks, runs_hold_locks_in_tables};
 pub use tables::tables_show_locks;

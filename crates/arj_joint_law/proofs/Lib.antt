@@ -45,9 +45,8 @@ pub mod Knowing
 pub mod Counting
 pub mod JoinedParts
 pub mod JoinedRuns
-pub mod GivenOn
-pub mod HeldRuns
-pub mod Holding
+pub mod Grown
+pub mod Carrying
 pub mod Writing
 pub mod Written
 pub mod Ending

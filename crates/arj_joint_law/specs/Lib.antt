@@ -26,6 +26,5 @@ pub mod BasedSteps
 pub mod Given
 pub mod Nodes
 pub mod Fit
-pub mod Held
 pub mod FitRuns
 pub mod Booked

@@ -11,8 +11,7 @@
 //! in `specs/Marked.antt`, and of includes in `specs/Joins.antt`; over which states copies and votes lie in `specs/Based.antt` and
 //! `specs/BasedSteps.antt`. What it gives upward: `runs_begin_as_the_header_says`,
 //! `decisions_come_behind_calls`, `writers_are_called_as_they_are_decided`, `runs_have_form`, `answered_operations_are_in_form`,
-//! `runs_have_both_machines`, `runs_keep_the_lock_book` (`specs/Booked.antt`),
-//! `joint_runs_hold_locks` (`specs/Held.antt`), `runs_are_clean`,
+//! `runs_have_both_machines`, `runs_keep_the_lock_book` (`specs/Booked.antt`), `runs_are_clean`,
 //! `runs_exclude_in_time` (of what is seen of a run: `seen_runs_exclude_in_time`), `commits_are_done_behind_decisions`,
 //! `commits_say_what_they_exclude`, `commits_include_what_survives`, `commits_of_a_root_go_on_alone`,
 //! `votes_are_over_known_states`.
@@ -21,7 +20,6 @@
 mod based;
 mod booked;
 mod forms;
-mod held;
 mod outcomes;
 mod runs;
 mod writers;
@@ -29,7 +27,6 @@ mod writers;
 pub use based::votes_are_over_known_states;
 pub use booked::runs_keep_the_lock_book;
 pub use forms::{answered_operations_are_in_form, runs_have_form};
-pub use held::joint_runs_hold_locks;
 pub use outcomes::{
     commits_are_done_behind_decisions, exclusion_in_time_tells_disks_apart,
     one_outcome_tells_journals_apart, runs_exclude_in_time, seen_runs_exclude_in_time,

@@ -23,6 +23,3 @@ pub mod Whole
 pub mod Losing
 pub mod Gives
 pub mod WholeRuns
-pub mod Fronts
-pub mod RowsSeen
-pub mod HeldBy

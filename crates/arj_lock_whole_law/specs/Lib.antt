@@ -7,4 +7,3 @@ pub mod Whole
 pub mod Rest
 pub mod Stored
 pub mod Runs
-pub mod Held

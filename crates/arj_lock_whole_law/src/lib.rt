@@ -6,9 +6,8 @@
 //! asked for a part in it, before its root has ended (`specs/Aborts.antt`), and that whoever was asked for a part in a top whose commit was
 //! recorded acknowledges that before its record goes, and is told no abort of it, nor of its root, before (`specs/Acks.antt`). It gives what
 //! `arj_lock_run_law` counts on where something comes, but for what `specs/Rest.antt` names, which `arj_joint_law` gives by the disk machine
-//! in the same run. Calls are on objects of the header (`specs/Called.antt`). And where after each event an object was seen in a state from
-//! which its machine goes on to that of the run's end, the nodes' locks are held: such a state has no rows but these (`specs/Held.antt`,
-//! `proofs/HeldBy.antt`). It gives upward `handlers_keep_the_whole` and `runs_call_their_objects` (`specs/Runs.antt`).
+//! in the same run. Calls are on objects of the header (`specs/Called.antt`). It gives upward `handlers_keep_the_whole` and
+//! `runs_call_their_objects` (`specs/Runs.antt`).
 #![tactic(auto)]
 
 mod runs;
