@@ -96,6 +96,7 @@ nodes_move {C} {D} c d t over now form r =
         few = few (length (map as_move r.turns)) (length r.turns) (length (map (λ (s : Turn). s.event) r.turns)) (length t.events) (length-map r.turns as_move) (length-map r.turns (λ (s : Turn). s.event)) (ap length r.are) form.few;
       };
       journal = sym r.stands.lines ∙ ap (λ (v : World). v.lines) same;
+      event = sym r.stands.event ∙ ap (λ (v : World). v.event) same;
       files = λ says. subst (λ v. FilesAre (see [] v) (files_of d now.disks)) same (files_show c d says now w r.stands);
     }
   where
@@ -162,7 +163,8 @@ pub closes_show : {C D : Type 0} (c : core.Ghosts C) (d : disk.Ghosts D) → Clo
 closes_show {C} {D} c d says before after answer closes nodes is =
     let m = (closes_move c d before after answer closes).1 nodes is in
     let h : HasMoved c d (task before.rack header (events_of stage.forms)) (hand nodes.world after.rack at.journal) = m.0 in
-    last_lines_nothing header at.journal answer.journal (files_of d after.rack) m.1 (subst (λ ls. Shows header ls (files_of d after.rack)) (sym h.journal) (runs_show header h.moves (files_of d after.rack) h.form (h.files says)))
+    last_lines_nothing header nodes.world.event at.journal answer.journal (files_of d after.rack) m.1
+    (subst (λ (p : ℕ × List Line). Shows header p.0 p.1 (files_of d after.rack)) (λ i. (sym h.event i, sym h.journal i)) (runs_show header h.moves (files_of d after.rack) h.form (h.files says)))
   where
     e : EndsSo (all_nodes c d) closes.given before.rack after.rack closes.end answer.journal
     e = closes.ends

@@ -64,12 +64,14 @@ pub record IsTaskInForm {D : Type 0} (t : Task D) : Type 0 where
   pub events : AllByRecursion EventInForm t.events
   pub few : length t.events ≤ most_events
 
--- What is at hand is what a run in form makes of these events: its journal, and, where cores say the pairs of their disks, the files of its nodes.
+-- What is at hand is what a run in form makes of these events: its journal and its count of events, and, where cores say the pairs of their disks,
+-- the files of its nodes.
 pub record HasMoved {C D : Type 0} (c : core.Ghosts C) (d : disk.Ghosts D) (t : Task D) (now : Hand C D) : Type 0 where
   pub moves : List Move
   pub are : map event_of moves ≡ t.events
   pub form : IsInForm t.header moves
   pub journal : now.journal ≡ journal_by t.header moves
+  pub event : now.kept.event ≡ (let w = world_by t.header moves in w.event)
   pub files : SaysPairs c → FilesAre (see [] (world_by t.header moves)) (files_of d now.disks)
 
 -- so it is of all that nodes run over disks, whatever stops these make
@@ -95,4 +97,4 @@ ClosesMove {C} {D} c d = (before after : Outside D) (answer : Answer) (closes : 
 -- And that journal, with those files, shows so much of the promise, where cores say the pairs of their disks.
 abbrev pub ClosesShow : {C D : Type 0} → core.Ghosts C → disk.Ghosts D → Type 0
 ClosesShow {C} {D} c d = SaysPairs c → (before after : Outside D) (answer : Answer) (closes : Closes (all_nodes c d) before after answer) (nodes : AllNodes C)
-    → (let e = closes.ends in let at = e.at in at.machine) ≡ Some nodes → Shows (let e = closes.ends in let r = e.reached in let s = r.stage in s.header) answer.journal (files_of d after.rack)
+    → (let e = closes.ends in let at = e.at in at.machine) ≡ Some nodes → Shows (let e = closes.ends in let r = e.reached in let s = r.stage in s.header) (let k = nodes.world in k.event) answer.journal (files_of d after.rack)

@@ -5,9 +5,9 @@
 //! their header and their events are in form since they were read in the script's grammar, the journal is theirs, and the files of disks are
 //! those of their nodes, where cores say the pairs of their disks (`specs/Turns.antt`). A line outside of events, which a run's end may put
 //! behind its journal, takes nothing of what the journal shows (`specs/Last.antt`). So the journal that `nodes` leaves is serial, keeps the lock
-//! book, shows one outcome of each top, and its disks' files are clean. It stands on `arj_nodes`, and on the laws of `arj_joint_law` and
-//! `arj_settle_law`. What it gives upward: `nodes_run_moves`, `nodes_show_what_is_promised`, `runs_show_what_is_promised`,
-//! `last_lines_take_nothing`.
+//! book, holds calls at each line by its tables and shows one outcome of each top, and its disks' files are clean and exclude stores in time. It
+//! stands on `arj_nodes`, and on the laws of `arj_joint_law`, `arj_held_law` and `arj_settle_law`. What it gives upward: `nodes_run_moves`,
+//! `nodes_show_what_is_promised`, `runs_show_what_is_promised`, `last_lines_take_nothing`.
 #![tactic(auto)]
 
 mod ends;

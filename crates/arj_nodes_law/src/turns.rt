@@ -14,8 +14,9 @@ pub fn nodes_run_moves<C: Core, D: Disk>()
     ensures closes { ClosesMove C.Core D.Disk }
 {}
 
-/// The journal that the call `nodes` leaves at each such status is serial, keeps the lock book and shows one outcome of each top, and the files
-/// of its disks are clean, where cores say the pairs of their disks, once its script's header was read. It does nothing when it runs.
+/// The journal that the call `nodes` leaves at each such status is serial, keeps the lock book, holds calls at each line by its tables and shows
+/// one outcome of each top, and the files of its disks are clean and exclude stores in time, where cores say the pairs of their disks, once its
+/// script's header was read. It does nothing when it runs.
 pub fn nodes_show_what_is_promised<C: Core, D: Disk>()
     ensures { ClosesShow C.Core D.Disk }
 {}
