@@ -5,7 +5,7 @@ use Rattle.arj_journal.specs.ScriptForm.{HeaderInForm}
 use Rattle.arj_protocol.specs.Words.{Header}
 use Rattle.arj_protocol.specs.Words.event
 use Rattle.arj_protocol.specs.World.{Asked, World, format, journal, lowest_from, run_all, run_event}
-use Rattle.arj_view_law.specs.Moves.{Move, all_moved, as_moves, moved, moves_of, world_by}
+use Rattle.arj_view_law.specs.Moves.{Move, all_moved, as_moves, moved, moves_of}
 use Rattle.arj_view_law.proofs.Moving.{scripts_are_moves, scripts_move}
 use Rattle.arj_joint_law.specs.Outcome.{ShowsOneOutcome}
 use Rattle.arj_round_law.specs.Quiet.{AreGivenUp, IsGiveUp, NobodyWaits}

@@ -1,4 +1,4 @@
--- What the protocol promises of the run of every script in form.
+-- What the protocol promises of every run in form, wherever disks stop in it.
 use Rattle.std.specs.Prelude.{◌≡◌, ◌≤◌, ◌⊎◌, false, List, [], ◌∷◌, ◌++◌, None, length}
 use Rattle.std.specs.List.{AllByRecursion}
 use Rattle.arj_journal.specs.ScriptForm.{HeaderInForm}
@@ -6,83 +6,79 @@ use Rattle.arj_model.specs.Clean.{Clean, Disks}
 use Rattle.arj_model.specs.Last.{first_values}
 use Rattle.arj_protocol.specs.Words.{Header}
 use Rattle.arj_protocol.specs.Words.event
-use Rattle.arj_protocol.specs.World.{Asked, World, format, journal, lowest_from, run_all}
-use Rattle.arj_view_law.specs.Moves.{as_moves, moves_of}
+use Rattle.arj_protocol.specs.World.{Asked, World, format, lowest_from, run_all}
+use Rattle.arj_view_law.specs.Moves.{Move, journal_by, moves_of, world_by}
 use Rattle.arj_view_law.specs.Seen.{see}
 use Rattle.arj_binding_law.specs.Scripts.{most_events}
 use Rattle.arj_serial_law.specs.Seen.{IsSerialBy}
 use Rattle.arj_joint_law.specs.Booked.{KeepsTheBook}
-use Rattle.arj_joint_law.specs.Excluded.{AreExcludedInTime}
-use Rattle.arj_joint_law.specs.FitRuns.{AreEventsInForm}
+use Rattle.arj_joint_law.specs.FilesInTime.{FilesAreInTime}
+use Rattle.arj_joint_law.specs.FitRuns.{AreEventsInForm, IsInForm}
 use Rattle.arj_joint_law.specs.Outcome.{ShowsOneOutcome}
 use Rattle.arj_joint_law.specs.Shown.{FilesAre}
-use Rattle.arj_held_law.specs.Held.{HoldsInTables}
+use Rattle.arj_held_law.specs.Along.{HoldsEach}
 use Rattle.arj_round_law.specs.Quiet.{AreGivenUp, IsGiveUp, NobodyWaits}
 use Rattle.arj_round_law.specs.Rounds.{AreUp}
 use Rattle.arj_settle_law.specs.Overtaken.{OnlyOvertakenWait}
 use Rattle.arj_settle_law.specs.Settled.{EndsQuiet}
 use Rattle.arj_promise_law.specs.Resting.{HoldAllStates}
 
--- ---- scripts
-
--- The script is in form: its header, and each of its events, of which there are at most 1,000,000.
-pub record IsInForm (hd : Header) (es : List Asked) : Type 0 where
-  pub header : HeaderInForm hd
-  pub events : AreEventsInForm es
-  pub few : length es ≤ most_events
-
--- the world at its end: nodes with their disks, frames, and the journal
-abbrev pub world_of : Header → List Asked → World
-world_of hd es = run_all es (format hd)
-
--- these are the files that the nodes' disks have there
-abbrev pub HasFiles : Header → List Asked → Disks → Type 0
-HasFiles hd es disks = FilesAre (see [] (world_of hd es)) disks
+-- these are the files that the nodes' disks have at its end
+abbrev pub HasFiles : Header → List Move → Disks → Type 0
+HasFiles hd ms disks = FilesAre (see [] (world_by hd ms)) disks
 
 -- ---- the promise
 
 -- The run keeps the promise. Committed tops got the answers of running them alone, one after another, and so did nested actions, each whole at its
 -- commit; and the lock book is kept: calls that conflict stand in that order, each behind the call of the commit of the earlier one's top, or, within
 -- one top, behind the commits of the earlier one's actions; and each is answered by the writes before it. Until the commit of its unit's last member
--- is called, each surviving call of a committed top is locked for by the journal's tables at the end of each event, and so is its object's entry,
--- which for a surviving include is locked for writing. The disks' files are clean. Of each object that a top wrote which the last event committed,
--- each store that the entry on naming's disk lists holds the last state, has it prepared for that top, or is about to be taken out. And what is done
--- as committed was decided before, while an abort of what was decided has a cause.
-pub record KeepsThePromise (hd : Header) (es : List Asked) : Type 0 where
-  pub serial : IsSerialBy hd (journal hd es)
-  pub book : KeepsTheBook (first_values hd) (journal hd es)
-  pub held : HoldsInTables hd (moves_of hd es)
-  pub clean : (disks : Disks) → HasFiles hd es disks → Clean hd (journal hd es) disks
-  pub in_time : AreExcludedInTime hd (let w = world_of hd es in w.event) (see [] (world_of hd es))
-  pub outcome : ShowsOneOutcome (journal hd es)
+-- is called, each surviving call of a committed top is locked for by the journal's tables at each line, and so is its object's entry, which for a
+-- surviving include is locked for writing. The disks' files are clean. Of each object that a top wrote which the last event committed,
+-- the files of each store that the entry in naming's files lists hold the last state, or have it prepared for that top, or it is about to be taken
+-- out. And what is done as committed was decided before, while an abort of what was decided has a cause.
+pub record KeepsThePromise (hd : Header) (ms : List Move) : Type 0 where
+  pub serial : IsSerialBy hd (journal_by hd ms)
+  pub book : KeepsTheBook (first_values hd) (journal_by hd ms)
+  pub held : HoldsEach (journal_by hd ms)
+  pub clean : (disks : Disks) → HasFiles hd ms disks → Clean hd (journal_by hd ms) disks
+  pub in_time : (disks : Disks) → HasFiles hd ms disks → FilesAreInTime hd (let w = world_by hd ms in w.event) (journal_by hd ms) disks
+  pub outcome : ShowsOneOutcome (journal_by hd ms)
 
--- so does the run of every script in form
+-- so does every run in form
 abbrev pub RunsKeepThePromise : Type 0
-RunsKeepThePromise = (hd : Header) (es : List Asked) → IsInForm hd es → KeepsThePromise hd es
+RunsKeepThePromise = (hd : Header) (ms : List Move) → IsInForm hd ms → KeepsThePromise hd ms
 
--- And so it is after every event: what was run by its end is the run of a script in form.
+-- And so it is after every event: what was run by its end is a run in form.
 abbrev pub KeptAfterEveryEvent : Type 0
-KeptAfterEveryEvent = (hd : Header) (front rest : List Asked) → IsInForm hd (front ++ rest) → IsInForm hd front × KeepsThePromise hd front
+KeptAfterEveryEvent = (hd : Header) (front rest : List Move) → IsInForm hd (front ++ rest) → IsInForm hd front × KeepsThePromise hd front
+
+-- ---- scripts
+
+-- Where its header and its events are in form, of which there are at most 1,000,000, the run of a script is one in form; and its world is that of
+-- the script, but for the stops that are still armed at its end.
+abbrev pub ScriptsAreRuns : Type 0
+ScriptsAreRuns = (hd : Header) (es : List Asked) → HeaderInForm hd → AreEventsInForm es → length es ≤ most_events
+    → IsInForm hd (moves_of hd es) × (world_by hd (moves_of hd es) ≡ record (run_all es (format hd)) { arms = [] })
 
 -- ---- quiesces
 
--- The script is this one and a quiesce behind it, at whose end every node of the header is up and no limit was met.
-pub record EndsInQuiesce (hd : Header) (es before : List Asked) : Type 0 where
-  pub last : Asked
-  pub are : es ≡ before ++ last ∷ []
-  pub quiesces : last.event ≡ event.Quiesce
-  pub unlimited : (let w = world_of hd es in w.over) ≡ false
-  pub up : AreUp (world_of hd es)
+-- The run is this one and a quiesce behind it, at whose end every node of the header is up and no limit was met.
+pub record EndsInQuiesce (hd : Header) (ms before : List Move) : Type 0 where
+  pub last : Move
+  pub are : ms ≡ before ++ last ∷ []
+  pub quiesces : (let e = last.asked in e.event) ≡ event.Quiesce
+  pub unlimited : (let w = world_by hd ms in w.over) ≡ false
+  pub up : AreUp (world_by hd ms)
 
 -- then nobody waits but calls that are overtaken
 abbrev pub QuiescesLeaveOvertaken : Type 0
-QuiescesLeaveOvertaken = (hd : Header) (es before : List Asked) → IsInForm hd es → EndsInQuiesce hd es before → OnlyOvertakenWait (world_of hd es)
+QuiescesLeaveOvertaken = (hd : Header) (ms before : List Move) → IsInForm hd ms → EndsInQuiesce hd ms before → OnlyOvertakenWait (world_by hd ms)
 
 -- There is nothing left to do: every node is idle, with no record and nothing prepared, and the journal's last line says so; files hold every entry
 -- and, at each listed store, every last state, with no exception.
-pub record EndsAtRest (hd : Header) (es : List Asked) : Type 0 where
-  pub quiet : EndsQuiet (world_of hd es)
-  pub last : (disks : Disks) → HasFiles hd es disks → HoldAllStates hd (journal hd es) disks
+pub record EndsAtRest (hd : Header) (ms : List Move) : Type 0 where
+  pub quiet : EndsQuiet (world_by hd ms)
+  pub last : (disks : Disks) → HasFiles hd ms disks → HoldAllStates hd (journal_by hd ms) disks
 
 -- nobody waits, and no frame is open
 abbrev pub IsCalm : World → Type 0
@@ -90,19 +86,19 @@ IsCalm w = NobodyWaits w × (lowest_from 1 w.frames ≡ None)
 
 -- so a run ends with a quiesce that begins where nobody waits and no frame is open
 abbrev pub CalmQuiescesEndAtRest : Type 0
-CalmQuiescesEndAtRest = (hd : Header) (es before : List Asked) → IsInForm hd es → EndsInQuiesce hd es before → IsCalm (world_of hd before) → EndsAtRest hd es
+CalmQuiescesEndAtRest = (hd : Header) (ms before : List Move) → IsInForm hd ms → EndsInQuiesce hd ms before → IsCalm (world_by hd before) → EndsAtRest hd ms
 
--- The script ends with the stated round: a quiesce, giveups of each action that waits then, and a second quiesce (or any giveups behind which
+-- The run ends with the stated round: a quiesce, giveups of each action that waits then, and a second quiesce (or any giveups behind which
 -- nobody waits).
-pub record EndsInRound (hd : Header) (es : List Asked) : Type 0 where
-  pub before : List Asked
-  pub between : List Asked
-  pub giveups : List Asked
+pub record EndsInRound (hd : Header) (ms : List Move) : Type 0 where
+  pub before : List Move
+  pub between : List Move
+  pub giveups : List Move
   pub first : EndsInQuiesce hd between before
-  pub give_up : AllByRecursion IsGiveUp (as_moves giveups (world_of hd between))
-  pub who_waits : AreGivenUp (as_moves giveups (world_of hd between)) (world_of hd between) ⊎ NobodyWaits (world_of hd (between ++ giveups))
-  pub second : EndsInQuiesce hd es (between ++ giveups)
+  pub give_up : AllByRecursion IsGiveUp giveups
+  pub who_waits : AreGivenUp giveups (world_by hd between) ⊎ NobodyWaits (world_by hd (between ++ giveups))
+  pub second : EndsInQuiesce hd ms (between ++ giveups)
 
 -- and so does every run that ends with the stated round
 abbrev pub RoundsEndAtRest : Type 0
-RoundsEndAtRest = (hd : Header) (es : List Asked) → IsInForm hd es → EndsInRound hd es → EndsAtRest hd es
+RoundsEndAtRest = (hd : Header) (ms : List Move) → IsInForm hd ms → EndsInRound hd ms → EndsAtRest hd ms

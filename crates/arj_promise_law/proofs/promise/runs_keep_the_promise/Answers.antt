@@ -1,4 +1,4 @@
-use Rattle.arj_promise_law.proofs.Keeping.{calm_end, fronts_keep, overtaken, rounds_end, runs_keep}
+use Rattle.arj_promise_law.proofs.Keeping.{calm_end, fronts_keep, overtaken, rounds_end, runs_keep, scripts_run}
 use Rattle.arj_promise_law.proofs.promise.runs_keep_the_promise.Goals as goal
 
 pub returns-clause-runs : goal.returns-clause-runs
@@ -15,3 +15,6 @@ returns-clause-calm c = calm_end
 
 pub returns-clause-rounds : goal.returns-clause-rounds
 returns-clause-rounds c = rounds_end
+
+pub returns-clause-scripts : goal.returns-clause-scripts
+returns-clause-scripts c = scripts_run
