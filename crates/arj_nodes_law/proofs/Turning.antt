@@ -6,7 +6,6 @@ use Rattle.std.specs.List.{AllByRecursion}
 use Rattle.std.proofs.lemmas.List.{length-map}
 use Rattle.arj_core.specs.declared.node.Core as core
 use Rattle.arj_disk.specs.declared.disk.Disk as disk
-use Rattle.arj_disk.specs.declared.slot.Role.TheVariants as role
 use Rattle.arj_journal.specs.ScriptForm.{EventInForm}
 use Rattle.arj_journal.specs.declared.event.Event.{Event}
 use Rattle.arj_journal.specs.declared.body.Line.{Line}
@@ -26,8 +25,6 @@ use Rattle.arj_protocol.specs.World.{World, format}
 use Rattle.arj_script.specs.Grammar.{Start}
 use Rattle.arj_script.specs.Input.{events_of}
 use Rattle.arj_script.specs.declared.limits.TheConstants.{SCRIPT_LINES}
-use Rattle.arj_store.specs.OfFiles.{pair_of}
-use Rattle.arj_store_law.specs.Files.{IsPairOf}
 use Rattle.arj_view_law.specs.Moves.{Move, all_moved, world_by}
 use Rattle.arj_view_law.specs.Seen.{see}
 use Rattle.arj_world.specs.Stands.{Hand, Stands, hand}
@@ -38,8 +35,9 @@ use Rattle.arj_joint_law.specs.FitRuns.{AreMovesInForm}
 use Rattle.arj_joint_law.specs.Shown.{FilesAre}
 use Rattle.arj_nodes_law.proofs.Ending.{last_lines_nothing, runs_show}
 use Rattle.arj_nodes_law.proofs.Reading.{events_in_form, few_events, header_in_form}
+use Rattle.arj_nodes_law.specs.Cores.{SayPairs, SaysPairs}
 use Rattle.arj_nodes_law.specs.Last.{EndsBehind, IsLast, Shows}
-use Rattle.arj_nodes_law.specs.Turns.{ClosesMove, ClosesShow, HasMoved, IsTaskInForm, NodesMove, SaysPairs, ScriptsMove, as_move, event_of, files_at, files_of}
+use Rattle.arj_nodes_law.specs.Turns.{ClosesMove, ClosesShow, HasMoved, IsTaskInForm, NodesMove, ScriptsMove, as_move, event_of, files_at, files_of}
 
 pub turns_move : (ts : List Turn) (w : World) → all_turned ts w ≡ all_moved (map as_move ts) w
 turns_move [] w = refl
@@ -69,7 +67,7 @@ module _ {C D : Type 0} (c : core.Ghosts C) (d : disk.Ghosts D) (says : SaysPair
   files_show : (now : Hand C D) (w : World) → Stands c d.file now (record w { over = false }) → FilesAre (see [] w) (files_of d now.disks)
   files_show now w s = record { stores = λ k n is. (pairs k n is).0; names = λ n is. (pairs 1 n is).1 }
     where
-      pairs : (k : ℕ) (n : Node) → at_place k w.nodes ≡ Some n → IsPairOf (pair_of (files_of d now.disks k) role.Store) (let e = n.disk in e.store) × IsPairOf (pair_of (files_of d now.disks k) role.Names) (let e = n.disk in e.names)
+      pairs : (k : ℕ) (n : Node) → at_place k w.nodes ≡ Some n → SayPairs (files_of d now.disks k) n.disk
       pairs zero n is = absurd (cc is)
       pairs (suc i) n is = by (is_there i now.kept.cores (cores i (length w.nodes) now.kept.header.nodes (length now.kept.cores) (within i w.nodes n is) s.nodes.nodes_count s.nodes.cores_count)) (is_there i now.disks (disks i (length w.nodes) now.kept.header.nodes (length now.disks) (within i w.nodes n is) s.nodes.nodes_count s.nodes.disks_count))
         where
@@ -79,9 +77,9 @@ module _ {C D : Type 0} (c : core.Ghosts C) (d : disk.Ghosts D) (says : SaysPair
           disks : (i n h k : ℕ) → i < n → n ≡ h → h ≤ k → i < k
           disks i n h k less a b = omega (arith, less, a, b)
 
-          by : (one : C) × (slice_get now.kept.cores i ≡ Some one) → (one : D) × (slice_get now.disks i ≡ Some one) → IsPairOf (pair_of (files_of d now.disks (suc i)) role.Store) (let e = n.disk in e.store) × IsPairOf (pair_of (files_of d now.disks (suc i)) role.Names) (let e = n.disk in e.names)
+          by : (one : C) × (slice_get now.kept.cores i ≡ Some one) → (one : D) × (slice_get now.disks i ≡ Some one) → SayPairs (files_of d now.disks (suc i)) n.disk
           by (one, here) (on, there) =
-              subst (λ o. IsPairOf (pair_of (files_at d o) role.Store) (let e = n.disk in e.store) × IsPairOf (pair_of (files_at d o) role.Names) (let e = n.disk in e.names)) (sym there)
+              subst (λ o. SayPairs (files_at d o) n.disk) (sym there)
               (says now.kept.header one (d.file on) n (s.nodes.each i one on n here there is))
 
 pub nodes_move : {C D : Type 0} (c : core.Ghosts C) (d : disk.Ghosts D) → NodesMove c d

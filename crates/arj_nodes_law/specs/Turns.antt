@@ -4,7 +4,6 @@ use Rattle.std.specs.List.{AllByRecursion}
 use Rattle.arj_core.specs.declared.node.Core as core
 use Rattle.arj_disk.specs.FileMap.{FileMap}
 use Rattle.arj_disk.specs.declared.disk.Disk as disk
-use Rattle.arj_disk.specs.declared.slot.Role.TheVariants as role
 use Rattle.arj_journal.specs.ScriptForm.{EventInForm, HeaderInForm}
 use Rattle.arj_journal.specs.declared.event.Event.{Event}
 use Rattle.arj_model.specs.Clean.{Disks}
@@ -14,13 +13,9 @@ use Rattle.arj_loop.specs.Running.{Stage}
 use Rattle.arj_nodes.specs.AllNodes.{RanAll, Task, task}
 use Rattle.arj_nodes.specs.AsMachine.{all_nodes}
 use Rattle.arj_nodes.specs.declared.all_nodes.AllNodes.{AllNodes}
-use Rattle.arj_protocol.specs.Step.{Node}
 use Rattle.arj_protocol.specs.Tree.{at_place}
-use Rattle.arj_protocol.specs.Words.{Header}
 use Rattle.arj_script.specs.Grammar.{Place}
 use Rattle.arj_script.specs.Input.{events_of}
-use Rattle.arj_store.specs.OfFiles.{pair_of}
-use Rattle.arj_store_law.specs.Files.{IsPairOf}
 use Rattle.arj_view_law.specs.Moves.{Move, journal_by, world_by}
 use Rattle.arj_view_law.specs.Seen.{see}
 use Rattle.arj_world.specs.Stands.{Hand, hand}
@@ -28,6 +23,7 @@ use Rattle.arj_world.specs.Turns.{Turn, asked}
 use Rattle.arj_binding_law.specs.Scripts.{most_events}
 use Rattle.arj_joint_law.specs.FitRuns.{IsInForm}
 use Rattle.arj_joint_law.specs.Shown.{FilesAre}
+use Rattle.arj_nodes_law.specs.Cores.{SaysPairs}
 use Rattle.arj_nodes_law.specs.Last.{EndsBehind, IsLast, Shows}
 
 -- ---- turns
@@ -50,11 +46,6 @@ files_at d (Some one) slot = d.file one slot
 -- the files of each node's disk
 abbrev pub files_of : {D : Type 0} → disk.Ghosts D → List D → Disks
 files_of d rack n = files_at d (at_place n rack)
-
--- whichever node a core is with these files, they say the pairs of that node's disk
-abbrev pub SaysPairs : {C : Type 0} → core.Ghosts C → Type 0
-SaysPairs {C} c = (header : Header) (one : C) (file : FileMap) (n : Node) → c.stands header one file n
-    → IsPairOf (pair_of file role.Store) (let d = n.disk in d.store) × IsPairOf (pair_of file role.Names) (let d = n.disk in d.names)
 
 -- ---- what is run
 

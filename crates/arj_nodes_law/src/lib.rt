@@ -6,12 +6,15 @@
 //! those of their nodes, where cores say the pairs of their disks (`specs/Turns.antt`). A line outside of events, which a run's end may put
 //! behind its journal, takes nothing of what the journal shows (`specs/Last.antt`). So the journal that `nodes` leaves is serial, keeps the lock
 //! book, holds calls at each line by its tables and shows one outcome of each top, and its disks' files are clean and exclude stores in time. It
-//! stands on `arj_nodes`, and on the laws of `arj_joint_law`, `arj_held_law` and `arj_settle_law`. What it gives upward: `nodes_run_moves`,
-//! `nodes_show_what_is_promised`, `runs_show_what_is_promised`, `last_lines_take_nothing`.
+//! stands on `arj_nodes` and `arj_node`, whose cores say what their parts say (`specs/Cores.antt`), and on the laws of `arj_joint_law`,
+//! `arj_held_law` and `arj_settle_law`. What it gives upward: `nodes_run_moves`, `nodes_show_what_is_promised`, `runs_show_what_is_promised`,
+//! `last_lines_take_nothing`, `cores_say_what_their_parts_say`.
 #![tactic(auto)]
 
+mod cores;
 mod ends;
 mod turns;
 
+pub use cores::cores_say_what_their_parts_say;
 pub use ends::{last_lines_take_nothing, runs_show_what_is_promised};
 pub use turns::{nodes_run_moves, nodes_show_what_is_promised};
