@@ -37,7 +37,7 @@ use Rattle.arj_nodes_law.proofs.Ending.{last_lines_nothing, runs_show}
 use Rattle.arj_nodes_law.proofs.Reading.{events_in_form, few_events, header_in_form}
 use Rattle.arj_nodes_law.specs.Cores.{SayPairs, SaysPairs}
 use Rattle.arj_nodes_law.specs.Last.{EndsBehind, IsLast, Shows}
-use Rattle.arj_nodes_law.specs.Turns.{ClosesMove, ClosesShow, HasMoved, IsTaskInForm, NodesMove, ScriptsMove, as_move, event_of, files_at, files_of}
+use Rattle.arj_nodes_law.specs.Turns.{ClosesMove, ClosesShow, HasMoved, IsTaskInForm, NodesMove, ScriptsMove, ScriptsShow, as_move, event_of, files_at, files_of}
 
 pub turns_move : (ts : List Turn) (w : World) → all_turned ts w ≡ all_moved (map as_move ts) w
 turns_move [] w = refl
@@ -157,12 +157,19 @@ closes_move {C} {D} c d before after answer closes = (none, some)
         same : after.rack ≡ e.mid
         same = ⊎_elim (λ format. let never : Some nodes ≡ None = sym is ∙ format.1 in absurd (cc never)) (λ other. other.1) e.racks
 
+-- what is at hand shows so much
+moved_shows : {C D : Type 0} (c : core.Ghosts C) (d : disk.Ghosts D) → SaysPairs c → (t : Task D) (now : Hand C D) → HasMoved c d t now → Shows t.header now.kept.event now.journal (files_of d now.disks)
+moved_shows c d says t now h = subst (λ (p : ℕ × List Line). Shows t.header p.0 p.1 (files_of d now.disks)) (λ i. (sym h.event i, sym h.journal i)) (runs_show t.header h.moves (files_of d now.disks) h.form (h.files says))
+
+pub scripts_show : {C D : Type 0} (c : core.Ghosts C) (d : disk.Ghosts D) → ScriptsShow c d
+scripts_show {C} {D} c d says first rack lines place at s nodes is =
+    moved_shows c d says (task first s.header (events_of s.forms)) (hand nodes.world rack at.journal) (scripts_move c d first rack lines place at s nodes is)
+
 pub closes_show : {C D : Type 0} (c : core.Ghosts C) (d : disk.Ghosts D) → ClosesShow c d
 closes_show {C} {D} c d says before after answer closes nodes is =
     let m = (closes_move c d before after answer closes).1 nodes is in
     let h : HasMoved c d (task before.rack header (events_of stage.forms)) (hand nodes.world after.rack at.journal) = m.0 in
-    last_lines_nothing header nodes.world.event at.journal answer.journal (files_of d after.rack) m.1
-    (subst (λ (p : ℕ × List Line). Shows header p.0 p.1 (files_of d after.rack)) (λ i. (sym h.event i, sym h.journal i)) (runs_show header h.moves (files_of d after.rack) h.form (h.files says)))
+    last_lines_nothing header nodes.world.event at.journal answer.journal (files_of d after.rack) m.1 (moved_shows c d says (task before.rack header (events_of stage.forms)) (hand nodes.world after.rack at.journal) h)
   where
     e : EndsSo (all_nodes c d) closes.given before.rack after.rack closes.end answer.journal
     e = closes.ends

@@ -1,5 +1,5 @@
 // What nodes run over disks is a run of moves.
-ghost use Rattle.arj_nodes_law.specs.Turns.{ClosesMove, ClosesShow, NodesMove, ScriptsMove};
+ghost use Rattle.arj_nodes_law.specs.Turns.{ClosesMove, ClosesShow, NodesMove, ScriptsMove, ScriptsShow};
 
 use arj_core::Core;
 use arj_disk::Disk;
@@ -14,9 +14,11 @@ pub fn nodes_run_moves<C: Core, D: Disk>()
     ensures closes { ClosesMove C.Core D.Disk }
 {}
 
-/// The journal that the call `nodes` leaves at each such status is serial, keeps the lock book, holds calls at each line by its tables and shows
-/// one outcome of each top, and the files of its disks are clean and exclude stores in time, where cores say the pairs of their disks, once its
-/// script's header was read. It does nothing when it runs.
+/// The journal of what nodes ran of a script's lines is serial, keeps the lock book, holds calls at each line by its tables and shows one outcome
+/// of each top, and the files of their disks behind it are clean and exclude stores in time, where cores say the pairs of their disks
+/// (`scripts`). So do the journal and the disks that the call `nodes` leaves at each such status, once its script's header was read (`closes`).
+/// It does nothing when it runs.
 pub fn nodes_show_what_is_promised<C: Core, D: Disk>()
-    ensures { ClosesShow C.Core D.Disk }
+    ensures scripts { ScriptsShow C.Core D.Disk }
+    ensures closes { ClosesShow C.Core D.Disk }
 {}
