@@ -124,7 +124,7 @@ idles from before u v c outs who = record {
 same_work : (from : ℕ) (before : Now) (u : Uid) (c e g : Coord) (outs : List Effect) → ((w : Uid) → doing_of w g ≡ doing_of w e) → Moves from before u c e outs → Moves from before u c g outs
 same_work from before u c e g outs same m = record { others = λ w q other is. m.others w q other (sym (same w) ∙ is); own = λ q is. m.own q (sym (same u) ∙ is) }
 
-doomed_work : (v : Uid) (e : CallEnd) (c : Coord) (w : Uid) → doing_of w (doomed_by v e c) ≡ doing_of w c
+pub doomed_work : (v : Uid) (e : CallEnd) (c : Coord) (w : Uid) → doing_of w (doomed_by v e c) ≡ doing_of w c
 doomed_work v (calls.Lost n true) c w = let same = doomed_same v c.tree in λ i. cond (same.own w i) (at_place w.num c.doings) None
 doomed_work v (calls.Lost n false) c w = refl
 doomed_work v (calls.Answered a) c w = refl
@@ -162,7 +162,7 @@ behind_lines from before u c e lines outs m = record { others = m.others; own = 
     by (Calling s) g = more (want_of_call u s) g
     by (Committing k) g = λ n left. ⊎_elim (λ a. inl (more (want_of_commit u k n) a)) (λ was. inr was) (g n left)
 
-end_work : (u : Uid) (e : End) (c : Coord) (w : Uid) → doing_of w (record c { tree = ended_at u e c.tree }) ≡ doing_of w c
+pub end_work : (u : Uid) (e : End) (c : Coord) (w : Uid) → doing_of w (record c { tree = ended_at u e c.tree }) ≡ doing_of w c
 end_work u e c w = let g = end_tree_on u e c in λ i. cond (g.own w i) (at_place w.num c.doings) None
 
 end_goes : (from : ℕ) (before : Now) (u v : Uid) (e : End) (c : Coord) (outs : List Effect) → v ≡ u → Moves from before u c (ended v e c) outs
@@ -282,7 +282,7 @@ confirmed_fits from u p (confirmed.Changed w) who = tt
 confirmed_fits from u p (confirmed.NoStores x) who = tt
 confirmed_fits from u p (confirmed.Listed x s) who = tt
 
-answered_fits : (from : ℕ) (u : Uid) (m : Machine) (r : Reply) → actor (plan_of m).path ≡ u → reply_kind r ≡ ask_kind (ask_of m from) → Fits from (Committing m) u (commit.answered from m r).step
+pub answered_fits : (from : ℕ) (u : Uid) (m : Machine) (r : Reply) → actor (plan_of m).path ≡ u → reply_kind r ≡ ask_kind (ask_of m from) → Fits from (Committing m) u (commit.answered from m r).step
 answered_fits from u (Voting p left) (Reply.Voted r) who kind = voted_fits from u p left r who
 answered_fits from u (Voting p left) (Reply.Bound r) who kind = other_kind 1 6 kind refl
 answered_fits from u (Voting p left) (Reply.Loaded r) who kind = other_kind 2 6 kind refl

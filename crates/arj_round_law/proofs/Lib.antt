@@ -11,3 +11,5 @@ pub mod Quiesces
 pub mod Endings
 pub mod Quiets
 pub mod GiveUps
+pub mod Ended
+pub mod EndedRuns

@@ -80,7 +80,7 @@ took_is : (u v : Parts) (es fs : List Effect) → Took u es ≡ Took v fs → u 
 took_is u v es fs is = cc is
 
 -- a message that is no request and no answer leaves who waits
-other_work : (n : ℕ) (d : Disk) (t : Parts) (from : ℕ) (m : Message) → asks m ≡ None → answers m ≡ None → (v : Parts) (outs : List Effect) → handle n d t from m ≡ Took v outs → (w : Uid) → doing_of w v.coord ≡ doing_of w t.coord
+pub other_work : (n : ℕ) (d : Disk) (t : Parts) (from : ℕ) (m : Message) → asks m ≡ None → answers m ≡ None → (v : Parts) (outs : List Effect) → handle n d t from m ≡ Took v outs → (w : Uid) → doing_of w v.coord ≡ doing_of w t.coord
 other_work n d t from (message.Told m) silent mute v outs is w = by (last_end m.ends) is
   where
     by : (o : Option (Uid × End)) → handle_ends n d t from m.ack m.ends o ≡ Took v outs → doing_of w v.coord ≡ doing_of w t.coord

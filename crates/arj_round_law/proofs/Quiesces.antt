@@ -45,7 +45,7 @@ use Rattle.arj_round_law.proofs.Worlds.{Of, Under, none_under, said_more}
 
 -- ---- what a tick asks again
 
-again_doing : (ds : List Doing) (c : Coord) (w : Uid) → doing_of w (again_all ds c).part ≡ doing_of w c
+pub again_doing : (ds : List Doing) (c : Coord) (w : Uid) → doing_of w (again_all ds c).part ≡ doing_of w c
 again_doing [] c w = refl
 again_doing (d ∷ ds) c w = again_doing ds (again_now c d.now).part w ∙ by d.now
   where
@@ -209,7 +209,7 @@ pub keeps_good : (hd : Header) (R : Seen → Type 0) → KeepsAsked hd R → Kee
 keeps_good hd R keeps = asked_both hd R IsGood keeps (keeps_asked hd IsGood (all_keep hd))
 
 -- who waits at a good node waits under its own path
-good_home : (k : ℕ) (d : Disk) (t : Parts) (M : Seen) → IsGood (up k d t M) → IsHome t.coord
+pub good_home : (k : ℕ) (d : Disk) (t : Parts) (M : Seen) → IsGood (up k d t M) → IsHome t.coord
 good_home k d t M g = record {
   calls = λ u q s does now. own u s.path (subst (IsBusy t.coord.tree u) now (coord.busy u q does));
   commits = λ u q m does now. let v = subst (IsBusy t.coord.tree u) now (coord.busy u q does) in own u (plan_of m).path v.asking;

@@ -1,3 +1,4 @@
 pub mod Waits
 pub mod Rounds
 pub mod Quiet
+pub mod Answered

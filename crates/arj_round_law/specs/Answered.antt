@@ -1,0 +1,54 @@
+-- Whoever waits goes on waiting for the same, until a line of the journal ends it.
+use Rattle.std.specs.Prelude.{⊤, ◌≡◌, ◌⊎◌, ◌++◌, ℕ, true, List, Some, Contains}
+use Rattle.arj_protocol.specs.Words.{Body, Cause, Header, Label, Line, Uid}
+use Rattle.arj_protocol.specs.Words.body
+use Rattle.arj_protocol.specs.Asking.{end_line}
+use Rattle.arj_protocol.specs.Call.{CallEnd}
+use Rattle.arj_protocol.specs.Coord.{Calling, Committing, Coord, Doing, Idle, Now, doing_of}
+use Rattle.arj_protocol.specs.Step.{is_waiting_now}
+use Rattle.arj_protocol.specs.Tree.{at_place}
+use Rattle.arj_protocol.specs.World.{World}
+use Rattle.arj_view_law.specs.Moves.{Move, all_moved, world_by}
+use Rattle.arj_round_law.specs.Waits.{coord_in}
+
+-- the same call or include goes on, or a commit does
+abbrev pub IsSameWork : Now → Now → Type 0
+IsSameWork (Calling s) (Calling r) = (r.x ≡ s.x) × (r.goal ≡ s.goal)
+IsSameWork (Committing m) (Committing n) = ⊤
+IsSameWork _ _ = ⊥
+
+-- the line by this label answers it: a call or an include by its end, with a refusal by its cause, and a commit as done
+abbrev pub IsAnswerTo : Now → Label → Body → Type 0
+IsAnswerTo (Calling s) l b = (e : CallEnd) × (b ≡ end_line s.x s.goal e l)
+IsAnswerTo (Committing m) l b = b ≡ body.Committed l
+IsAnswerTo Idle l b = ⊥
+
+-- The line ends what the action with this label waited for at node k: it answers it, says that the action was aborted, with the cause, or that an answer
+-- was given up, or that the node halted.
+pub data EndsWait (k : ℕ) (l : Label) (now : Now) (b : Body) : Type 0 where
+  IsAnswered : IsAnswerTo now l b → EndsWait k l now b
+  IsAborted : (why : Cause) → b ≡ body.Aborted l why → EndsWait k l now b
+  IsGivenUp : (n : ℕ) → b ≡ body.GaveUp l n → EndsWait k l now b
+  HasHalted : b ≡ body.Halted k → EndsWait k l now b
+
+-- the action waits at the node for the same
+pub record StillWaits (w : World) (k : ℕ) (u : Uid) (q : Doing) : Type 0 where
+  pub coord : Coord
+  pub doing : Doing
+  pub found : coord_in (at_place k w.nodes) ≡ Some coord
+  pub does : doing_of u coord ≡ Some doing
+  pub label : doing.label ≡ q.label
+  pub same : IsSameWork q.now doing.now
+
+-- a line behind the old ones ends what it waited for
+pub record HasEnded (k : ℕ) (q : Doing) (old new : List Line) : Type 0 where
+  pub more : List Line
+  pub line : Line
+  pub are : new ≡ old ++ more
+  pub there : Contains more line
+  pub ends : EndsWait k q.label q.now line.body
+
+-- So it is in every run, from any of its worlds on, whatever stops fall.
+abbrev pub RunsAnswerOrWait : Type 0
+RunsAnswerOrWait = (hd : Header) (ms ns : List Move) (k : ℕ) (c : Coord) (u : Uid) (q : Doing) → let w = world_by hd ms in coord_in (at_place k w.nodes) ≡ Some c → doing_of u c ≡ Some q → is_waiting_now q.now ≡ true
+    → let v = all_moved ns w in StillWaits v k u q ⊎ HasEnded k q w.lines v.lines
