@@ -1,11 +1,10 @@
 -- The laws of every run, put together for one.
-use Rattle.std.proofs.Common.{◌≡◌, ◌≤◌, ◌∙◌, ◌++◌, Bool, true, false, cond, List, [], ◌∷◌, length-append, arith, refl, sym, ap, subst, ◌⊎◌, inl, inr, ⊎_elim}
+use Rattle.std.proofs.Common.{◌≡◌, ◌≤◌, ◌∙◌, ◌++◌, false, List, [], ◌∷◌, length-append, arith, refl, sym, ap, subst, ◌⊎◌, inl, inr, ⊎_elim}
 use Rattle.std.specs.List.{AllByRecursion}
 use Rattle.arj_journal.specs.ScriptForm.{EventInForm}
 use Rattle.arj_model.specs.Clean.{Disks}
 use Rattle.arj_protocol.specs.Words.{Header}
-use Rattle.arj_protocol.specs.Step.{first_reason}
-use Rattle.arj_protocol.specs.World.{World, format, reasons, run_unless}
+use Rattle.arj_protocol.specs.World.{World, format}
 use Rattle.arj_view_law.specs.Keeps.{Holds}
 use Rattle.arj_view_law.specs.Moves.{Move, all_moved, journal_by, moved, world_by}
 use Rattle.arj_view_law.proofs.Moving.{more_moves, moves_asked, scripts_are_moves}
@@ -20,6 +19,7 @@ use Rattle.arj_joint_law.specs.FitRuns.{IsInForm}
 use Rattle.arj_held_law.proofs.AlongMoves.{runs_hold_each}
 use Rattle.arj_round_law.specs.Quiet.{AreGivenUp, NobodyWaits}
 use Rattle.arj_round_law.specs.Rounds.{AreUp}
+use Rattle.arj_round_law.proofs.GiveUps.{over_before}
 use Rattle.arj_settle_law.specs.Last.{HoldTheLast}
 use Rattle.arj_settle_law.specs.Overtaken.{OnlyOvertakenWait}
 use Rattle.arj_settle_law.specs.Settled.{EndsQuiet, KnowsPrepared}
@@ -65,14 +65,6 @@ scripts_run hd es form fit short = (
 )
 
 -- ---- quiesces
-
--- a run that isn't over wasn't before
-over_before : (m : Move) (w : World) → (moved m w).over ≡ false → w.over ≡ false
-over_before m w last = by w.over refl
-  where
-    by : (b : Bool) → w.over ≡ b → w.over ≡ false
-    by false is = is
-    by true is = sym (λ i. (let e = m.asked in let v = record w { arms = m.falls } in cond (is i) v (run_unless e.event e.arm v (first_reason (reasons e.event v)))).over) ∙ last
 
 -- where the run has so ended, clean files hold the last states
 at_rest : (hd : Header) (ms : List Move) → IsInForm hd ms → EndsQuiet (world_by hd ms) → EndsAtRest hd ms

@@ -34,7 +34,7 @@ use Rattle.arj_view_law.specs.Keeps.{Holds, KeepsAsked}
 use Rattle.arj_view_law.specs.Moves.{Move, all_moved, moved, world_by}
 use Rattle.arj_view_law.specs.Seen.{Seen}
 use Rattle.arj_view_law.proofs.Happens.{keeps_asked, place_same}
-use Rattle.arj_view_law.proofs.Moving.{more_moves, move_asked, moves_asked, moves_go_on}
+use Rattle.arj_view_law.proofs.Moving.{move_asked, moves_asked, moves_go_on}
 use Rattle.arj_event_law.proofs.Spoken.{given_node}
 use Rattle.arj_round_law.specs.Quiet.{AreQuiet, IsGiveUp, NobodyWaits, RoundsSettle, SettlesAll, AreGivenUp, AreIdle, GivesUp}
 use Rattle.arj_round_law.specs.Rounds.{AnswersWaits, AreUp, WaitOvertaken}
@@ -427,10 +427,6 @@ given_goes hd m gs l w v is old_header new_header g all k c u q of at found wait
     )
 
 -- ---- moves
-
--- a move more at the end
-pub one_more : (hd : Header) (ms : List Move) (m : Move) → world_by hd (ms ++ m ∷ []) ≡ moved m (world_by hd ms)
-one_more hd ms m = more_moves ms (m ∷ []) (format hd)
 
 -- once over, nothing changes
 pub over_before : (m : Move) (w : World) → (moved m w).over ≡ false → w.over ≡ false
