@@ -33,12 +33,12 @@ use Rattle.arj_held_law.specs.Along.{HoldsEach}
 use Rattle.arj_serial_law.specs.Locked.{IsWrittenIn, caller_at, is_number, joins_top, joins_with, locks_call, locks_entry, writes_entry}
 use Rattle.arj_joint_law.specs.Excluded.{lines_before, uid_of}
 use Rattle.arj_joint_law.specs.FilesInTime.{FileTakesOut, FilesAreInTime, HasPrepared}
-use Rattle.arj_joint_law.proofs.BookRuns.{runs_keep_the_book}
-use Rattle.arj_joint_law.proofs.Clean.{joined_runs_are_serial, runs_are_clean}
-use Rattle.arj_joint_law.proofs.FilesInTime.{runs_exclude_files}
-use Rattle.arj_held_law.proofs.AlongMoves.{runs_hold_each}
-use Rattle.arj_nodes_law.specs.Last.{EndsBehind, IsLast, LastLinesTakeNothing, RunsShow, Shows, ends_run}
-use Rattle.arj_settle_law.proofs.Aborting.{runs_show as one_outcome}
+use Rattle.arj_view_law.specs.Moves.{Move, journal_by, world_by}
+use Rattle.arj_view_law.specs.Seen.{see}
+use Rattle.arj_joint_law.specs.FitRuns.{IsInForm}
+use Rattle.arj_joint_law.specs.Shown.{FilesAre}
+use Rattle.arj_promise_law.proofs.Keeping.{runs_keep}
+use Rattle.arj_nodes_law.specs.Last.{EndsBehind, IsLast, LastLinesTakeNothing, Shows, ends_run}
 
 -- ---- what is read of the line
 
@@ -329,12 +329,12 @@ last_lines_nothing hd e core journal disks (last, is, are) shows = subst (λ ls.
 
 -- ---- runs
 
-pub runs_show : RunsShow
-runs_show hd ms disks form files = record {
-  serial = joined_runs_are_serial hd ms form;
-  book = runs_keep_the_book hd ms form;
-  held = runs_hold_each hd ms form;
-  outcome = one_outcome hd ms;
-  clean = runs_are_clean hd ms disks form files;
-  in_time = runs_exclude_files hd ms disks form files;
+pub runs_show : (hd : Header) (ms : List Move) (disks : Disks) → IsInForm hd ms → FilesAre (see [] (world_by hd ms)) disks → Shows hd (let w = world_by hd ms in w.event) (journal_by hd ms) disks
+runs_show hd ms disks form files = let k = runs_keep hd ms form in record {
+  serial = k.serial;
+  book = k.book;
+  held = k.held;
+  outcome = k.outcome;
+  clean = k.clean disks files;
+  in_time = k.in_time disks files;
 }

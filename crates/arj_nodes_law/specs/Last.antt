@@ -4,14 +4,10 @@ use Rattle.arj_model.specs.Clean.{Clean, Disks}
 use Rattle.arj_model.specs.Last.{first_values}
 use Rattle.arj_protocol.specs.Words.{Body, Header, Line}
 use Rattle.arj_protocol.specs.Words.body
-use Rattle.arj_view_law.specs.Moves.{Move, world_by}
-use Rattle.arj_view_law.specs.Seen.{see}
 use Rattle.arj_serial_law.specs.Seen.{IsSerialBy}
 use Rattle.arj_joint_law.specs.Booked.{KeepsTheBook}
 use Rattle.arj_joint_law.specs.FilesInTime.{FilesAreInTime}
-use Rattle.arj_joint_law.specs.FitRuns.{IsInForm}
 use Rattle.arj_joint_law.specs.Outcome.{ShowsOneOutcome}
-use Rattle.arj_joint_law.specs.Shown.{FilesAre}
 use Rattle.arj_held_law.specs.Along.{HoldsEach}
 
 -- the line says that a line was bad, or that a limit was met
@@ -30,9 +26,8 @@ IsLast (l ∷ m ∷ ls) = ⊥
 abbrev pub EndsBehind : List Line → List Line → Type 0
 EndsBehind core journal = (last : List Line) × IsLast last × (journal ≡ core ++ last)
 
--- What a journal of so many events, and the files of disks at its end, show of the promise. Committed tops got the answers of running them alone, one
--- after another, and so did nested actions, each whole at its commit; the lock book is kept; each surviving call of a committed top is locked for
--- at each line, by the journal's tables, until its unit commits; each top has one outcome; the files are clean, and exclude stores in time.
+-- What a journal of so many events, and the files of disks at its end, show of the promise (`arj_promise_law`): all that it says of a run, which is
+-- said of these alone.
 pub record Shows (hd : Header) (events : ℕ) (lines : List Line) (disks : Disks) : Type 0 where
   pub serial : IsSerialBy hd lines
   pub book : KeepsTheBook (first_values hd) lines
@@ -40,10 +35,6 @@ pub record Shows (hd : Header) (events : ℕ) (lines : List Line) (disks : Disks
   pub outcome : ShowsOneOutcome lines
   pub clean : Clean hd lines disks
   pub in_time : FilesAreInTime hd events lines disks
-
--- so it is of all runs in form, whatever stops fall, with the files of their nodes' pairs
-abbrev pub RunsShow : Type 0
-RunsShow = (hd : Header) (ms : List Move) (disks : Disks) → IsInForm hd ms → (let w = world_by hd ms in FilesAre (see [] w) disks → Shows hd w.event w.lines disks)
 
 -- a line outside of events, behind it, takes nothing of it
 abbrev pub LastLinesTakeNothing : Type 0
