@@ -1,4 +1,4 @@
--- What is held at each line is held at the end of each event: by the journal's tables, and by what nodes have in memory.
+-- What is held at each line by the journal's tables is held at the end of each event by what nodes have in memory.
 use Rattle.std.proofs.Common.{◌≡◌, ◌≤◌, ◌<◌, ◌∙◌, ◌++◌, ◌&&◌, ℕ, List, [], ◌∷◌, Bool, true, false, length, take, refl, sym, ap, subst}
 use Rattle.std.specs.List.{AllByRecursion, list_any}
 use Rattle.std.proofs.Math.Seq.{take-append_seam}
@@ -12,13 +12,13 @@ use Rattle.arj_model.specs.Last.{Inclusion}
 use Rattle.arj_model.specs.Serial.{unit_place}
 use Rattle.arj_model.specs.Table.{table}
 use Rattle.arj_law.specs.Held.{tables_of, unit_end}
-use Rattle.arj_view_law.specs.Moves.{AfterMoves, Move, journal_by, moved}
+use Rattle.arj_view_law.specs.Moves.{AfterMoves, Move, journal_by}
 use Rattle.arj_view_law.proofs.Happens.{all_to}
 use Rattle.arj_serial_law.specs.Locked.{IsWrittenIn, joins_with, locks_call, locks_entry, writes_entry}
 use Rattle.arj_table_law.specs.Tables.{rows_on}
 use Rattle.arj_held_law.proofs.Growing.{each_grown, each_to}
 use Rattle.arj_held_law.specs.Along.{HoldsEach}
-use Rattle.arj_held_law.specs.Held.{HoldsInTables, HoldsLocks, IsHeldNow, IsLockedNow, IsWrittenNow, IsWrittenSo, RunsHoldInTables, RunsHoldLocks, entry_locks, locks_at}
+use Rattle.arj_held_law.specs.Held.{HoldsLocks, IsHeldNow, IsWrittenNow, RunsHoldLocks, entry_locks, locks_at}
 use Rattle.arj_held_law.specs.Shown.{AreShown}
 use Rattle.arj_held_law.proofs.Among.{any_on}
 use Rattle.arj_held_law.proofs.AlongMoves.{runs_hold_each}
@@ -32,11 +32,6 @@ first_of false b is = absurd (cc is)
 both_to : {A : Type 0} (P Q R : A → Type 0) (xs : List A) → ((a : A) → P a → Q a → R a) → AllByRecursion P xs → AllByRecursion Q xs → AllByRecursion R xs
 both_to P Q R [] to p q = tt
 both_to P Q R (x ∷ xs) to p q = (to x p.0 q.0, both_to P Q R xs to p.1 q.1)
-
--- what holds of every world does after each move
-each_world : (P : World → Type 0) → ((w : World) → P w) → (ms : List Move) (w : World) → AfterMoves P w ms
-each_world P all [] w = all w
-each_world P all (m ∷ ms) w = (all w, each_world P all ms (moved m w))
 
 module _ (hd : Header) (ms : List Move) (h : HoldsEach (journal_by hd ms)) where
   abbrev lines : List Line
@@ -53,19 +48,7 @@ module _ (hd : Header) (ms : List Move) (h : HoldsEach (journal_by hd ms)) where
   abbrev IsWrittenEach : Top → Placed Inclusion → Type 0
   IsWrittenEach u i = (p : ℕ) → i.at < p → p ≤ unit_place (tops lines) u.root → IsWrittenIn lines (tables_of lines 1 p) u i.it.x
 
-  -- ---- by the tables
-
-  pub in_tables : HoldsInTables hd ms
-  in_tables = record {
-    node = h.node;
-    calls = both_to IsLockedEach IsEntryEach (λ c. AfterMoves (IsLockedNow lines c (h.node c)) (format hd) ms) (committed_calls lines)
-        (λ c its names. each_world (IsLockedNow lines c (h.node c)) (λ w behind within. record { object = its (length w.lines) behind within; entry = names (length w.lines) behind within }) ms (format hd)) h.callers h.entries;
-    includes = all_to (λ u. AllByRecursion (IsWrittenEach u) (joins_with lines u)) (λ u. AllByRecursion (λ i. AfterMoves (IsWrittenSo lines u i) (format hd) ms) (joins_with lines u)) (tops lines)
-        (λ u. all_to (IsWrittenEach u) (λ i. AfterMoves (IsWrittenSo lines u i) (format hd) ms) (joins_with lines u) (λ i its. each_world (IsWrittenSo lines u i) (λ w. its (length w.lines)) ms (format hd))) h.includes;
-    at_one = h.at_one;
-  }
-
-  -- ---- by the nodes
+  -- ---- after each event
 
   abbrev IsFront : World → Type 0
   IsFront w = (more : List Line) × (lines ≡ w.lines ++ more)
@@ -105,9 +88,6 @@ module _ (hd : Header) (ms : List Move) (h : HoldsEach (journal_by hd ms)) where
         (λ u. all_to (IsWrittenEach u) (λ i. AfterMoves (IsWrittenNow lines u i) (format hd) ms) (joins_with lines u) (λ i its. each_to Front (IsWrittenNow lines u i) (written_now u i its) ms (format hd) fronts)) h.includes;
     at_one = h.at_one;
   }
-
-pub runs_hold : RunsHoldInTables
-runs_hold hd ms form = in_tables hd ms (runs_hold_each hd ms form)
 
 pub joint_runs_hold_locks : RunsHoldLocks
 joint_runs_hold_locks hd ms form = at_nodes hd ms (runs_hold_each hd ms form)

@@ -6,8 +6,8 @@
 //! of `arj_joint_law`, its lock machine is seen at each line in the state before or behind what a node did, or behind some of the ends that came to a server
 //! (`proofs/AlongKept.antt`), and at those of a restart in the state behind it (`proofs/RestartPlaces.antt`). Beside it naming is: a message changes its locks
 //! on an entry by one line at most (`proofs/NamedRuns.antt`), so that at each line they are those before it or those behind (`proofs/Names.antt`). So held,
-//! and entry held, are laws of the journal's tables at each line (`runs_hold_locks_at_each_line`): so they are at the end of each event
-//! (`runs_hold_locks_in_tables`), and at the nodes then, whose locks the tables have (`joint_runs_hold_locks`).
+//! and entry held, are laws of the journal's tables at each line (`runs_hold_locks_at_each_line`), and of the nodes' memory at the end of each event, as the
+//! tables have their locks then (`joint_runs_hold_locks`).
 #![tactic(auto)]
 
 mod along;
@@ -15,5 +15,5 @@ mod held;
 mod tables;
 
 pub use along::runs_hold_locks_at_each_line;
-pub use held::{joint_runs_hold_locks, runs_hold_locks_in_tables};
+pub use held::joint_runs_hold_locks;
 pub use tables::tables_show_locks;
