@@ -161,11 +161,11 @@ closes_move {C} {D} c d before after answer closes = (none, some)
 moved_shows : {C D : Type 0} (c : core.Ghosts C) (d : disk.Ghosts D) → SaysPairs c → (t : Task D) (now : Hand C D) → HasMoved c d t now → Shows t.header now.kept.event now.journal (files_of d now.disks)
 moved_shows c d says t now h = subst (λ (p : ℕ × List Line). Shows t.header p.0 p.1 (files_of d now.disks)) (λ i. (sym h.event i, sym h.journal i)) (runs_show t.header h.moves (files_of d now.disks) h.form (h.files says))
 
-pub scripts_show : {C D : Type 0} (c : core.Ghosts C) (d : disk.Ghosts D) → ScriptsShow c d
+pub scripts_show : {C D : Type 0} (c : core.Ghosts C) (d : disk.Ghosts D) → SaysPairs c → ScriptsShow c d
 scripts_show {C} {D} c d says first rack lines place at s nodes is =
     moved_shows c d says (task first s.header (events_of s.forms)) (hand nodes.world rack at.journal) (scripts_move c d first rack lines place at s nodes is)
 
-pub closes_show : {C D : Type 0} (c : core.Ghosts C) (d : disk.Ghosts D) → ClosesShow c d
+pub closes_show : {C D : Type 0} (c : core.Ghosts C) (d : disk.Ghosts D) → SaysPairs c → ClosesShow c d
 closes_show {C} {D} c d says before after answer closes nodes is =
     let m = (closes_move c d before after answer closes).1 nodes is in
     let h : HasMoved c d (task before.rack header (events_of stage.forms)) (hand nodes.world after.rack at.journal) = m.0 in

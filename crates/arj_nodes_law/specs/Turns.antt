@@ -87,13 +87,12 @@ ClosesMove {C} {D} c d = (before after : Outside D) (answer : Answer) (closes : 
 
 -- ---- what that shows
 
--- The journal of what was run of a script's lines, and the files of the disks behind them, show so much of the promise, where cores say the pairs
--- of their disks.
+-- The journal of what was run of a script's lines, and the files of the disks behind them, show what is promised.
 abbrev pub ScriptsShow : {C D : Type 0} → core.Ghosts C → disk.Ghosts D → Type 0
-ScriptsShow {C} {D} c d = SaysPairs c → (first rack : List D) (lines : List (List ℕ)) (place : Place) (at : loop.Hand (AllNodes C)) (s : Stage (all_nodes c d) first rack lines place at) (nodes : AllNodes C)
+ScriptsShow {C} {D} c d = (first rack : List D) (lines : List (List ℕ)) (place : Place) (at : loop.Hand (AllNodes C)) (s : Stage (all_nodes c d) first rack lines place at) (nodes : AllNodes C)
     → at.machine ≡ Some nodes → Shows s.header (let k = nodes.world in k.event) at.journal (files_of d rack)
 
 -- so do the journal and the files that a run leaves
 abbrev pub ClosesShow : {C D : Type 0} → core.Ghosts C → disk.Ghosts D → Type 0
-ClosesShow {C} {D} c d = SaysPairs c → (before after : Outside D) (answer : Answer) (closes : Closes (all_nodes c d) before after answer) (nodes : AllNodes C)
+ClosesShow {C} {D} c d = (before after : Outside D) (answer : Answer) (closes : Closes (all_nodes c d) before after answer) (nodes : AllNodes C)
     → (let e = closes.ends in let at = e.at in at.machine) ≡ Some nodes → Shows (let e = closes.ends in let r = e.reached in let s = r.stage in s.header) (let k = nodes.world in k.event) answer.journal (files_of d after.rack)

@@ -1,4 +1,5 @@
 // What nodes run over disks is a run of moves.
+ghost use Rattle.arj_nodes_law.specs.Cores.{SaysPairs};
 ghost use Rattle.arj_nodes_law.specs.Turns.{ClosesMove, ClosesShow, NodesMove, ScriptsMove, ScriptsShow};
 
 use arj_core::Core;
@@ -19,6 +20,6 @@ pub fn nodes_run_moves<C: Core, D: Disk>()
 /// (`scripts`). So do the journal and the disks that the call `nodes` leaves at each such status, once its script's header was read (`closes`).
 /// It does nothing when it runs.
 pub fn nodes_show_what_is_promised<C: Core, D: Disk>()
-    ensures scripts { ScriptsShow C.Core D.Disk }
-    ensures closes { ClosesShow C.Core D.Disk }
+    ensures scripts { SaysPairs C.Core → ScriptsShow C.Core D.Disk }
+    ensures closes { SaysPairs C.Core → ClosesShow C.Core D.Disk }
 {}
