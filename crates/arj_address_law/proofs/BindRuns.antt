@@ -21,7 +21,7 @@ use Rattle.arj_protocol.specs.Order.{uid_set, without_number}
 use Rattle.arj_protocol.specs.Step.{Input, Node, acts, branch_named, commit_reasons, first_disk, first_node, hello_to, naming_at, naming_back, numbers_to, parent_of, parts_in, recovered_records, refusal_up, refused_by, restart_outs, tolds_again}
 use Rattle.arj_protocol.specs.Step as input
 use Rattle.arj_protocol.specs.Tree.{Branch, at_place, is_own, new_tree, root_of}
-use Rattle.arj_protocol.specs.World.{Asked as AskedEvent, Labelled, format, is_serial_kind, run_all}
+use Rattle.arj_protocol.specs.World.{Labelled, format, is_serial_kind}
 use Rattle.arj_part_law.specs.Actions.{Action, paths_of}
 use Rattle.arj_part_law.specs.Coords.{IsGoodCoord}
 use Rattle.arj_part_law.specs.Copies.{IsTree, Paths}
@@ -37,9 +37,11 @@ use Rattle.arj_run_law.proofs.AllRuns.{all_keep}
 use Rattle.arj_run_law.proofs.Handled.{counted_of, own_of_disk, tops_of_disk}
 use Rattle.arj_run_law.proofs.Walked.{other_number, same_number}
 use Rattle.arj_view_law.specs.Keeps.{Holds, Keeps, is_act}
+use Rattle.arj_view_law.specs.Moves.{Move, world_by}
 use Rattle.arj_view_law.specs.Seen.{In, Post, Seen, at, down, given, posted, said, see, up}
 use Rattle.arj_view_law.specs.Walks.{Up, Walks}
-use Rattle.arj_view_law.proofs.Happens.{runs_hold}
+use Rattle.arj_view_law.proofs.Happens.{keeps_asked}
+use Rattle.arj_view_law.proofs.Moving.{moves_asked}
 use Rattle.arj_view_law.proofs.Together.{walks_both}
 use Rattle.arj_call_law.proofs.CoordOuts.{acked_so, acts_so, again_so, heard_so, tolds_so}
 use Rattle.arj_call_law.proofs.WorldVotes.{fits_asked}
@@ -332,5 +334,5 @@ binds_keep hd = record {
     both : (e k : ℕ) (outs : List Effect) (v : Parts) (d : Disk) (M : Seen) → Walks IsGood e k outs (Up IsGood k v) d M → Walks BindsAreKnown e k outs (Up BindsAreKnown k v) d M → Walks (λ N. IsGood N × BindsAreKnown N) e k outs (Up (λ N. IsGood N × BindsAreKnown N) k v) d M
     both e k outs v d M a b = walks_both IsGood BindsAreKnown e k outs (Up IsGood k v) (Up BindsAreKnown k v) d M a b
 
-pub runs_bound : (hd : Header) (es : List AskedEvent) → Holds hd BindsAreKnown (run_all es (format hd))
-runs_bound hd es = let h = runs_hold hd AreBound (binds_keep hd) es in record { sent = h.sent; stands = h.stands; holds = let all = h.holds in all.1 }
+pub runs_bound : (hd : Header) (ms : List Move) → Holds hd BindsAreKnown (world_by hd ms)
+runs_bound hd ms = let h = moves_asked hd AreBound (keeps_asked hd AreBound (binds_keep hd)) ms in record { sent = h.sent; stands = h.stands; holds = let all = h.holds in all.1 }

@@ -16,12 +16,14 @@ use Rattle.arj_protocol.specs.Node.{Parts, with_coord}
 use Rattle.arj_protocol.specs.Order.{put_uid}
 use Rattle.arj_protocol.specs.Step as input
 use Rattle.arj_protocol.specs.Step.{Input, Node, acts, entries_at, first_disk, first_entry, first_node, numbers_to, parent_of, parts_in, put_states, refusal_up, restart_outs}
-use Rattle.arj_protocol.specs.World.{Asked, Frame, World, format, is_serial_kind, run_all, run_event}
+use Rattle.arj_protocol.specs.World.{Asked, Frame, World, format, is_serial_kind, run_event}
 use Rattle.arj_protocol.proofs.Payloads.{entry_back}
 use Rattle.arj_view_law.specs.Keeps.{AsksNode, HasPlace, Holds, IsSent, KeepsAsked, is_act}
+use Rattle.arj_view_law.specs.Moves.{Move, world_by}
 use Rattle.arj_view_law.specs.Seen.{In, Post, Seen, at, given, posted, said, see, up}
 use Rattle.arj_view_law.specs.Walks.{Up, Walks}
-use Rattle.arj_view_law.proofs.Happens.{event_asked, first_asked, keeps_asked, runs_asked}
+use Rattle.arj_view_law.proofs.Happens.{event_asked, first_asked, keeps_asked}
+use Rattle.arj_view_law.proofs.Moving.{moves_asked}
 use Rattle.arj_view_law.proofs.Together.{walks_both}
 use Rattle.arj_address_law.specs.Addresses.{AllOf, AreAddressed, AreOf, AreSo, CoordOf, DiskOf, EntryOf, GoWithin, IsEntry, IsNode, LineOf, NodeOf, PartsOf, PostOf, StateOf}
 use Rattle.arj_address_law.proofs.BindRuns.{AreBound, answers_fit, binds_keep, commit_keeps}
@@ -182,8 +184,8 @@ module _ (G : ℕ → Type 0) where
           with_it : (d : Disk) (t : Parts) (c : Coord) → PartsOf G d t → CoordOf G c → PartsOf G d (with_coord t c)
           with_it d t c its k = record { server = its.server; naming = its.naming; coord = k }
 
-      pub runs_so : (es : List Asked) → Holds hd All (run_all es (format hd))
-      runs_so es = let h = runs_asked hd Whole so_kept es in record { sent = h.sent; stands = h.stands; holds = let all = h.holds in all.1 }
+      pub runs_so : (ms : List Move) → Holds hd All (world_by hd ms)
+      runs_so ms = let h = moves_asked hd Whole so_kept ms in record { sent = h.sent; stands = h.stands; holds = let all = h.holds in all.1 }
 
 -- ---- the numbers up to the header's
 
@@ -228,5 +230,5 @@ module _ (hd : Header) (form : HeaderInForm hd) where
   pub event_within : (e : Asked) (w : World) → Holds hd (AreAddressed hd) w → Holds hd (AreAddressed hd) (run_event e w)
   event_within e w h = event_asked hd (AreAddressed hd) kept e w h
 
-  pub within : (es : List Asked) → GoWithin hd.nodes (run_all es (format hd))
-  within es = within_of (run_all es (format hd)) (runs_asked hd (AreAddressed hd) kept es)
+  pub within : (ms : List Move) → GoWithin hd.nodes (world_by hd ms)
+  within ms = within_of (world_by hd ms) (moves_asked hd (AreAddressed hd) kept ms)

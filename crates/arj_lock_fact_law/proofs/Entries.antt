@@ -21,7 +21,8 @@ use Rattle.arj_address_law.proofs.Lists.{found_put}
 use Rattle.arj_run_law.proofs.Starts.{first_at}
 use Rattle.arj_view_law.specs.Seen.{Seen, at, given, posted, said, see}
 use Rattle.arj_view_law.specs.Walks.{Up, Walks}
-use Rattle.arj_view_law.proofs.Happens.{runs_hold}
+use Rattle.arj_view_law.proofs.Happens.{keeps_asked}
+use Rattle.arj_view_law.proofs.Moving.{moves_asked}
 use Rattle.arj_lock_fact_law.specs.Entries.{EntriesAreFound, HandlersKeepEntries, HasObject, HoldsEntry, RunsKeepEntries}
 
 some_is : {A : Type 0} {a b : A} → Some a ≡ Some b → a ≡ b
@@ -120,7 +121,7 @@ entries_keep hd x has = record {
 }
 
 pub entries_run : RunsKeepEntries
-entries_run hd x has es = runs_hold hd (HoldsEntry x) (entries_keep hd x has) es
+entries_run hd x has ms = moves_asked hd (HoldsEntry x) (keeps_asked hd (HoldsEntry x) (entries_keep hd x has)) ms
 
 -- ---- what a restart finds
 

@@ -320,7 +320,7 @@ pub objects_keep : HandlersKeepObjects
 objects_keep hd = keeps_uppers HoldsObjects held_objects hd
 
 pub objects_run : RunsKeepObjects
-objects_run hd es = runs_uppers HoldsObjects held_objects hd es
+objects_run hd ms = runs_uppers HoldsObjects held_objects hd ms
 
 pub objects_good : ObjectsAreGood
 objects_good v acts k n t o M held found live names q is = let h = (held k n found).live t o live names in h.objects v.x q is

@@ -8,4 +8,4 @@ pub grants_keep : HandlersKeepGrants
 grants_keep hd = keeps_so says_grants KnowsGrants KnowsMade grants_kept (given_so says_grants (λ r its. its)) hd
 
 pub grants_run : RunsKeepGrants
-grants_run hd es = runs_so says_grants KnowsGrants KnowsMade grants_kept (given_so says_grants (λ r its. its)) hd es
+grants_run hd ms = runs_so says_grants KnowsGrants KnowsMade grants_kept (given_so says_grants (λ r its. its)) hd ms

@@ -28,7 +28,7 @@ use Rattle.arj_protocol.specs.Server as server
 use Rattle.arj_protocol.specs.Step.{Input, Node, acts, begin_refusal, first_disk, first_node, hello_to, naming_at, naming_back, numbers_to, parent_of, parts_in, recovered_records, refusal_up, restart_outs, tolds_again}
 use Rattle.arj_protocol.specs.Step as input
 use Rattle.arj_protocol.specs.Tree.{at_place}
-use Rattle.arj_protocol.specs.World.{Asked as AskedEvent, Labelled, format, is_serial_kind, run_all}
+use Rattle.arj_protocol.specs.World.{Labelled, format, is_serial_kind}
 use Rattle.arj_protocol.proofs.PartSays.{activate_own, bind_own, confirm_own, ends_own, invoke_own, note_own, told_own, vote_own}
 use Rattle.arj_part_law.specs.Actions.{Action, AreBegun, MayBegin, paths_of}
 use Rattle.arj_part_law.specs.Claims.{AreTrue, IsFaithful}
@@ -43,9 +43,11 @@ use Rattle.arj_run_law.proofs.Begins.{may as may_begin}
 use Rattle.arj_run_law.proofs.Handled.{own_of_disk, tops_of_disk}
 use Rattle.arj_run_law.proofs.Walked.{other_number, same_number}
 use Rattle.arj_view_law.specs.Keeps.{Holds, Keeps, is_act}
+use Rattle.arj_view_law.specs.Moves.{Move, world_by}
 use Rattle.arj_view_law.specs.Seen.{In, Post, Seen, at, down, given, posted, said, see, up}
 use Rattle.arj_view_law.specs.Walks.{Up, Walks, halted}
-use Rattle.arj_view_law.proofs.Happens.{runs_hold}
+use Rattle.arj_view_law.proofs.Happens.{keeps_asked}
+use Rattle.arj_view_law.proofs.Moving.{moves_asked}
 use Rattle.arj_view_law.proofs.Together.{walks_both}
 use Rattle.arj_call_law.proofs.CoordOuts.{acked_so, acts_so, again_so, heard_so, query_so, tolds_so}
 use Rattle.arj_call_law.proofs.CoordSends.{AllSo, IsSentBy}
@@ -467,5 +469,5 @@ module _ (S : Said) (Q : Coord → Type 0) (N : Naming → Type 0) (kept : IsKep
       together : (e k : ℕ) (outs : List Effect) (v : Parts) (d : Disk) (M : Seen) → Walks (λ M. IsGood M × BindsAreKnown M) e k outs (Up (λ M. IsGood M × BindsAreKnown M) k v) d M → Walks AreSo e k outs (Up AreSo k v) d M → Walks IsSo e k outs (Up IsSo k v) d M
       together e k outs v d M a b = walks_both (λ M. IsGood M × BindsAreKnown M) AreSo e k outs (Up (λ M. IsGood M × BindsAreKnown M) k v) (Up AreSo k v) d M a b
 
-  pub runs_so : (hd : Header) (es : List AskedEvent) → Holds hd IsSo (run_all es (format hd))
-  runs_so hd es = runs_hold hd IsSo (keeps_so hd) es
+  pub runs_so : (hd : Header) (ms : List Move) → Holds hd IsSo (world_by hd ms)
+  runs_so hd ms = moves_asked hd IsSo (keeps_asked hd IsSo (keeps_so hd)) ms

@@ -46,7 +46,8 @@ use Rattle.arj_run_law.proofs.Walked.{other_number, same_number}
 use Rattle.arj_view_law.specs.Keeps.{is_act}
 use Rattle.arj_view_law.specs.Seen.{In, Post, Seen, at, down, given, posted, said, see, up}
 use Rattle.arj_view_law.specs.Walks.{Up, Walks, halted}
-use Rattle.arj_view_law.proofs.Happens.{runs_hold}
+use Rattle.arj_view_law.proofs.Happens.{keeps_asked}
+use Rattle.arj_view_law.proofs.Moving.{moves_asked}
 use Rattle.arj_call_law.proofs.CoordOuts.{quiet_again}
 use Rattle.arj_call_law.proofs.CoordSends.{AllQuiet, IsQuiet}
 use Rattle.arj_call_law.proofs.WorldSteps.{no_request}
@@ -587,4 +588,4 @@ parted_keep hd = record {
 }
 
 pub parted_run : RunsKeepParted
-parted_run hd es = runs_hold hd (λ M. (begun : List Action) × IsGoodOf begun M × KnowsParted begun M) (kept_of hd KnowsParted (parted_keep hd)) es
+parted_run hd ms = moves_asked hd (λ M. (begun : List Action) × IsGoodOf begun M × KnowsParted begun M) (keeps_asked hd (λ M. (begun : List Action) × IsGoodOf begun M × KnowsParted begun M) (kept_of hd KnowsParted (parted_keep hd))) ms

@@ -15,7 +15,8 @@ use Rattle.arj_part_law.specs.Actions.{paths_of}
 use Rattle.arj_part_law.proofs.Begun.{begun_tree, on_own}
 use Rattle.arj_part_law.proofs.TrueSteps.{well_acked, well_acts, well_again, well_heard}
 use Rattle.arj_view_law.specs.Seen.{Post}
-use Rattle.arj_view_law.proofs.Happens.{runs_hold}
+use Rattle.arj_view_law.proofs.Happens.{keeps_asked}
+use Rattle.arj_view_law.proofs.Moving.{moves_asked}
 use Rattle.arj_call_law.specs.Coords.{IsOfStep}
 use Rattle.arj_call_law.proofs.CoordSends.{IsSentBy, SendsSo}
 use Rattle.arj_lock_fact_law.specs.Requests.{HandlersKeepRequests, IsAskedBy, KnowsRequests, RequestsAreKnown, RunsKeepRequests}
@@ -79,4 +80,4 @@ pub requests_keep : HandlersKeepRequests
 requests_keep hd = coords_plain (λ s c. KnowsRequests s.sent s.node c) requests_kept hd
 
 pub requests_run : RunsKeepRequests
-requests_run hd es = runs_hold hd RequestsAreKnown (requests_keep hd) es
+requests_run hd ms = moves_asked hd RequestsAreKnown (keeps_asked hd RequestsAreKnown (requests_keep hd)) ms

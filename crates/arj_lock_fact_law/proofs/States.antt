@@ -13,7 +13,8 @@ use Rattle.arj_protocol.specs.Ending.{acked}
 use Rattle.arj_protocol.specs.Step.{acts, parent_of}
 use Rattle.arj_protocol.specs.Node.{is_loaded_for, is_loaded_in, reply_is_meant}
 use Rattle.arj_address_law.specs.Binds.{AnswersWaiting}
-use Rattle.arj_view_law.proofs.Happens.{runs_hold}
+use Rattle.arj_view_law.proofs.Happens.{keeps_asked}
+use Rattle.arj_view_law.proofs.Moving.{moves_asked}
 use Rattle.arj_lock_fact_law.specs.States.{HandlersKeepStates, KnowsStates, RunsKeepStates, StatesAreKnown}
 use Rattle.arj_lock_fact_law.proofs.Asked.{AreWaiting, IsNewAt, waiting_acked, waiting_acts, waiting_again, waiting_begins, waiting_heard, waiting_new}
 use Rattle.arj_lock_fact_law.proofs.CoordRuns.{IsKeptBy, PlaceAt, Sender, coords_plain}
@@ -73,4 +74,4 @@ pub states_keep : HandlersKeepStates
 states_keep hd = coords_plain (λ s c. KnowsStates c) states_kept hd
 
 pub states_run : RunsKeepStates
-states_run hd es = runs_hold hd StatesAreKnown (states_keep hd) es
+states_run hd ms = moves_asked hd StatesAreKnown (keeps_asked hd StatesAreKnown (states_keep hd)) ms

@@ -30,7 +30,7 @@ use Rattle.arj_protocol.specs.Says.{AreAll, is_coord_effect, is_server_effect}
 use Rattle.arj_protocol.specs.Server as server
 use Rattle.arj_protocol.specs.Step.{Node, acts as acts_of, first_disk, first_entry, first_node, hello_to, naming_at, naming_back, numbers_to, parent_of, parts_in, put_states, recovered_records, restart_outs, tolds_again}
 use Rattle.arj_protocol.specs.Tree.{next_uid, path_below}
-use Rattle.arj_protocol.specs.World.{Asked as AskedEvent, format, is_serial_kind, run_all}
+use Rattle.arj_protocol.specs.World.{format, is_serial_kind}
 use Rattle.arj_protocol.proofs.CoordSays.{acked_own, acts_own, again_own, heard_own, query_own, tolds_again_own}
 use Rattle.arj_protocol.proofs.PartSays.{activate_own, ends_own, invoke_own, vote_own}
 use Rattle.arj_part_law.specs.Actions.{Action, AreBegun}
@@ -42,9 +42,11 @@ use Rattle.arj_run_law.specs.Worlds.{IsGoodOf}
 use Rattle.arj_run_law.proofs.Begins.{begin_good}
 use Rattle.arj_run_law.proofs.Walked.{other_number, same_number}
 use Rattle.arj_view_law.specs.Keeps.{Holds, Keeps}
+use Rattle.arj_view_law.specs.Moves.{Move, world_by}
 use Rattle.arj_view_law.specs.Seen.{Seen, at, given, posted, said, see}
 use Rattle.arj_view_law.specs.Walks.{Up, Walks, halted}
-use Rattle.arj_view_law.proofs.Happens.{runs_hold}
+use Rattle.arj_view_law.proofs.Happens.{keeps_asked}
+use Rattle.arj_view_law.proofs.Moving.{moves_asked}
 use Rattle.arj_lock_fact_law.specs.Acts.{KeepsOf, begins_in}
 use Rattle.arj_lock_fact_law.specs.Uppers.{AreOfEntries, AreUppersOf, HavePrepared, IsTopOf, IsUpperNode, PreparesUpper}
 use Rattle.arj_lock_fact_law.proofs.Acts.{kept_of}
@@ -434,5 +436,5 @@ module _ (N : List Action → Naming → Type 0) (held : IsHeld N) where
   pub keeps_uppers : (hd : Header) → Keeps hd IsSo
   keeps_uppers hd = kept_of hd (AreUppersOf N) (uppers_of hd)
 
-  pub runs_uppers : (hd : Header) (es : List AskedEvent) → Holds hd IsSo (run_all es (format hd))
-  runs_uppers hd es = runs_hold hd IsSo (keeps_uppers hd) es
+  pub runs_uppers : (hd : Header) (ms : List Move) → Holds hd IsSo (world_by hd ms)
+  runs_uppers hd ms = moves_asked hd IsSo (keeps_asked hd IsSo (keeps_uppers hd)) ms

@@ -46,7 +46,7 @@ pub uppers_keep : HandlersKeepUppers
 uppers_keep hd = keeps_uppers HoldsUppers held_uppers hd
 
 pub uppers_run : RunsKeepUppers
-uppers_run hd es = runs_uppers HoldsUppers held_uppers hd es
+uppers_run hd ms = runs_uppers HoldsUppers held_uppers hd ms
 
 module _ (acts : List Action) (begun : AreBegun acts) (a : Action) (there : Contains acts a) (nested : a.kind ≡ kind.Nested) where
   apart : (u : Uid) → IsTopAction acts u → u ≡ act_of a → ⊥

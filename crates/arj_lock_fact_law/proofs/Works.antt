@@ -81,4 +81,4 @@ pub works_keep : HandlersKeepWorks
 works_keep hd = keeps_so says_works KnowsWorks (λ (n : Naming). ⊤) (works_kept (λ r. ⊤)) nothing_given hd
 
 pub runs_keep : RunsKeepWorks
-runs_keep hd es = runs_so says_works KnowsWorks (λ (n : Naming). ⊤) (works_kept (λ r. ⊤)) nothing_given hd es
+runs_keep hd ms = runs_so says_works KnowsWorks (λ (n : Naming). ⊤) (works_kept (λ r. ⊤)) nothing_given hd ms

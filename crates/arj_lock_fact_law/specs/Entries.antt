@@ -5,12 +5,11 @@ use Rattle.arj_protocol.specs.Confirm.{recovered_naming}
 use Rattle.arj_protocol.specs.Effect.{Pair, held_at}
 use Rattle.arj_protocol.specs.Order.{at_number}
 use Rattle.arj_protocol.specs.Step.{Node}
-use Rattle.arj_protocol.specs.World as world
-use Rattle.arj_protocol.specs.World.{format, run_all}
 use Rattle.arj_view_law.specs.Keeps.{Holds, Keeps}
+use Rattle.arj_view_law.specs.Moves.{Move, world_by}
 use Rattle.arj_view_law.specs.Seen.{Seen}
 
--- the script has the object
+-- the header has the object
 abbrev pub HasObject : Header → ℕ → Type 0
 HasObject hd x = (o : ObjectLine) × Contains hd.objects o × (o.x ≡ x)
 
@@ -22,9 +21,9 @@ HoldsEntry x M = (n : Node) → M.nodes 1 ≡ Some n → is_some (held_at (entry
 abbrev pub HandlersKeepEntries : Type 0
 HandlersKeepEntries = (hd : Header) (x : ℕ) → HasObject hd x → Keeps hd (HoldsEntry x)
 
--- and so it holds in every run
+-- and so it holds in every run, wherever disks stop
 abbrev pub RunsKeepEntries : Type 0
-RunsKeepEntries = (hd : Header) (x : ℕ) → HasObject hd x → (es : List world.Asked) → Holds hd (HoldsEntry x) (run_all es (format hd))
+RunsKeepEntries = (hd : Header) (x : ℕ) → HasObject hd x → (ms : List Move) → Holds hd (HoldsEntry x) (world_by hd ms)
 
 -- So naming finds the object as it starts.
 abbrev pub EntriesAreFound : Type 0

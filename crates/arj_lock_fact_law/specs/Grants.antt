@@ -12,14 +12,13 @@ use Rattle.arj_protocol.specs.Naming.{Naming}
 use Rattle.arj_protocol.specs.Order.{binding_number}
 use Rattle.arj_protocol.specs.Tree.{Branch, branch_of, has_open_child, root_of}
 use Rattle.arj_lock.proofs.Members as list
-use Rattle.arj_protocol.specs.World as world
-use Rattle.arj_protocol.specs.World.{format, run_all}
 use Rattle.arj_part_law.specs.Actions.{AreBegun}
 use Rattle.arj_part_law.specs.Copies.{Paths}
 use Rattle.arj_call_law.specs.Coords.{IsSpent}
 use Rattle.arj_address_law.specs.Binds.{BindsAreKnown, KnowsBinds}
 use Rattle.arj_run_law.specs.Worlds.{IsGood}
 use Rattle.arj_view_law.specs.Keeps.{Holds, Keeps}
+use Rattle.arj_view_law.specs.Moves.{Move, world_by}
 use Rattle.arj_view_law.specs.Seen.{Post, Seen}
 use Rattle.arj_lock_law.specs.State.{State}
 use Rattle.arj_lock_view_law.specs.Acting.{IsFreeToEnd}
@@ -103,9 +102,9 @@ GrantsAreKnown M = (IsGood M × BindsAreKnown M) × worlds.Everywhere says_grant
 abbrev pub HandlersKeepGrants : Type 0
 HandlersKeepGrants = (hd : Header) → Keeps hd GrantsAreKnown
 
--- and so it holds in every run
+-- and so it holds in every run, wherever disks stop
 abbrev pub RunsKeepGrants : Type 0
-RunsKeepGrants = (hd : Header) (es : List world.Asked) → Holds hd GrantsAreKnown (run_all es (format hd))
+RunsKeepGrants = (hd : Header) (ms : List Move) → Holds hd GrantsAreKnown (world_by hd ms)
 
 -- As a top's commit is called, the grant that its plan says of an object isn't above the binding that its unit keeps, where a call of the
 -- unit counts.

@@ -12,11 +12,10 @@ use Rattle.arj_protocol.specs.Node.{Parts}
 use Rattle.arj_protocol.specs.Order.{has}
 use Rattle.arj_protocol.specs.Step.{Node}
 use Rattle.arj_protocol.specs.Tree.{Branch, branch_of, is_own}
-use Rattle.arj_protocol.specs.World as world
-use Rattle.arj_protocol.specs.World.{format, run_all}
 use Rattle.arj_part_law.specs.Actions.{Action}
 use Rattle.arj_run_law.specs.Worlds.{IsGoodOf}
 use Rattle.arj_view_law.specs.Keeps.{Holds}
+use Rattle.arj_view_law.specs.Moves.{Move, world_by}
 use Rattle.arj_view_law.specs.Seen.{In, Post, Seen}
 use Rattle.arj_lock_fact_law.specs.Acts.{KeepsOf}
 use Rattle.arj_lock_fact_law.specs.Uppers.{IsTopOf}
@@ -106,9 +105,9 @@ pub record KnowsParted (begun : List Action) (M : Seen) : Type 0 where
 abbrev pub HandlersKeepParted : Type 0
 HandlersKeepParted = (hd : Header) → KeepsOf hd (λ begun M. ⊤) KnowsParted
 
--- and so it holds in every run
+-- and so it holds in every run, wherever disks stop
 abbrev pub RunsKeepParted : Type 0
-RunsKeepParted = (hd : Header) (es : List world.Asked) → Holds hd (λ M. (begun : List Action) × IsGoodOf begun M × KnowsParted begun M) (run_all es (format hd))
+RunsKeepParted = (hd : Header) (ms : List Move) → Holds hd (λ M. (begun : List Action) × IsGoodOf begun M × KnowsParted begun M) (world_by hd ms)
 
 -- ---- what Confirms name
 

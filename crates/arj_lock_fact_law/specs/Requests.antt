@@ -8,12 +8,11 @@ use Rattle.arj_protocol.specs.Coord.{Calling, Committing, Coord, Doing, doing_of
 use Rattle.arj_protocol.specs.Node.{Parts}
 use Rattle.arj_protocol.specs.Step.{Node}
 use Rattle.arj_protocol.specs.Tree.{is_own}
-use Rattle.arj_protocol.specs.World as world
-use Rattle.arj_protocol.specs.World.{format, run_all}
 use Rattle.arj_address_law.specs.Binds.{BindsAreKnown}
 use Rattle.arj_call_law.specs.Coords.{IsOfStep}
 use Rattle.arj_run_law.specs.Worlds.{IsGood}
 use Rattle.arj_view_law.specs.Keeps.{Holds, Keeps}
+use Rattle.arj_view_law.specs.Moves.{Move, world_by}
 use Rattle.arj_view_law.specs.Seen.{In, Post, Seen}
 
 -- A request that was sent is of no later number than its action's last one; and if it's that one, it is the request of the step that waits,
@@ -41,6 +40,6 @@ RequestsAreKnown M = (IsGood M × BindsAreKnown M) × AreAsked M
 abbrev pub HandlersKeepRequests : Type 0
 HandlersKeepRequests = (hd : Header) → Keeps hd RequestsAreKnown
 
--- and so it holds in every run
+-- and so it holds in every run, wherever disks stop
 abbrev pub RunsKeepRequests : Type 0
-RunsKeepRequests = (hd : Header) (es : List world.Asked) → Holds hd RequestsAreKnown (run_all es (format hd))
+RunsKeepRequests = (hd : Header) (ms : List Move) → Holds hd RequestsAreKnown (world_by hd ms)

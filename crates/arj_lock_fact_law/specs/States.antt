@@ -5,11 +5,10 @@ use Rattle.arj_protocol.specs.Call.{AtActivate, Known, Steps}
 use Rattle.arj_protocol.specs.Coord.{Calling, Coord, Doing, doing_of}
 use Rattle.arj_protocol.specs.Node.{Parts}
 use Rattle.arj_protocol.specs.Step.{Node}
-use Rattle.arj_protocol.specs.World as world
-use Rattle.arj_protocol.specs.World.{format, run_all}
 use Rattle.arj_address_law.specs.Binds.{BindsAreKnown}
 use Rattle.arj_run_law.specs.Worlds.{IsGood}
 use Rattle.arj_view_law.specs.Keeps.{Holds, Keeps}
+use Rattle.arj_view_law.specs.Moves.{Move, world_by}
 use Rattle.arj_view_law.specs.Seen.{Seen}
 
 -- A state that a call takes to its server is of the call's object.
@@ -28,6 +27,6 @@ StatesAreKnown M = (IsGood M × BindsAreKnown M) × AreStated M
 abbrev pub HandlersKeepStates : Type 0
 HandlersKeepStates = (hd : Header) → Keeps hd StatesAreKnown
 
--- and so it holds in every run
+-- and so it holds in every run, wherever disks stop
 abbrev pub RunsKeepStates : Type 0
-RunsKeepStates = (hd : Header) (es : List world.Asked) → Holds hd StatesAreKnown (run_all es (format hd))
+RunsKeepStates = (hd : Header) (ms : List Move) → Holds hd StatesAreKnown (world_by hd ms)

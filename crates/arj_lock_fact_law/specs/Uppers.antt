@@ -10,14 +10,13 @@ use Rattle.arj_protocol.specs.Naming.{Naming}
 use Rattle.arj_protocol.specs.Node.{Parts}
 use Rattle.arj_protocol.specs.Order.{at_number}
 use Rattle.arj_protocol.specs.Step.{Node}
-use Rattle.arj_protocol.specs.World as world
-use Rattle.arj_protocol.specs.World.{format, run_all}
 use Rattle.arj_part_law.specs.Actions.{Action, act_of, owners_of}
 use Rattle.arj_part_law.specs.Messages.{IsTopAction}
 use Rattle.arj_part_law.specs.Objects.{IsGoodObject}
 use Rattle.arj_address_law.specs.Addresses.{IsEntry}
 use Rattle.arj_run_law.specs.Worlds.{IsGoodOf}
 use Rattle.arj_view_law.specs.Keeps.{Holds, Keeps}
+use Rattle.arj_view_law.specs.Moves.{Move, world_by}
 use Rattle.arj_view_law.specs.Seen.{Seen}
 use Rattle.arj_lock_view_law.specs.Namings.{HasNothingAt, IsGoodAt}
 use Rattle.arj_lock_view_law.specs.Telling.{View}
@@ -74,9 +73,9 @@ PreparesUpper acts e = ⊤
 abbrev pub HandlersKeepUppers : Type 0
 HandlersKeepUppers = (hd : Header) → Keeps hd UppersAreKnown
 
--- and so it holds in every run
+-- and so it holds in every run, wherever disks stop
 abbrev pub RunsKeepUppers : Type 0
-RunsKeepUppers = (hd : Header) (es : List world.Asked) → Holds hd UppersAreKnown (run_all es (format hd))
+RunsKeepUppers = (hd : Header) (ms : List Move) → Holds hd UppersAreKnown (world_by hd ms)
 
 -- At naming of a node that is up a nested action has nothing.
 abbrev pub NestedHaveNothing : Type 0
@@ -104,9 +103,9 @@ ObjectsAreHeld M = (acts : List Action) × IsGoodOf acts M × AreUppersOf HoldsO
 abbrev pub HandlersKeepObjects : Type 0
 HandlersKeepObjects = (hd : Header) → Keeps hd ObjectsAreHeld
 
--- and so it holds in every run
+-- and so it holds in every run, wherever disks stop
 abbrev pub RunsKeepObjects : Type 0
-RunsKeepObjects = (hd : Header) (es : List world.Asked) → Holds hd ObjectsAreHeld (run_all es (format hd))
+RunsKeepObjects = (hd : Header) (ms : List Move) → Holds hd ObjectsAreHeld (world_by hd ms)
 
 -- At naming of a node that is up each object is good, in the words of the machine's view.
 abbrev pub ObjectsAreGood : Type 0

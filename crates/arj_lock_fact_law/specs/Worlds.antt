@@ -7,11 +7,10 @@ use Rattle.arj_protocol.specs.Coord.{Coord}
 use Rattle.arj_protocol.specs.Naming.{Naming}
 use Rattle.arj_protocol.specs.Node.{Parts}
 use Rattle.arj_protocol.specs.Step.{Node}
-use Rattle.arj_protocol.specs.World as world
-use Rattle.arj_protocol.specs.World.{format, run_all}
 use Rattle.arj_address_law.specs.Binds.{BindsAreKnown}
 use Rattle.arj_run_law.specs.Worlds.{IsGood}
 use Rattle.arj_view_law.specs.Keeps.{Holds, Keeps}
+use Rattle.arj_view_law.specs.Moves.{Move, world_by}
 use Rattle.arj_view_law.specs.Seen.{In, Post, Seen}
 use Rattle.arj_lock_fact_law.specs.Works.{HasNoRoots, KnowsEnds, KnowsWaits}
 
@@ -49,6 +48,6 @@ WorksAreKnown M = (IsGood M × BindsAreKnown M) × Everywhere says_works KnowsWo
 abbrev pub HandlersKeepWorks : Type 0
 HandlersKeepWorks = (hd : Header) → Keeps hd WorksAreKnown
 
--- and so it holds in every run
+-- and so it holds in every run, wherever disks stop
 abbrev pub RunsKeepWorks : Type 0
-RunsKeepWorks = (hd : Header) (es : List world.Asked) → Holds hd WorksAreKnown (run_all es (format hd))
+RunsKeepWorks = (hd : Header) (ms : List Move) → Holds hd WorksAreKnown (world_by hd ms)

@@ -7,9 +7,9 @@ ghost use Rattle.arj_lock_fact_law.specs.Requests.{HandlersKeepRequests, RunsKee
 ghost use Rattle.arj_lock_fact_law.specs.States.{HandlersKeepStates, RunsKeepStates};
 ghost use Rattle.arj_lock_fact_law.specs.Worlds.{HandlersKeepWorks, RunsKeepWorks};
 
-/// In every run each coordinator that is up is in order: of two actions that wait none stands above the other, calls ask by numbers from 1
-/// on, a root that wasn't begun has nothing, and the ends that are listed, and brought by commits, are of actions that stand below others: of
-/// no serializing one. Each handler keeps it, wherever a stop falls. It does nothing when it runs.
+/// In every run, wherever disks stop, each coordinator that is up is in order: of two actions that wait none stands above the other, calls
+/// ask by numbers from 1 on, a root that wasn't begun has nothing, and the ends that are listed, and brought by commits, are of actions that
+/// stand below others: of no serializing one. Each handler keeps it, wherever a stop falls. It does nothing when it runs.
 pub fn coordinators_stay_in_order()
     ensures handlers { HandlersKeepWorks }
     ensures runs { RunsKeepWorks }
@@ -42,9 +42,10 @@ pub fn plans_have_what_is_kept()
     ensures { PlansHaveKept }
 {}
 
-/// In every run no binding that naming has is below its incarnation, and so says each answer to a Bind; and where a root keeps a binding of
-/// an object, the top of each call on it past its Bind, and of each one that was answered and isn't spent, was granted the object by an
-/// incarnation that isn't above that binding, or the root retains such a call. Each handler keeps it. It does nothing when it runs.
+/// In every run, wherever disks stop, no binding that naming has is below its incarnation, and so says each answer to a Bind; and where a
+/// root keeps a binding of an object, the top of each call on it past its Bind, and of each one that was answered and isn't spent, was
+/// granted the object by an incarnation that isn't above that binding, or the root retains such a call. Each handler keeps it. It does
+/// nothing when it runs.
 pub fn grants_stay_in_order()
     ensures handlers { HandlersKeepGrants }
     ensures runs { RunsKeepGrants }
@@ -56,26 +57,26 @@ pub fn plans_grant_low()
     ensures { PlansGrantLow }
 {}
 
-/// In every run each request that a node sent for an action of its coordinator is of no later number than the action's last one, and if it is
-/// that one, it is the request of the step for which the action waits, or what its commit asks of that node: so an answer to it is one to
-/// what waits. Each handler keeps it, wherever a stop falls. It does nothing when it runs.
+/// In every run, wherever disks stop, each request that a node sent for an action of its coordinator is of no later number than the action's
+/// last one, and if it is that one, it is the request of the step for which the action waits, or what its commit asks of that node: so an
+/// answer to it is one to what waits. Each handler keeps it, wherever a stop falls. It does nothing when it runs.
 pub fn last_requests_are_of_what_waits()
     ensures handlers { HandlersKeepRequests }
     ensures runs { RunsKeepRequests }
 {}
 
-/// In every run each coordinator that is up knows who is part of its commits: who was asked for a vote is one of the servers that the plan
-/// has, and naming was asked to confirm one thing; behind a commit all these took part. Each Vote and Confirm is by a top of its sender, and
-/// all Confirms of one top are one, so that there is for each top whether its Confirms name an object. Each handler keeps it, wherever a
-/// stop falls. It does nothing when it runs.
+/// In every run, wherever disks stop, each coordinator that is up knows who is part of its commits: who was asked for a vote is one of the
+/// servers that the plan has, and naming was asked to confirm one thing; behind a commit all these took part. Each Vote and Confirm is by a
+/// top of its sender, and all Confirms of one top are one, so that there is for each top whether its Confirms name an object. Each handler
+/// keeps it, wherever a stop falls. It does nothing when it runs.
 pub fn coordinators_know_their_parts()
     ensures handlers { HandlersKeepParted }
     ensures runs { RunsKeepParted }
     ensures confirms { ConfirmsNameOne }
 {}
 
-/// In every run a state that a call takes to its server is of the call's object: only such a state can be meant by a store's answer. Each
-/// handler keeps it, wherever a stop falls. It does nothing when it runs.
+/// In every run, wherever disks stop, a state that a call takes to its server is of the call's object: only such a state can be meant by a
+/// store's answer. Each handler keeps it, wherever a stop falls. It does nothing when it runs.
 pub fn states_are_of_their_objects()
     ensures handlers { HandlersKeepStates }
     ensures runs { RunsKeepStates }

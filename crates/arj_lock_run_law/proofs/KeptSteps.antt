@@ -27,7 +27,8 @@ use Rattle.arj_line_law.proofs.Paths.{IsPathedOf, act_pathed, begin_pathed, firs
 use Rattle.arj_view_law.specs.Keeps.{MayGive, is_act, label_at}
 use Rattle.arj_view_law.specs.Seen.{AreQuiet, In, Post, Seen, Within, at, down, given, posted, said, see, up}
 use Rattle.arj_view_law.specs.Walks.{Up, Walks, halted}
-use Rattle.arj_view_law.proofs.Happens.{runs_hold}
+use Rattle.arj_view_law.proofs.Happens.{keeps_asked}
+use Rattle.arj_view_law.proofs.Moving.{moves_asked}
 use Rattle.arj_view_law.proofs.Together.{walks_both, walks_each, walks_to}
 use Rattle.arj_call_law.proofs.Given.{KeepsGiven, kept_both}
 use Rattle.arj_lock_fact_law.specs.Acts.{KeepsOf, begins_in}
@@ -537,10 +538,10 @@ pub votes_are_kept : VotesAreKept
 votes_are_kept hd values x before test keeps gives used everywhere = kept_both hd (λ M. before M ≡ true) (AreLocksVoted values x (λ begun N. test begun N ≡ true)) everywhere (votes_given hd values x (λ M. before M ≡ true) (λ begun M. test begun M ≡ true) keeps gives used)
 
 pub runs_keep_votes : RunsKeepVotes
-runs_keep_votes hd values x before test keeps gives used everywhere es = runs_hold hd (λ M. (before M ≡ true) × AreLocksVoted values x (λ begun N. test begun N ≡ true) M) (votes_are_kept hd values x before test keeps gives used everywhere) es
+runs_keep_votes hd values x before test keeps gives used everywhere ms = moves_asked hd (λ M. (before M ≡ true) × AreLocksVoted values x (λ begun N. test begun N ≡ true) M) (keeps_asked hd (λ M. (before M ≡ true) × AreLocksVoted values x (λ begun N. test begun N ≡ true) M) (votes_are_kept hd values x before test keeps gives used everywhere)) ms
 
 pub locks_are_kept : LocksAreKept
 locks_are_kept hd values x before test keeps gives everywhere = kept_both hd (λ M. before M ≡ true) (AreLocksSeen values x (λ begun N. test begun N ≡ true)) everywhere (locks_given hd values x (λ M. before M ≡ true) (λ begun M. test begun M ≡ true) keeps gives)
 
 pub runs_keep_locks : RunsKeepLocks
-runs_keep_locks hd values x before test keeps gives everywhere es = runs_hold hd (λ M. (before M ≡ true) × AreLocksSeen values x (λ begun N. test begun N ≡ true) M) (locks_are_kept hd values x before test keeps gives everywhere) es
+runs_keep_locks hd values x before test keeps gives everywhere ms = moves_asked hd (λ M. (before M ≡ true) × AreLocksSeen values x (λ begun N. test begun N ≡ true) M) (keeps_asked hd (λ M. (before M ≡ true) × AreLocksSeen values x (λ begun N. test begun N ≡ true) M) (locks_are_kept hd values x before test keeps gives everywhere)) ms

@@ -8,14 +8,13 @@ use Rattle.arj_protocol.specs.Effect.{Disk, Effect}
 use Rattle.arj_protocol.specs.Node.{Parts, Took, handle, is_meant}
 use Rattle.arj_protocol.specs.Step.{Input, Node, acts, first_disk, refusal_up}
 use Rattle.arj_protocol.specs.Tree.{next_uid}
-use Rattle.arj_protocol.specs.World.{format, run_all}
-use Rattle.arj_protocol.specs.World as world
 use Rattle.arj_model.specs.Serial.{Values}
 use Rattle.arj_lock_law.specs.State.{State}
 use Rattle.arj_part_law.specs.Actions.{Action}
 use Rattle.arj_event_law.specs.Named.{HasNames}
 use Rattle.arj_line_law.specs.Paths.{IsAlikeOf}
 use Rattle.arj_view_law.specs.Keeps.{Holds, Keeps, is_act}
+use Rattle.arj_view_law.specs.Moves.{Move, world_by}
 use Rattle.arj_view_law.specs.Seen.{In, Seen, down}
 use Rattle.arj_lock_fact_law.specs.Acts.{KeepsOf}
 use Rattle.arj_lock_fact_law.specs.Works.{KnowsEnds}
@@ -66,14 +65,14 @@ pub record GivesLocks (hd : Header) (f : Fixed) (x : ℕ) (R : List Action → S
   pub first : KnowsEntry x 1 (first_disk hd 1)
 
 -- Where such a relation is kept, of the actions that were begun, before whatever holds everywhere, it is kept with the object seen, for all
--- that may be fixed; and both hold in the run of every script.
+-- that may be fixed; and both hold in every run, wherever disks stop.
 abbrev pub LocksAreKept : Type 0
 LocksAreKept = (hd : Header) (values : Values) (x : ℕ) (before : Seen → Bool) (test : List Action → Seen → Bool)
     → KeepsOf hd (λ begun M. before M ≡ true) (λ begun M. test begun M ≡ true) → ((f : Fixed) → BeginsAs values x f → GivesLocks hd f x (λ begun S M. (before M ≡ true) × (test begun M ≡ true)))
     → Keeps hd (λ M. before M ≡ true) → Keeps hd (λ M. (before M ≡ true) × AreLocksSeen values x (λ begun N. test begun N ≡ true) M)
 
--- so it is in the run of every script
+-- so it is in every run, wherever disks stop
 abbrev pub RunsKeepLocks : Type 0
 RunsKeepLocks = (hd : Header) (values : Values) (x : ℕ) (before : Seen → Bool) (test : List Action → Seen → Bool)
     → KeepsOf hd (λ begun M. before M ≡ true) (λ begun M. test begun M ≡ true) → ((f : Fixed) → BeginsAs values x f → GivesLocks hd f x (λ begun S M. (before M ≡ true) × (test begun M ≡ true)))
-    → Keeps hd (λ M. before M ≡ true) → (es : List world.Asked) → Holds hd (λ M. (before M ≡ true) × AreLocksSeen values x (λ begun N. test begun N ≡ true) M) (run_all es (format hd))
+    → Keeps hd (λ M. before M ≡ true) → (ms : List Move) → Holds hd (λ M. (before M ≡ true) × AreLocksSeen values x (λ begun N. test begun N ≡ true) M) (world_by hd ms)

@@ -3,14 +3,13 @@ use Rattle.std.specs.Prelude.{◌≡◌, Bool, ℕ, true, List, Some}
 use Rattle.arj_protocol.specs.Words.{Header}
 use Rattle.arj_protocol.specs.Node.{Parts}
 use Rattle.arj_protocol.specs.Step.{Node}
-use Rattle.arj_protocol.specs.World.{format, run_all}
-use Rattle.arj_protocol.specs.World as world
 use Rattle.arj_model.specs.Serial.{Values}
 use Rattle.arj_lock_law.specs.State.{State}
 use Rattle.arj_part_law.specs.Actions.{Action}
 use Rattle.arj_call_law.specs.Runs.{AllVotesAreUsed}
 use Rattle.arj_line_law.specs.Paths.{IsAlikeOf}
 use Rattle.arj_view_law.specs.Keeps.{Holds, Keeps}
+use Rattle.arj_view_law.specs.Moves.{Move, world_by}
 use Rattle.arj_view_law.specs.Seen.{Seen}
 use Rattle.arj_lock_fact_law.specs.Acts.{KeepsOf}
 use Rattle.arj_lock_fact_law.specs.Votes.{AreVoted}
@@ -28,15 +27,15 @@ AreVotedAt f x S M = (k : ℕ) (n : Node) (t : Parts) → M.nodes k ≡ Some n �
 abbrev pub AreLocksVoted : Values → ℕ → (List Action → Seen → Type 0) → Seen → Type 0
 AreLocksVoted values x R M = (begun : List Action) × IsAlikeOf begun M × R begun M × ((f : Fixed) → AgreesAs values f x begun M.sent → (S : State) × SeesLocks f x begun S M × AreTied f x M.lines S × AreVotedAt f x S M) × AreCoordsNamed M
 
--- So it is kept where a relation gives what handlers count on, and what holds everywhere says that votes are used; and in the run of every
--- script.
+-- So it is kept where a relation gives what handlers count on, and what holds everywhere says that votes are used; and in every
+-- run, wherever disks stop.
 abbrev pub VotesAreKept : Type 0
 VotesAreKept = (hd : Header) (values : Values) (x : ℕ) (before : Seen → Bool) (test : List Action → Seen → Bool)
     → KeepsOf hd (λ begun M. before M ≡ true) (λ begun M. test begun M ≡ true) → ((f : Fixed) → BeginsAs values x f → GivesLocks hd f x (λ begun S M. (before M ≡ true) × (test begun M ≡ true))) → ((M : Seen) → before M ≡ true → AllVotesAreUsed M)
     → Keeps hd (λ M. before M ≡ true) → Keeps hd (λ M. (before M ≡ true) × AreLocksVoted values x (λ begun N. test begun N ≡ true) M)
 
--- so it is in the run of every script
+-- so it is in every run, wherever disks stop
 abbrev pub RunsKeepVotes : Type 0
 RunsKeepVotes = (hd : Header) (values : Values) (x : ℕ) (before : Seen → Bool) (test : List Action → Seen → Bool)
     → KeepsOf hd (λ begun M. before M ≡ true) (λ begun M. test begun M ≡ true) → ((f : Fixed) → BeginsAs values x f → GivesLocks hd f x (λ begun S M. (before M ≡ true) × (test begun M ≡ true))) → ((M : Seen) → before M ≡ true → AllVotesAreUsed M)
-    → Keeps hd (λ M. before M ≡ true) → (es : List world.Asked) → Holds hd (λ M. (before M ≡ true) × AreLocksVoted values x (λ begun N. test begun N ≡ true) M) (run_all es (format hd))
+    → Keeps hd (λ M. before M ≡ true) → (ms : List Move) → Holds hd (λ M. (before M ≡ true) × AreLocksVoted values x (λ begun N. test begun N ≡ true) M) (world_by hd ms)

@@ -4,7 +4,7 @@ ghost use Rattle.arj_lock_run_law.specs.Votes.{RunsKeepVotes, VotesAreKept};
 
 /// A relation of the protocol alone and of the actions that were begun, that is kept and gives what handlers count on, is kept together
 /// with the object seen in the whole world, in a state to which the journal is tied, for all that may be fixed, agrees and begins with one
-/// value; and both hold in the run of every script, beside what holds everywhere. It does nothing when it runs.
+/// value; and both hold in every run, wherever disks stop, beside what holds everywhere. It does nothing when it runs.
 pub fn runs_keep_the_lock_half()
     ensures handlers { LocksAreKept }
     ensures runs { RunsKeepLocks }

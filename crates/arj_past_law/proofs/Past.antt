@@ -50,7 +50,8 @@ use Rattle.arj_run_law.proofs.Starts.{restart_good}
 use Rattle.arj_view_law.specs.Keeps.{is_act}
 use Rattle.arj_view_law.specs.Seen.{In, Post, Seen, at, down, given, posted, said, see, up}
 use Rattle.arj_view_law.specs.Walks.{Up, Walks, halted}
-use Rattle.arj_view_law.proofs.Happens.{runs_hold}
+use Rattle.arj_view_law.proofs.Happens.{keeps_asked}
+use Rattle.arj_view_law.proofs.Moving.{moves_asked}
 use Rattle.arj_disk_view_law.proofs.FirstSeen.{first_at}
 use Rattle.arj_disk_view_law.proofs.Frames.{node_here}
 use Rattle.arj_disk_run_law.specs.Places.{AreBegunIn, AreNamesRows, AsksBegun, IsAboutBegun, IsBegun, IsCallRow, IsEntryRow, MeansBegun, asked_about}
@@ -649,4 +650,4 @@ pub past_keep : HandlersKeepPast
 past_keep hd = kept_of hd ArePastIn (past_of hd)
 
 pub past_run : RunsKeepPast
-past_run hd es = runs_hold hd EndsArePast (past_keep hd) es
+past_run hd ms = moves_asked hd EndsArePast (keeps_asked hd EndsArePast (past_keep hd)) ms

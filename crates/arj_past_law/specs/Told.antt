@@ -6,13 +6,12 @@ use Rattle.arj_protocol.specs.Node.{Parts}
 use Rattle.arj_protocol.specs.Server.{is_told}
 use Rattle.arj_protocol.specs.Step.{Node}
 use Rattle.arj_protocol.specs.Tree.{Branch, branch_of}
-use Rattle.arj_protocol.specs.World as world
-use Rattle.arj_protocol.specs.World.{format, run_all}
 use Rattle.arj_part_law.specs.Actions.{Action}
 use Rattle.arj_part_law.specs.Ends.{brought, told_by}
 use Rattle.arj_disk_run_law.specs.Places.{AreBegunIn, AreCallRows, AreKeyed, AreNamesRows, AsksBegun, HasNaming}
 use Rattle.arj_run_law.specs.Worlds.{IsGoodOf}
 use Rattle.arj_view_law.specs.Keeps.{Holds, Keeps}
+use Rattle.arj_view_law.specs.Moves.{Move, world_by}
 use Rattle.arj_view_law.specs.Seen.{In, Post, Seen}
 
 -- the Uid is on the path of an action that was begun
@@ -71,6 +70,6 @@ EndsArePast M = (acts : List Action) × IsGoodOf acts M × ArePastIn acts M
 abbrev pub HandlersKeepPast : Type 0
 HandlersKeepPast = (hd : Header) → Keeps hd EndsArePast
 
--- and so it holds in every run
+-- and so it holds in every run, wherever disks stop
 abbrev pub RunsKeepPast : Type 0
-RunsKeepPast = (hd : Header) (es : List world.Asked) → Holds hd EndsArePast (run_all es (format hd))
+RunsKeepPast = (hd : Header) (ms : List Move) → Holds hd EndsArePast (world_by hd ms)

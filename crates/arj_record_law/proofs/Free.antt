@@ -13,7 +13,6 @@ use Rattle.arj_protocol.specs.Naming.{Naming}
 use Rattle.arj_protocol.specs.Node.{Parts}
 use Rattle.arj_protocol.specs.Order.{at_uid, binding_number}
 use Rattle.arj_protocol.specs.Step.{Node}
-use Rattle.arj_protocol.specs.World.{format, run_all}
 use Rattle.arj_part_law.specs.Actions.{AreBegun, owners_of}
 use Rattle.arj_part_law.specs.Messages.{FitsAsked, IsAsker}
 use Rattle.arj_part_law.specs.Objects.{IsGoodObject, IsUnrecorded, Untold}
@@ -23,8 +22,10 @@ use Rattle.arj_part_law.proofs.GoodCalls.{untold_path}
 use Rattle.arj_part_law.proofs.GoodObjects.{owner_untold}
 use Rattle.arj_part_law.proofs.Keys as keys
 use Rattle.arj_view_law.specs.Keeps.{Keeps}
+use Rattle.arj_view_law.specs.Moves.{world_by}
 use Rattle.arj_view_law.specs.Seen.{In, Post, Seen, see}
-use Rattle.arj_view_law.proofs.Happens.{runs_hold}
+use Rattle.arj_view_law.proofs.Happens.{keeps_asked}
+use Rattle.arj_view_law.proofs.Moving.{moves_asked}
 use Rattle.arj_call_law.specs.Bindings.{AreSaid}
 use Rattle.arj_call_law.specs.Lived.{HasGiven}
 use Rattle.arj_call_law.specs.Runs.{KnowsFew}
@@ -165,6 +166,6 @@ pub records_run_on : (hd : Header) → Keeps hd RecordsRun
 records_run_on hd = few_go hd RecordsKnown (records_known hd)
 
 pub records_are_free : RunsFreeRecords
-records_are_free hd es few =
-    let h = runs_hold hd RecordsRun (records_run_on hd) es in
-    record { sent = h.sent; stands = h.stands; holds = (let w = h.holds.1 few in records_free (see h.sent (run_all es (format hd))) (few, w.0) w.1) }
+records_are_free hd ms few =
+    let h = moves_asked hd RecordsRun (keeps_asked hd RecordsRun (records_run_on hd)) ms in
+    record { sent = h.sent; stands = h.stands; holds = (let w = h.holds.1 few in records_free (see h.sent (world_by hd ms)) (few, w.0) w.1) }

@@ -10,8 +10,6 @@ use Rattle.arj_protocol.specs.Naming.{Naming, is_over}
 use Rattle.arj_protocol.specs.Node.{Parts}
 use Rattle.arj_protocol.specs.Order.{at_number, at_uid, binding_eq}
 use Rattle.arj_protocol.specs.Step.{Node}
-use Rattle.arj_protocol.specs.World as world
-use Rattle.arj_protocol.specs.World.{format, run_all}
 use Rattle.arj_call_law.specs.Bindings.{AreSaid, HasFewBindings}
 use Rattle.arj_call_law.specs.Lived.{LivesRun}
 use Rattle.arj_call_law.specs.Runs.{KnowsRun}
@@ -19,6 +17,7 @@ use Rattle.arj_part_law.specs.Actions.{Action}
 use Rattle.arj_run_law.specs.Worlds.{IsGood, IsGoodOf}
 use Rattle.arj_address_law.specs.Binds.{BindsAreKnown}
 use Rattle.arj_view_law.specs.Keeps.{Holds, Keeps}
+use Rattle.arj_view_law.specs.Moves.{Move, journal_by, world_by}
 use Rattle.arj_view_law.specs.Seen.{In, Post, Seen}
 use Rattle.arj_lock_fact_law.specs.Requests.{KnowsRequests}
 use Rattle.arj_lock_fact_law.specs.Uppers.{AreUppersOf, HoldsObjects}
@@ -90,6 +89,6 @@ abbrev pub RecordsAreFree : Seen → Type 0
 RecordsAreFree M = (q : Node) (t : Parts) (n : Naming) (p : Post) (h : Head) (x : ℕ) (b : Binding) (i g : ℕ) → M.nodes 1 ≡ Some q → q.live ≡ Some t → t.naming ≡ Some n → In p M.sent → asks p.message ≡ Some (h, ask.Record x b i g) → IsNewRecord x h b g n
     → (states : List ObjectState) (s : ObjectState) → at_uid (top_of h.path) (let d = q.disk in let e = d.names in e.pend) ≡ Some states → list.In s states → s.uid ≡ entry x → ⊥
 
--- so it is in every such run
+-- so it is in every such run, wherever disks stop
 abbrev pub RunsFreeRecords : Type 0
-RunsFreeRecords = (hd : Header) (es : List world.Asked) → HasFewBindings (let w = run_all es (format hd) in w.lines) → Holds hd RecordsAreFree (run_all es (format hd))
+RunsFreeRecords = (hd : Header) (ms : List Move) → HasFewBindings (journal_by hd ms) → Holds hd RecordsAreFree (world_by hd ms)

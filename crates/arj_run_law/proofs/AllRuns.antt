@@ -1,6 +1,6 @@
 -- What holds of all nodes and messages is kept by each handler.
 use Rattle.std.proofs.Common.{◌≡◌, ℕ, ◌+◌, List, ◌∷◌, Some, subst}
-use Rattle.arj_protocol.specs.World.{Asked, format, is_serial_kind, run_all}
+use Rattle.arj_protocol.specs.World.{is_serial_kind}
 use Rattle.arj_protocol.specs.Tree.{at_place, next_uid, path_below}
 use Rattle.arj_protocol.specs.Asking.{again_all, begin_action}
 use Rattle.arj_protocol.specs.Effect.{Disk, Effect}
@@ -16,9 +16,11 @@ use Rattle.arj_run_law.proofs.Begins.{begin_good}
 use Rattle.arj_run_law.proofs.Handled.{act_good, message_good, stopped_good, tick_good}
 use Rattle.arj_run_law.proofs.Starts.{first_good, restart_good}
 use Rattle.arj_view_law.specs.Keeps.{Keeps}
+use Rattle.arj_view_law.specs.Moves.{Move, world_by}
 use Rattle.arj_view_law.specs.Seen.{Seen, given}
 use Rattle.arj_view_law.specs.Walks.{Walks, Up}
-use Rattle.arj_view_law.proofs.Happens.{runs_hold}
+use Rattle.arj_view_law.proofs.Happens.{keeps_asked}
+use Rattle.arj_view_law.proofs.Moving.{moves_asked}
 use Rattle.arj_view_law.proofs.Together.{walks_to}
 
 -- with the actions begun so far it holds of some actions
@@ -40,11 +42,11 @@ all_keep hd = record {
 }
 
 -- in each run a node that is up is good, with all actions that were begun
-pub nodes_good : (hd : Header) (es : List Asked) (k : ℕ) (n : Node) (t : Parts) → at_place k (let w = run_all es (format hd) in w.nodes) ≡ Some n → n.live ≡ Some t → (acts : List Action) × AreBegun acts × IsGoodNode acts (paths_of acts) t
-nodes_good hd es k n t is up =
-    let h = runs_hold hd IsGood (all_keep hd) es in
+pub nodes_good : (hd : Header) (ms : List Move) (k : ℕ) (n : Node) (t : Parts) → at_place k (let w = world_by hd ms in w.nodes) ≡ Some n → n.live ≡ Some t → (acts : List Action) × AreBegun acts × IsGoodNode acts (paths_of acts) t
+nodes_good hd ms k n t is up =
+    let h = moves_asked hd IsGood (keeps_asked hd IsGood (all_keep hd)) ms in
     let good = h.holds in
     let w = good.1 in
     let p = w.places k n is in
-    let u = subst (IsMemory good.0 h.sent (let v = run_all es (format hd) in v.labels) k n.disk.inc) up p.memory in
+    let u = subst (IsMemory good.0 h.sent (let v = world_by hd ms in v.labels) k n.disk.inc) up p.memory in
     (good.0, w.begun, u.good (paths_of good.0) (begun_tree good.0 w.begun) (path_found good.0 w.begun))

@@ -3,7 +3,7 @@ use Rattle.arj_address_law.proofs.Runs.{runs_so, within}
 use Rattle.arj_address_law.proofs.frames.frames_go_within.Goals as goal
 
 pub returns-clause-named : goal.returns-clause-named
-returns-clause-named c = λ hd test one nodes objects es. runs_so (λ n. test n ≡ true) one hd nodes objects es
+returns-clause-named c = λ hd test one nodes objects ms. runs_so (λ n. test n ≡ true) one hd nodes objects ms
 
 pub returns-clause-runs : goal.returns-clause-runs
-returns-clause-runs c = λ hd form es. within hd form es
+returns-clause-runs c = λ hd form ms. within hd form ms

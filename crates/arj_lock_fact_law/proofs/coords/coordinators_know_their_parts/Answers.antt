@@ -6,7 +6,7 @@ pub returns-clause-handlers : goal.returns-clause-handlers
 returns-clause-handlers c = λ hd. parted_keep hd
 
 pub returns-clause-runs : goal.returns-clause-runs
-returns-clause-runs c = λ hd es. parted_run hd es
+returns-clause-runs c = λ hd ms. parted_run hd ms
 
 pub returns-clause-confirms : goal.returns-clause-confirms
 returns-clause-confirms c = λ x begun M good knows. confirms_name_one x begun M good knows

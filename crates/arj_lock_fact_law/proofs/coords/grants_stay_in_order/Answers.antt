@@ -5,4 +5,4 @@ pub returns-clause-handlers : goal.returns-clause-handlers
 returns-clause-handlers c = λ hd. grants_keep hd
 
 pub returns-clause-runs : goal.returns-clause-runs
-returns-clause-runs c = λ hd es. grants_run hd es
+returns-clause-runs c = λ hd ms. grants_run hd ms

@@ -5,7 +5,7 @@ pub returns-clause-handlers : goal.returns-clause-handlers
 returns-clause-handlers c = λ hd. objects_keep hd
 
 pub returns-clause-runs : goal.returns-clause-runs
-returns-clause-runs c = λ hd es. objects_run hd es
+returns-clause-runs c = λ hd ms. objects_run hd ms
 
 pub returns-clause-good : goal.returns-clause-good
 returns-clause-good c = λ v acts k n t o M held found live names. objects_good v acts k n t o M held found live names

@@ -1,10 +1,11 @@
 use Rattle.arj_run_law.specs.Worlds.{IsGood}
 use Rattle.arj_run_law.proofs.AllRuns.{all_keep, nodes_good}
 use Rattle.arj_run_law.proofs.runs.parts_are_good_in_every_run.Goals as goal
-use Rattle.arj_view_law.proofs.Happens.{event_holds, runs_hold}
+use Rattle.arj_view_law.proofs.Happens.{event_holds, keeps_asked}
+use Rattle.arj_view_law.proofs.Moving.{moves_asked}
 
 pub returns-clause-runs : goal.returns-clause-runs
-returns-clause-runs c = λ hd es. runs_hold hd IsGood (all_keep hd) es
+returns-clause-runs c = λ hd ms. moves_asked hd IsGood (keeps_asked hd IsGood (all_keep hd)) ms
 
 pub returns-clause-event : goal.returns-clause-event
 returns-clause-event c = λ hd e w h. event_holds hd IsGood (all_keep hd) e w h
