@@ -1,8 +1,7 @@
 -- The laws of every run, put together for one.
-use Rattle.std.proofs.Common.{◌≡◌, ◌≤◌, ◌∙◌, ◌++◌, false, List, [], ◌∷◌, length-append, arith, refl, sym, ap, subst, ◌⊎◌, inl, inr, ⊎_elim}
+use Rattle.std.proofs.Common.{◌≡◌, ◌≤◌, ◌∙◌, ◌++◌, false, List, [], ◌∷◌, length-append, arith, sym, ap, subst, ◌⊎◌, inl, inr, ⊎_elim}
 use Rattle.std.specs.List.{AllByRecursion}
 use Rattle.arj_journal.specs.ScriptForm.{EventInForm}
-use Rattle.arj_model.specs.Clean.{Disks}
 use Rattle.arj_protocol.specs.Words.{Header}
 use Rattle.arj_protocol.specs.World.{World, format}
 use Rattle.arj_view_law.specs.Keeps.{Holds}
@@ -28,7 +27,7 @@ use Rattle.arj_settle_law.proofs.Idle.{quiesces_idle, rounds_idle}
 use Rattle.arj_settle_law.proofs.Last.{idle_files_hold}
 use Rattle.arj_settle_law.proofs.Settled.{handlers_settle}
 use Rattle.arj_settle_law.proofs.Waiting.{runs_leave_overtaken}
-use Rattle.arj_promise_law.specs.Promise.{CalmQuiescesEndAtRest, EndsAtRest, EndsInQuiesce, EndsInRound, HasFiles, KeptAfterEveryEvent, QuiescesLeaveOvertaken, RoundsEndAtRest, RunsKeepThePromise, ScriptsAreRuns}
+use Rattle.arj_promise_law.specs.Promise.{CalmQuiescesEndAtRest, EndsAtRest, EndsInQuiesce, EndsInRound, KeptAfterEveryEvent, QuiescesLeaveOvertaken, QuietFilesHoldAll, RoundsEndAtRest, RunsKeepThePromise, ScriptsAreRuns}
 
 -- ---- the promise
 
@@ -66,18 +65,19 @@ scripts_run hd es form fit short = (
 
 -- ---- quiesces
 
--- where the run has so ended, clean files hold the last states
-at_rest : (hd : Header) (ms : List Move) → IsInForm hd ms → EndsQuiet (world_by hd ms) → EndsAtRest hd ms
-at_rest hd ms f quiet = record {
-  quiet = quiet;
-  last = λ disks are. let l = held disks are in record { entries = l.entries; stores = λ x s listed. l.stores x s listed (lists_nodes hd f.header (world_by hd ms) (moves_keep hd ms) x s listed).0 };
-}
+-- where every node is idle, clean files hold the last states
+pub quiet_hold : QuietFilesHoldAll
+quiet_hold hd ms disks f idle are = record { entries = held.entries; stores = λ x s listed. held.stores x s listed (lists_nodes hd f.header (world_by hd ms) (moves_keep hd ms) x s listed).0 }
   where
     h : Holds hd (KnowsPrepared hd) (world_by hd ms)
     h = moves_asked hd (KnowsPrepared hd) (handlers_settle hd f.header).0 ms
 
-    held : (disks : Disks) → HasFiles hd ms disks → HoldTheLast hd (journal_by hd ms) disks
-    held disks are = idle_files_hold hd (journal_by hd ms) h.sent (world_by hd ms) disks f.header h.stands quiet.idle are (runs_are_clean hd ms disks f are)
+    held : HoldTheLast hd (journal_by hd ms) disks
+    held = idle_files_hold hd (journal_by hd ms) h.sent (world_by hd ms) disks f.header h.stands idle are (runs_are_clean hd ms disks f are)
+
+-- where the run has so ended
+at_rest : (hd : Header) (ms : List Move) → IsInForm hd ms → EndsQuiet (world_by hd ms) → EndsAtRest hd ms
+at_rest hd ms f quiet = record { quiet = quiet; last = λ disks are. quiet_hold hd ms disks f quiet.idle are }
 
 module _ (hd : Header) (ms before : List Move) (q : EndsInQuiesce hd ms before) where
   -- the world at the end of the quiesce

@@ -17,7 +17,7 @@ use Rattle.arj_joint_law.specs.FitRuns.{AreEventsInForm, IsInForm}
 use Rattle.arj_joint_law.specs.Outcome.{ShowsOneOutcome}
 use Rattle.arj_joint_law.specs.Shown.{FilesAre}
 use Rattle.arj_held_law.specs.Along.{HoldsEach}
-use Rattle.arj_round_law.specs.Quiet.{AreGivenUp, IsGiveUp, NobodyWaits}
+use Rattle.arj_round_law.specs.Quiet.{AreGivenUp, AreQuiet, IsGiveUp, NobodyWaits}
 use Rattle.arj_round_law.specs.Rounds.{AreUp}
 use Rattle.arj_settle_law.specs.Overtaken.{OnlyOvertakenWait}
 use Rattle.arj_settle_law.specs.Settled.{EndsQuiet}
@@ -73,6 +73,11 @@ pub record EndsInQuiesce (hd : Header) (ms before : List Move) : Type 0 where
 -- then nobody waits but calls that are overtaken
 abbrev pub QuiescesLeaveOvertaken : Type 0
 QuiescesLeaveOvertaken = (hd : Header) (ms before : List Move) → IsInForm hd ms → EndsInQuiesce hd ms before → OnlyOvertakenWait (world_by hd ms)
+
+-- Wherever every node is idle, with no record and nothing prepared, files hold every entry and, at each listed store, every last state, with no
+-- exception.
+abbrev pub QuietFilesHoldAll : Type 0
+QuietFilesHoldAll = (hd : Header) (ms : List Move) (disks : Disks) → IsInForm hd ms → AreQuiet (world_by hd ms) → HasFiles hd ms disks → HoldAllStates hd (journal_by hd ms) disks
 
 -- There is nothing left to do: every node is idle, with no record and nothing prepared, and the journal's last line says so; files hold every entry
 -- and, at each listed store, every last state, with no exception.

@@ -1,4 +1,4 @@
-use Rattle.arj_promise_law.proofs.Keeping.{calm_end, fronts_keep, overtaken, rounds_end, runs_keep, scripts_run}
+use Rattle.arj_promise_law.proofs.Keeping.{calm_end, fronts_keep, overtaken, quiet_hold, rounds_end, runs_keep, scripts_run}
 use Rattle.arj_promise_law.proofs.promise.runs_keep_the_promise.Goals as goal
 
 pub returns-clause-runs : goal.returns-clause-runs
@@ -18,3 +18,6 @@ returns-clause-rounds c = rounds_end
 
 pub returns-clause-scripts : goal.returns-clause-scripts
 returns-clause-scripts c = scripts_run
+
+pub returns-clause-quiet : goal.returns-clause-quiet
+returns-clause-quiet c = quiet_hold
