@@ -63,7 +63,7 @@ same_commit (Calling r) m k same = absurd same
 same_commit (Committing r) m k same = tt
 same_commit Idle m k same = absurd same
 
-same_waits : (n m : Now) → IsSameWork n m → is_waiting_now m ≡ true
+pub same_waits : (n m : Now) → IsSameWork n m → is_waiting_now m ≡ true
 same_waits (Calling r) (Calling s) same = refl
 same_waits (Calling r) (Committing m) same = absurd same
 same_waits (Calling r) Idle same = absurd same

@@ -13,3 +13,5 @@ pub mod Quiets
 pub mod GiveUps
 pub mod Ended
 pub mod EndedRuns
+pub mod Plain
+pub mod PlainRuns

@@ -324,7 +324,7 @@ steps_full n i w = by (at_place n w.nodes)
     by None is = is
     by (Some a) is = full_before n a (step w.header a i) w (at_number n w.arms) is
 
-frame_idle : (k from : ℕ) (m : Option Message) → IsIdle (input.Frame k from m)
+pub frame_idle : (k from : ℕ) (m : Option Message) → IsIdle (input.Frame k from m)
 frame_idle k from m hd n d = refl
 
 pub tick_idle : IsIdle input.Tick

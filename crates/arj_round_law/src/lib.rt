@@ -6,7 +6,7 @@
 //! quiesce leaves. It stands on `arj_protocol`, on what settles leave (`arj_event_law`) and on what holds in every run (`arj_run_law`).
 //! What is shown of nodes and frames is shown for any relation that each message and tick keeps (`proofs/Flights.antt`, `proofs/Settles.antt`).
 //! It gives upward `quiesces_answer_whoever_waits` and `quiesces_leave_nothing_to_do` (`specs/Quiet.antt`), and, of every run, that whoever waits goes on
-//! waiting for the same until a line ends that: `whoever_waits_is_answered` (`specs/Answered.antt`).
+//! waiting for the same until a line ends that, which in a quiesce answers it: `whoever_waits_is_answered` (`specs/Answered.antt`).
 #![tactic(auto)]
 
 mod rounds;

@@ -1,5 +1,5 @@
 // What a quiesce leaves.
-ghost use Rattle.arj_round_law.specs.Answered.{RunsAnswerOrWait};
+ghost use Rattle.arj_round_law.specs.Answered.{QuiescesAnswerOrLeave, QuiescesGiveNothingUp, RunsAnswerOrWait};
 ghost use Rattle.arj_round_law.specs.Quiet.{QuiescesSettle, RoundsSettle};
 ghost use Rattle.arj_round_law.specs.Rounds.{QuiescesAnswer, RunsAnswer};
 
@@ -22,7 +22,11 @@ pub fn quiesces_leave_nothing_to_do()
 
 /// In every run, whatever stops fall in it, an action that waits for a call, an include or its commit goes on waiting for the same, until a
 /// line of the journal ends that: the call's `ok`, its refusal with the cause, `lost` or `includes`, the top's `committed`, an `aborted` with the
-/// cause, a `gaveup`, or `halted` of its node. It takes nothing. It does nothing when it runs.
+/// cause, a `gaveup`, or `halted` of its node. In a quiesce no `gaveup` stands, and an abort only where an answer refuses the commit; and whoever is
+/// said to have halted is down at its end. So who waited as it began waits still, or was answered, at each node that is up then. It takes
+/// nothing. It does nothing when it runs.
 pub fn whoever_waits_is_answered()
-    ensures { RunsAnswerOrWait }
+    ensures runs { RunsAnswerOrWait }
+    ensures lines { QuiescesGiveNothingUp }
+    ensures quiesces { QuiescesAnswerOrLeave }
 {}
