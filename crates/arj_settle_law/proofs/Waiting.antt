@@ -1,24 +1,30 @@
--- After a quiesce only calls that are overtaken wait, in every run.
-use Rattle.std.proofs.Common.{◌≡◌, ℕ, true, false, [], Some, sym, ◌∙◌, ap, subst, ⊎_elim}
+-- After a quiesce only calls that are overtaken wait, in every run, and whoever else waited was answered.
+use Rattle.std.proofs.Common.{◌≡◌, ℕ, true, false, [], Some, sym, ◌∙◌, ap, subst, inl, inr, ⊎_elim}
+use Rattle.std.specs.Prelude.{◌&&◌, nat_le}
 use Rattle.arj_protocol.specs.Words.{Header, Uid}
 use Rattle.arj_protocol.specs.Commit.{Machine, is_empty, left_of}
 use Rattle.arj_protocol.specs.Coord.{Committing, Coord, Doing, doing_of}
+use Rattle.arj_protocol.specs.World.{World, is_node}
 use Rattle.arj_journal.specs.ScriptForm.{HeaderInForm}
 use Rattle.arj_part_law.specs.Requests.{IsNumbered}
+use Rattle.arj_run_law.proofs.AllRuns.{all_keep}
 use Rattle.arj_run_law.specs.Worlds.{IsGood}
 use Rattle.arj_view_law.specs.Keeps.{Holds, KeepsAsked}
 use Rattle.arj_view_law.specs.Moves.{moved, world_by}
 use Rattle.arj_view_law.specs.Seen.{Seen, see}
 use Rattle.arj_view_law.proofs.Happens.{keeps_asked}
 use Rattle.arj_view_law.proofs.Moving.{move_asked, moves_asked}
+use Rattle.arj_round_law.specs.Answered.{StillWaits}
 use Rattle.arj_round_law.specs.Rounds.{AnswersWaits, WaitOvertaken}
 use Rattle.arj_round_law.specs.Waits.{coord_in}
+use Rattle.arj_round_law.proofs.Ended.{same_waits}
+use Rattle.arj_round_law.proofs.PlainRuns.{quiesces_answer_or_leave}
 use Rattle.arj_round_law.proofs.Quiesces.{asked_both, keeps_good, run_answers}
 use Rattle.arj_wait_law.specs.Waits.{WaitsAreKnown}
 use Rattle.arj_wait_law.proofs.Gives.{at_of, known_give_by}
 use Rattle.arj_wait_law.proofs.Keeping.{waits_keep}
 use Rattle.arj_wait_law.proofs.Untold.{its_up}
-use Rattle.arj_settle_law.specs.Overtaken.{RunsLeaveOvertaken}
+use Rattle.arj_settle_law.specs.Overtaken.{QuiescesAnswerTheRest, RunsLeaveOvertaken, WaitsOvertaken}
 use Rattle.arj_settle_law.proofs.ListingRuns.{ListsAreKnown, lists_keep}
 use Rattle.arj_settle_law.proofs.Stored.{loads_given}
 
@@ -56,3 +62,25 @@ runs_leave_overtaken hd form ms v is over last ups k c u q node found does waits
 
     answer : WaitOvertaken (moved v (world_by hd ms))
     answer = run_answers hd (AllKnown hd) kept (all_answer hd form P (λ M p. p.0)) ms v is over last ups
+
+-- whoever waited as it began waits so, or was answered
+pub quiesces_answer_the_rest : QuiescesAnswerTheRest
+quiesces_answer_the_rest hd form ms v k c u q is over last ups node found does waits = ⊎_elim (λ still. inl (overtaken still)) (λ answer. inr answer) (quiesces_answer_or_leave hd ms v k c u q is over (ups k there) found does waits)
+  where
+    w : World
+    w = world_by hd ms
+
+    good : Holds hd IsGood (world_by hd ms)
+    good = moves_asked hd IsGood (keeps_asked hd IsGood (all_keep hd)) ms
+
+    after : Holds hd IsGood (moved v (world_by hd ms))
+    after = move_asked hd IsGood (keeps_asked hd IsGood (all_keep hd)) v (world_by hd ms) good
+
+    -- its node is one of the header
+    there : is_node k (moved v w) ≡ true
+    there = subst (λ (x : Header). (nat_le 1 k && nat_le k x.nodes) ≡ true) (good.stands.header ∙ sym after.stands.header) node
+
+    overtaken : StillWaits (moved v w) k u q → WaitsOvertaken (moved v w) k u q
+    overtaken still =
+        let o = runs_leave_overtaken hd form ms v is over last ups k still.coord u still.doing there still.found still.does (same_waits q.now still.doing.now still.same) in
+        record { still = still; steps = o.0; now = o.1; overtaken = o.2 }

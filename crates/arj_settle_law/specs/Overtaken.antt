@@ -1,5 +1,5 @@
--- Who waits after a quiesce, in every run: only calls that are overtaken.
-use Rattle.std.specs.Prelude.{◌≡◌, ℕ, true, false, List, Some}
+-- Who waits after a quiesce, in every run: only calls that are overtaken; and whoever else waited was answered.
+use Rattle.std.specs.Prelude.{◌≡◌, ◌⊎◌, ℕ, true, false, List, Some}
 use Rattle.arj_journal.specs.ScriptForm.{HeaderInForm}
 use Rattle.arj_protocol.specs.Words.{Header, Uid}
 use Rattle.arj_protocol.specs.Words.event
@@ -9,6 +9,7 @@ use Rattle.arj_protocol.specs.Step.{is_waiting_now}
 use Rattle.arj_protocol.specs.Tree.{at_place}
 use Rattle.arj_protocol.specs.World.{World, is_node}
 use Rattle.arj_view_law.specs.Moves.{Move, moved, world_by}
+use Rattle.arj_round_law.specs.Answered.{HasAnswer, StillWaits}
 use Rattle.arj_round_law.specs.Rounds.{AreUp}
 use Rattle.arj_round_law.specs.Waits.{IsOvertaken, IsSaid, coord_in}
 
@@ -19,3 +20,16 @@ OnlyOvertakenWait w = (k : ℕ) (c : Coord) (u : Uid) (q : Doing) → is_node k 
 -- So it is after a quiesce of a run at whose end every node is up, whatever stops fall, and in which no limit is met.
 abbrev pub RunsLeaveOvertaken : Type 0
 RunsLeaveOvertaken = (hd : Header) → HeaderInForm hd → (ms : List Move) (m : Move) → let w = world_by hd ms in m.asked.event ≡ event.Quiesce → w.over ≡ false → (moved m w).over ≡ false → AreUp (moved m w) → OnlyOvertakenWait (moved m w)
+
+-- The action waits still at the node, in a call that is overtaken.
+pub record WaitsOvertaken (w : World) (k : ℕ) (u : Uid) (q : Doing) : Type 0 where
+  pub still : StillWaits w k u q
+  pub steps : Steps
+  pub now : (let d = still.doing in d.now) ≡ Calling steps
+  pub overtaken : IsOvertaken (IsSaid w.lines) steps
+
+-- So does whoever waits as such a quiesce begins, or a line of it answers it: an `ok` or `includes`, `committed`, a refusal with its cause, or `lost` where
+-- naming has no store to ask.
+abbrev pub QuiescesAnswerTheRest : Type 0
+QuiescesAnswerTheRest = (hd : Header) → HeaderInForm hd → (ms : List Move) (m : Move) (k : ℕ) (c : Coord) (u : Uid) (q : Doing) → let w = world_by hd ms in m.asked.event ≡ event.Quiesce → w.over ≡ false → (moved m w).over ≡ false → AreUp (moved m w)
+    → is_node k w ≡ true → coord_in (at_place k w.nodes) ≡ Some c → doing_of u c ≡ Some q → is_waiting_now q.now ≡ true → let v = moved m w in WaitsOvertaken v k u q ⊎ HasAnswer q w.lines v.lines

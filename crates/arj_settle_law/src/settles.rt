@@ -1,6 +1,6 @@
 // What a quiesce and the stated round leave, in every run.
 ghost use Rattle.arj_settle_law.specs.Last.{IdleFilesHoldTheLast};
-ghost use Rattle.arj_settle_law.specs.Overtaken.{RunsLeaveOvertaken};
+ghost use Rattle.arj_settle_law.specs.Overtaken.{QuiescesAnswerTheRest, RunsLeaveOvertaken};
 ghost use Rattle.arj_settle_law.specs.Settled.{HandlersSettle, QuiescesIdle, RoundsIdle};
 
 /// Each handler keeps, wherever a stop falls, that each record is told again and waits for somebody's acknowledgement, and that whoever has
@@ -18,11 +18,12 @@ pub fn quiesces_leave_nodes_idle()
     ensures { QuiescesIdle }
 {}
 
-/// In the run of every script over a header in form, after a quiesce in which every node stays up and no limit is met, nobody waits but calls
-/// that are overtaken. It takes nothing: a store that a list names has a state of the object, or a decided top that includes it has it
-/// prepared. It does nothing when it runs.
+/// In every run over a header in form, after a quiesce in which every node stays up and no limit is met, nobody waits but calls
+/// that are overtaken; and whoever else waited as it began was answered by a line of it. It takes nothing: a store that a list names has a
+/// state of the object, or a decided top that includes it has it prepared. It does nothing when it runs.
 pub fn only_overtaken_calls_wait()
-    ensures { RunsLeaveOvertaken }
+    ensures waits { RunsLeaveOvertaken }
+    ensures rest { QuiescesAnswerTheRest }
 {}
 
 /// In every run the stated round leaves every node idle, and its last line says so: a quiesce, a giveup of each action that waits then,
