@@ -33,14 +33,14 @@ use Rattle.arj_round_law.proofs.Passing.{other_work}
 use Rattle.arj_round_law.proofs.Quiesces.{good_home}
 use Rattle.arj_round_law.proofs.Serving.{HasAnswered, IsServed, serve_served}
 
-number_cases : (j k : ℕ) → (j ≡ k) ⊎ (j ≢ k)
+pub number_cases : (j k : ℕ) → (j ≡ k) ⊎ (j ≢ k)
 number_cases j k = by (j == k) refl
   where
     by : (b : Bool) → (j == k) ≡ b → (j ≡ k) ⊎ (j ≢ k)
     by true is = inl (eqb-true j k is)
     by false is = inr (λ same. let no_way : true ≡ false = sym (same_number k) ∙ ap (λ i. i == k) (sym same) ∙ is in absurd (cc no_way))
 
-in_numbered : (e : ℕ) (bs : List Body) (b : Body) → In b bs → In (record { event = e; body = b }) (numbered e bs)
+pub in_numbered : (e : ℕ) (bs : List Body) (b : Body) → In b bs → In (record { event = e; body = b }) (numbered e bs)
 in_numbered e [] b i = absurd i
 in_numbered e (c ∷ cs) b (inl is) = inl (λ i. record { event = e; body = is i })
 in_numbered e (c ∷ cs) b (inr i) = inr (in_numbered e cs b i)
@@ -280,7 +280,7 @@ module _ (old : List Line) (k : ℕ) (l : Label) (u : Uid) (before : Now) where
 
 -- ---- moves
 
-moves_from : (hd : Header) (P : Seen → Type 0) → KeepsOn hd P → (ns : List Move) (w : World) → Holds hd P w → Holds hd P (all_moved ns w)
+pub moves_from : (hd : Header) (P : Seen → Type 0) → KeepsOn hd P → (ns : List Move) (w : World) → Holds hd P w → Holds hd P (all_moved ns w)
 moves_from hd P keeps [] w h = h
 moves_from hd P keeps (m ∷ ns) w h = moves_from hd P keeps ns (moved m w) (arms_hold hd P [] (run_event m.asked (record w { arms = m.falls })) (event_asked hd P keeps m.asked (record w { arms = m.falls }) (arms_hold hd P m.falls w h)))
 

@@ -15,3 +15,4 @@ pub mod Ended
 pub mod EndedRuns
 pub mod Plain
 pub mod PlainRuns
+pub mod UpRuns

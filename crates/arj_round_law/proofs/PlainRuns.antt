@@ -201,14 +201,14 @@ quiesces_give_nothing_up e w is over = subst Plain (sym run_is) (let p = quiesce
 -- ---- in a quiesce
 
 -- what is behind the same lines is the same
-cancel : (xs ys zs : List Line) → xs ++ ys ≡ xs ++ zs → ys ≡ zs
+pub cancel : (xs ys zs : List Line) → xs ++ ys ≡ xs ++ zs → ys ≡ zs
 cancel [] ys zs is = is
 cancel (x ∷ xs) ys zs is = cancel xs ys zs (rest x x (xs ++ ys) (xs ++ zs) is)
   where
     rest : (a b : Line) (ls ms : List Line) → a ∷ ls ≡ b ∷ ms → ls ≡ ms
     rest a b ls ms is = cc is
 
-each_of : {A : Type 0} (P : A → Type 0) (xs : List A) (x : A) → AllByRecursion P xs → In x xs → P x
+pub each_of : {A : Type 0} (P : A → Type 0) (xs : List A) (x : A) → AllByRecursion P xs → In x xs → P x
 each_of P [] x all i = absurd i
 each_of P (y ∷ ys) x all (inl is) = subst P is all.0
 each_of P (y ∷ ys) x all (inr i) = each_of P ys x all.1 i

@@ -2,6 +2,7 @@
 ghost use Rattle.arj_round_law.specs.Answered.{QuiescesAnswerOrLeave, QuiescesGiveNothingUp, RunsAnswerOrWait};
 ghost use Rattle.arj_round_law.specs.Quiet.{QuiescesSettle, RoundsSettle};
 ghost use Rattle.arj_round_law.specs.Rounds.{QuiescesAnswer, RunsAnswer};
+ghost use Rattle.arj_round_law.specs.Ups.{AllStayUp, RunsStayUp};
 
 /// Take a relation that every handler keeps, and by which no request is void for which somebody waits, but one of a call that is
 /// overtaken. Then after a quiesce in which every node stays up and no limit is met nobody waits but calls that are overtaken: a
@@ -29,4 +30,12 @@ pub fn whoever_waits_is_answered()
     ensures runs { RunsAnswerOrWait }
     ensures lines { QuiescesGiveNothingUp }
     ensures quiesces { QuiescesAnswerOrLeave }
+{}
+
+/// In every run, whatever stops fall in it, a node that is up stays up, until a line says that it halted. So where every node is up, and no line
+/// from there on says that one halted, every node is up: as a quiesce and the stated round take it. It takes nothing. It does nothing when it
+/// runs.
+pub fn whoever_is_up_stays_up()
+    ensures runs { RunsStayUp }
+    ensures all { AllStayUp }
 {}
