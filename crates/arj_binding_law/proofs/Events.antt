@@ -16,17 +16,17 @@ use Rattle.arj_protocol.specs.Node.{Parts}
 use Rattle.arj_protocol.specs.Step as input
 use Rattle.arj_protocol.specs.Step.{Input, Node, first_reason, numbers_to}
 use Rattle.arj_protocol.specs.Tree.{at_place, set_place}
-use Rattle.arj_protocol.specs.World.{Arm, Asked, Frame, Giving, Labelled, World, armed, as_delivered, as_lost, begins, change_frame, counted, deliver, deliver_frame, format, frame_number, giving, happens, is_open_frame, is_quiet, is_serial_kind, is_up_at, journal, junk, junk_fits, kind_below, labels_unless, lacks_labels, limited, lose, lose_frame, lowest, lowest_from, most_frames, most_labels, new_frame, no_labels, node_numbers, node_of, numbered, quiesce, quiet_line, reasons, refused_at, run_all, run_event, run_unless, says, settle, settle_for, show_all, show_up, steps, tick_all, tick_up}
+use Rattle.arj_protocol.specs.World.{Arm, Asked, Frame, Giving, Labelled, World, armed, as_delivered, as_lost, begins, change_frame, counted, deliver, deliver_frame, format, frame_number, giving, happens, is_open_frame, is_quiet, is_serial_kind, is_up_at, junk, junk_fits, kind_below, labels_unless, lacks_labels, limited, lose, lose_frame, lowest, lowest_from, most_frames, most_labels, new_frame, no_labels, node_numbers, node_of, numbered, quiesce, quiet_line, reasons, refused_at, run_event, run_unless, says, settle, settle_for, show_all, show_up, steps, tick_all, tick_up}
 use Rattle.arj_event_law.proofs.Frames.{length_marked, over, over_few, over_more, steps_add}
 use Rattle.arj_event_law.proofs.Settled.{uses_up}
 use Rattle.arj_view_law.specs.Keeps.{Holds, KeepsAsked}
-use Rattle.arj_view_law.specs.Moves.{Move, all_moved, as_moves, moved, moves_of, world_by}
+use Rattle.arj_view_law.specs.Moves.{Move, all_moved, as_moves, moved, world_by}
 use Rattle.arj_view_law.proofs.Happens.{arms_hold, deliver_holds, first_holds, keeps_asked, steps_hold}
-use Rattle.arj_view_law.proofs.Moving.{move_asked, scripts_are_moves}
-use Rattle.arj_call_law.specs.Bindings.{HasFewBindings, bindings_made}
+use Rattle.arj_view_law.proofs.Moving.{move_asked}
+use Rattle.arj_call_law.specs.Bindings.{bindings_made}
 use Rattle.arj_call_law.specs.Reached.{IsReached}
 use Rattle.arj_call_law.proofs.MadeLines.{lines_both}
-use Rattle.arj_call_law.proofs.Reaching.{moves_keep, scripts_keep}
+use Rattle.arj_call_law.proofs.Reaching.{moves_keep}
 use Rattle.arj_call_law.proofs.WholeRuns.{runs_reach, runs_vote}
 use Rattle.arj_binding_law.specs.Scripts.{MovesMakeFew, MovesReach, MovesVote, most_events}
 use Rattle.arj_binding_law.proofs.CoordBinds.{at_naming}
@@ -669,12 +669,3 @@ moves_reached hd ms short = record { keeping = moves_keep hd ms; few = moves_few
 pub as_many : (es : List Asked) (w : World) → length (as_moves es w) ≡ length es
 as_many [] w = refl
 as_many (e ∷ es) w = ap suc (as_many es (run_event e w))
-
-pub scripts_few : (hd : Header) (es : List Asked) → length es ≤ most_events → HasFewBindings (journal hd es)
-scripts_few hd es short = subst (λ (v : World). HasFewBindings v.lines) (scripts_are_moves hd es) (moves_few hd (moves_of hd es) (subst (λ n. n ≤ most_events) (sym (as_many es (format hd))) short))
-
-pub few_labels : (hd : Header) (es : List Asked) → length (let w = run_all es (format hd) in w.labels) ≤ most_labels
-few_labels hd es = subst (λ (v : World). length v.labels ≤ most_labels) (scripts_are_moves hd es) (moves_labels hd (moves_of hd es))
-
-pub scripts_reached : (hd : Header) (es : List Asked) → length es ≤ most_events → IsReached hd (run_all es (format hd))
-scripts_reached hd es short = record { keeping = scripts_keep hd es; few = scripts_few hd es short; labels = few_labels hd es }

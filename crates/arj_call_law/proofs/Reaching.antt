@@ -1,19 +1,16 @@
--- Whatever each handler keeps holds of a world that is reached, by moves or by a script.
+-- Whatever each handler keeps holds of a world that is reached: so it is of what moves come to.
 use Rattle.std.proofs.Common.{List}
 use Rattle.arj_protocol.specs.Words.{Header}
-use Rattle.arj_protocol.specs.World.{Asked, World, format, run_all}
+use Rattle.arj_protocol.specs.World.{World}
 use Rattle.arj_view_law.specs.Keeps.{Holds, Keeps}
 use Rattle.arj_view_law.specs.Moves.{Move, world_by}
 use Rattle.arj_view_law.specs.Seen.{Seen}
-use Rattle.arj_view_law.proofs.Happens.{keeps_asked, runs_asked}
+use Rattle.arj_view_law.proofs.Happens.{keeps_asked}
 use Rattle.arj_view_law.proofs.Moving.{moves_asked}
 use Rattle.arj_call_law.specs.Reached.{IsReached, Keeping}
 
 pub moves_keep : (hd : Header) (ms : List Move) → Keeping hd (world_by hd ms)
 moves_keep hd ms P keeps = moves_asked hd P keeps ms
-
-pub scripts_keep : (hd : Header) (es : List Asked) → Keeping hd (run_all es (format hd))
-scripts_keep hd es P keeps = runs_asked hd P keeps es
 
 pub kept_holds : (hd : Header) (w : World) → Keeping hd w → (P : Seen → Type 0) → Keeps hd P → Holds hd P w
 kept_holds hd w keeping P keeps = keeping P (keeps_asked hd P keeps)

@@ -37,7 +37,7 @@ AreSaid W M = (u : Uid) (n : Node) → M.nodes u.node ≡ Some n → decided W.d
 abbrev pub AreNotLate : machine.World → Seen → Type 0
 AreNotLate W M = (u : Uid) (n : Node) → M.nodes u.node ≡ Some n → n.live ≡ None → decided W.disk (uid_number u) ≡ true → is_decided (book M.lines) u ≡ true
 
--- with what is known in every run of a script, where the journal is so
+-- with what is known in every run of so many events, where the journal is so
 abbrev pub IsKnownEarly : (List Line → Type 0) → machine.World → Seen → Type 0
 IsKnownEarly Fits W M = (KnowsScript M × Fits M.lines) × AreNotLate W M
 

@@ -1,4 +1,5 @@
--- Bindings at naming: each is of its incarnation, and their counts are short. And what is known in every run of a script beside what is kept there.
+-- Bindings at naming: each is of its incarnation, and their counts are short. And what is known in every run of so many
+-- events (`arj_binding_law`) beside what is kept there.
 use Rattle.std.specs.Prelude.{◌≡◌, ◌≤◌, ◌<◌, ◌+◌, ℕ, Some, length}
 use Rattle.arj_protocol.specs.Words.{Uid, Binding}
 use Rattle.arj_protocol.specs.Named.{Live, Made, Named}

@@ -5,12 +5,12 @@
 //! view takes as fixed are those of the actions that were begun (`specs/Kinds.antt`): the object is seen for every kinds that agree with
 //! them, so that a later action may have any. What the view takes of the protocol alone is shown here: of records, of who was begun, of
 //! the paths of requests, of entries at naming, and of commits under way. What servers vote `arj_call_law` has, while few bindings were
-//! made, as in the run of every script (`arj_binding_law`); that bindings are of naming's incarnation `arj_lock_fact_law` gives
-//! (`specs/Bindings.antt`). A relation is kept beside the machine's state (`specs/Part.antt`), of
-//! what coordinators have of naming's answers and what messages claim of them (`specs/Heard.antt`), and that each decided top had its
-//! commit called once (`specs/Decided.antt`), by which commits begin and Confirms are booked, and versions stay short. It is kept where
-//! new Confirms are of the next version (`GivesNaming` in `specs/Rest.antt`), which `arj_joint_law` gives by the lock machine in the same
-//! run. It gives upward `runs_keep_the_disk_half`, of any relation that is kept so.
+//! made, as in every run of at most 1,000,000 events (`arj_binding_law`); that bindings are of naming's incarnation `arj_lock_fact_law`
+//! gives (`specs/Bindings.antt`). A relation is kept beside the machine's state (`specs/Part.antt`), of what coordinators have of
+//! naming's answers and what messages claim of them (`specs/Heard.antt`), and that each decided top had its commit called once
+//! (`specs/Decided.antt`), by which commits begin and Confirms are booked, and versions stay short. It is kept where new Confirms are of
+//! the next version (`GivesNaming` in `specs/Rest.antt`), which `arj_joint_law` gives by the lock machine in the same run. It gives
+//! upward `runs_keep_the_disk_half`, of any relation that is kept so.
 #![tactic(auto)]
 
 mod runs;

@@ -1,5 +1,5 @@
 -- In a run in form, whatever stops fall in it, the operations that its journal answers are in form: they are those of its calls.
-use Rattle.std.proofs.Common.{◌≡◌, ◌++◌, ◌+◌, ◌-◌, ◌||◌, ℕ, zero, suc, Bool, true, false, cond, not, List, [], ◌∷◌, length, map, Option, Some, None, refl, subst}
+use Rattle.std.proofs.Common.{◌≡◌, ◌++◌, ◌+◌, ◌-◌, ◌||◌, ℕ, zero, suc, Bool, true, false, cond, not, List, [], ◌∷◌, length, map, Option, Some, None, refl}
 use Rattle.std.specs.Prelude.{⊤, nat_le, nat_lt}
 use Rattle.std.specs.List.{AllByRecursion}
 use Rattle.arj_journal.specs.ScriptForm.{EventInForm}
@@ -16,9 +16,8 @@ use Rattle.arj_protocol.specs.Order.{at_number}
 use Rattle.arj_protocol.specs.Step as input
 use Rattle.arj_protocol.specs.Step.{Input, Node, Step, first_node, first_reason, numbers_to, step}
 use Rattle.arj_protocol.specs.Tree.{at_place}
-use Rattle.arj_protocol.specs.World.{Arm, Asked, Frame, Giving, World, armed, as_delivered, as_lost, begins, begins_any, bodies, change_frame, count_works, counted, cut, deliver, deliver_frame, disarmed, done_step, format, frame_number, giving, halted_at, halted_outs, happens, is_quiet, is_up_at, journal, junk_fits, labels_unless, lacks_labels, limited, lose_frame, lowest, most_frames, new_frame, no_labels, node_numbers, node_of, numbered, put, quiesce, reasons, refused_at, run_event, run_unless, says, set_node, settle, settle_for, show_all, show_up, step_node, step_with, steps, tick_all, tick_up}
-use Rattle.arj_view_law.specs.Moves.{Move, all_moved, as_moves, journal_by, moved, moves_of, world_by}
-use Rattle.arj_view_law.proofs.Moving.{scripts_are_moves}
+use Rattle.arj_protocol.specs.World.{Arm, Asked, Frame, Giving, World, armed, as_delivered, as_lost, begins, begins_any, bodies, change_frame, count_works, counted, cut, deliver, deliver_frame, disarmed, done_step, format, frame_number, giving, halted_at, halted_outs, happens, is_quiet, is_up_at, junk_fits, labels_unless, lacks_labels, limited, lose_frame, lowest, most_frames, new_frame, no_labels, node_numbers, node_of, numbered, put, quiesce, reasons, refused_at, run_event, run_unless, says, set_node, settle, settle_for, show_all, show_up, step_node, step_with, steps, tick_all, tick_up}
+use Rattle.arj_view_law.specs.Moves.{Move, all_moved, as_moves, journal_by, moved, world_by}
 use Rattle.arj_call_law.specs.Reached.{IsReached}
 use Rattle.arj_address_law.proofs.Lists.{all_append, all_placed, all_set}
 use Rattle.arj_binding_law.proofs.Events.{moves_reached}
@@ -261,6 +260,3 @@ runs_in_form hd ms form = (moves_reached hd ms form.few, λ x. moves_fit hd x ms
 pub scripts_in_form : (es : List Asked) (w : World) → AreEventsInForm es → AreMovesInForm (as_moves es w)
 scripts_in_form [] w all = tt
 scripts_in_form (e ∷ es) w all = (all.0, scripts_in_form es (run_event e w) all.1)
-
-pub runs_fit : (hd : Header) (x : ℕ) (es : List Asked) → AreEventsInForm es → OpsFit x (journal hd es)
-runs_fit hd x es form = subst (λ (w : World). OpsFit x w.lines) (scripts_are_moves hd es) (moves_fit hd x (moves_of hd es) (scripts_in_form es (format hd) form))
