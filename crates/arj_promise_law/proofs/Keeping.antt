@@ -2,7 +2,7 @@
 use Rattle.std.proofs.Common.{◌≡◌, ◌≤◌, ◌∙◌, ◌++◌, false, List, [], ◌∷◌, length-append, arith, sym, ap, subst, ◌⊎◌, inl, inr, ⊎_elim}
 use Rattle.std.specs.List.{AllByRecursion}
 use Rattle.arj_journal.specs.ScriptForm.{EventInForm}
-use Rattle.arj_protocol.specs.Words.{Header}
+use Rattle.arj_protocol.specs.Words.{Header, Line}
 use Rattle.arj_protocol.specs.World.{World, format}
 use Rattle.arj_view_law.specs.Keeps.{Holds}
 use Rattle.arj_view_law.specs.Moves.{Move, all_moved, journal_by, moved, world_by}
@@ -17,17 +17,19 @@ use Rattle.arj_joint_law.proofs.FitRuns.{scripts_in_form}
 use Rattle.arj_joint_law.specs.FitRuns.{IsInForm}
 use Rattle.arj_held_law.proofs.AlongMoves.{runs_hold_each}
 use Rattle.arj_round_law.specs.Quiet.{AreGivenUp, NobodyWaits}
+use Rattle.arj_round_law.specs.Answered.{HasAnswer, IsPlainIn}
 use Rattle.arj_round_law.specs.Rounds.{AreUp}
+use Rattle.arj_round_law.proofs.PlainRuns.{quiesces_give_nothing_up}
 use Rattle.arj_round_law.proofs.GiveUps.{over_before}
 use Rattle.arj_settle_law.specs.Last.{HoldTheLast}
-use Rattle.arj_settle_law.specs.Overtaken.{OnlyOvertakenWait}
+use Rattle.arj_settle_law.specs.Overtaken.{OnlyOvertakenWait, WaitsOvertaken}
 use Rattle.arj_settle_law.specs.Settled.{EndsQuiet, KnowsPrepared}
 use Rattle.arj_settle_law.proofs.Aborting.{runs_show}
 use Rattle.arj_settle_law.proofs.Idle.{quiesces_idle, rounds_idle}
 use Rattle.arj_settle_law.proofs.Last.{idle_files_hold}
 use Rattle.arj_settle_law.proofs.Settled.{handlers_settle}
-use Rattle.arj_settle_law.proofs.Waiting.{runs_leave_overtaken}
-use Rattle.arj_promise_law.specs.Promise.{CalmQuiescesEndAtRest, EndsAtRest, EndsInQuiesce, EndsInRound, KeptAfterEveryEvent, QuiescesLeaveOvertaken, QuietFilesHoldAll, RoundsEndAtRest, RunsKeepThePromise, ScriptsAreRuns}
+use Rattle.arj_settle_law.proofs.Waiting.{quiesces_answer_the_rest, runs_leave_overtaken}
+use Rattle.arj_promise_law.specs.Promise.{CalmQuiescesEndAtRest, EndsAtRest, EndsInQuiesce, EndsInRound, KeptAfterEveryEvent, QuiescesAnswerWhoWaits, QuiescesGiveUpNothing, QuiescesLeaveOvertaken, QuietFilesHoldAll, RoundsEndAtRest, RunsKeepThePromise, ScriptsAreRuns}
 
 -- ---- the promise
 
@@ -95,6 +97,14 @@ module _ (hd : Header) (ms before : List Move) (q : EndsInQuiesce hd ms before) 
 
 pub overtaken : QuiescesLeaveOvertaken
 overtaken hd ms before f q = subst OnlyOvertakenWait (sym (end_is hd ms before q)) (runs_leave_overtaken hd f.header before q.last q.quiesces (open_before hd ms before q) (open_at_end hd ms before q) (up_at_end hd ms before q))
+
+pub who_waits_is_answered : QuiescesAnswerWhoWaits
+who_waits_is_answered hd ms before f q k c u d node coord does waits = subst (λ (v : World). WaitsOvertaken v k u d ⊎ HasAnswer d (journal_by hd before) v.lines) (sym (end_is hd ms before q))
+    (quiesces_answer_the_rest hd f.header before q.last k c u d q.quiesces (open_before hd ms before q) (open_at_end hd ms before q) (up_at_end hd ms before q) node coord does waits)
+
+pub nothing_given_up : QuiescesGiveUpNothing
+nothing_given_up hd ms before q = subst (λ (v : World). (more : List Line) × (v.lines ≡ journal_by hd before ++ more) × AllByRecursion (IsPlainIn v) more) (sym (end_is hd ms before q))
+    (let m = q.last in quiesces_give_nothing_up m.asked (record (world_by hd before) { arms = m.falls }) q.quiesces (open_before hd ms before q))
 
 pub calm_end : CalmQuiescesEndAtRest
 calm_end hd ms before f q calm = at_rest hd ms f (subst EndsQuiet (sym (end_is hd ms before q)) (quiesces_idle hd f.header before q.last calm.1 calm.0 q.quiesces (open_before hd ms before q) (open_at_end hd ms before q) (up_at_end hd ms before q)))

@@ -1,12 +1,15 @@
 -- What the protocol promises of every run in form, wherever disks stop in it.
-use Rattle.std.specs.Prelude.{◌≡◌, ◌≤◌, ◌⊎◌, false, List, [], ◌∷◌, ◌++◌, None, length}
+use Rattle.std.specs.Prelude.{◌≡◌, ◌≤◌, ◌⊎◌, ℕ, true, false, List, [], ◌∷◌, ◌++◌, Some, None, length}
 use Rattle.std.specs.List.{AllByRecursion}
 use Rattle.arj_journal.specs.ScriptForm.{HeaderInForm}
 use Rattle.arj_model.specs.Clean.{Clean, Disks}
 use Rattle.arj_model.specs.Last.{first_values}
-use Rattle.arj_protocol.specs.Words.{Header}
+use Rattle.arj_protocol.specs.Words.{Header, Line, Uid}
 use Rattle.arj_protocol.specs.Words.event
-use Rattle.arj_protocol.specs.World.{Asked, World, format, lowest_from, run_all}
+use Rattle.arj_protocol.specs.Coord.{Coord, Doing, doing_of}
+use Rattle.arj_protocol.specs.Step.{is_waiting_now}
+use Rattle.arj_protocol.specs.Tree.{at_place}
+use Rattle.arj_protocol.specs.World.{Asked, World, format, is_node, lowest_from, run_all}
 use Rattle.arj_view_law.specs.Moves.{Move, journal_by, moves_of, world_by}
 use Rattle.arj_view_law.specs.Seen.{see}
 use Rattle.arj_binding_law.specs.Scripts.{most_events}
@@ -18,8 +21,10 @@ use Rattle.arj_joint_law.specs.Outcome.{ShowsOneOutcome}
 use Rattle.arj_joint_law.specs.Shown.{FilesAre}
 use Rattle.arj_held_law.specs.Along.{HoldsEach}
 use Rattle.arj_round_law.specs.Quiet.{AreGivenUp, AreQuiet, IsGiveUp, NobodyWaits}
+use Rattle.arj_round_law.specs.Answered.{HasAnswer, IsPlainIn}
 use Rattle.arj_round_law.specs.Rounds.{AreUp}
-use Rattle.arj_settle_law.specs.Overtaken.{OnlyOvertakenWait}
+use Rattle.arj_round_law.specs.Waits.{coord_in}
+use Rattle.arj_settle_law.specs.Overtaken.{OnlyOvertakenWait, WaitsOvertaken}
 use Rattle.arj_settle_law.specs.Settled.{EndsQuiet}
 use Rattle.arj_promise_law.specs.Resting.{HoldAllStates}
 
@@ -73,6 +78,15 @@ pub record EndsInQuiesce (hd : Header) (ms before : List Move) : Type 0 where
 -- then nobody waits but calls that are overtaken
 abbrev pub QuiescesLeaveOvertaken : Type 0
 QuiescesLeaveOvertaken = (hd : Header) (ms before : List Move) → IsInForm hd ms → EndsInQuiesce hd ms before → OnlyOvertakenWait (world_by hd ms)
+
+-- Then whoever waited as it began waits still, in a call that is overtaken, or a line of the quiesce answers it.
+abbrev pub QuiescesAnswerWhoWaits : Type 0
+QuiescesAnswerWhoWaits = (hd : Header) (ms before : List Move) → IsInForm hd ms → EndsInQuiesce hd ms before → (k : ℕ) (c : Coord) (u : Uid) (q : Doing) → let w = world_by hd before in is_node k w ≡ true
+    → coord_in (at_place k w.nodes) ≡ Some c → doing_of u c ≡ Some q → is_waiting_now q.now ≡ true → WaitsOvertaken (world_by hd ms) k u q ⊎ HasAnswer q w.lines (journal_by hd ms)
+
+-- And no line of it gives anything up, or aborts but by a refusal that was answered.
+abbrev pub QuiescesGiveUpNothing : Type 0
+QuiescesGiveUpNothing = (hd : Header) (ms before : List Move) → EndsInQuiesce hd ms before → (more : List Line) × (journal_by hd ms ≡ journal_by hd before ++ more) × AllByRecursion (IsPlainIn (world_by hd ms)) more
 
 -- Wherever every node is idle, with no record and nothing prepared, files hold every entry and, at each listed store, every last state, with no
 -- exception.

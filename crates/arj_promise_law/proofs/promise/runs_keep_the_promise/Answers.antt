@@ -1,4 +1,4 @@
-use Rattle.arj_promise_law.proofs.Keeping.{calm_end, fronts_keep, overtaken, quiet_hold, rounds_end, runs_keep, scripts_run}
+use Rattle.arj_promise_law.proofs.Keeping.{calm_end, fronts_keep, nothing_given_up, overtaken, quiet_hold, rounds_end, runs_keep, scripts_run, who_waits_is_answered}
 use Rattle.arj_promise_law.proofs.promise.runs_keep_the_promise.Goals as goal
 
 pub returns-clause-runs : goal.returns-clause-runs
@@ -21,3 +21,9 @@ returns-clause-scripts c = scripts_run
 
 pub returns-clause-quiet : goal.returns-clause-quiet
 returns-clause-quiet c = quiet_hold
+
+pub returns-clause-answers : goal.returns-clause-answers
+returns-clause-answers c = who_waits_is_answered
+
+pub returns-clause-plain : goal.returns-clause-plain
+returns-clause-plain c = nothing_given_up
