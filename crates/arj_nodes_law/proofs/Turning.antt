@@ -35,9 +35,13 @@ use Rattle.arj_joint_law.specs.FitRuns.{AreMovesInForm}
 use Rattle.arj_joint_law.specs.Shown.{FilesAre}
 use Rattle.arj_nodes_law.proofs.Ending.{last_lines_nothing, runs_show}
 use Rattle.arj_nodes_law.proofs.Reading.{events_in_form, few_events, header_in_form}
+use Rattle.arj_protocol.specs.Words.event
+use Rattle.arj_promise_law.specs.Promise.{EndsAtRest}
+use Rattle.arj_promise_law.specs.Resting.{HoldAllStates}
+use Rattle.arj_promise_law.proofs.Keeping.{quiet_end}
 use Rattle.arj_nodes_law.specs.Cores.{SayPairs, SaysPairs}
 use Rattle.arj_nodes_law.specs.Last.{EndsBehind, IsLast, Shows}
-use Rattle.arj_nodes_law.specs.Turns.{ClosesMove, ClosesShow, HasMoved, IsTaskInForm, NodesMove, ScriptsMove, ScriptsShow, as_move, event_of, files_at, files_of}
+use Rattle.arj_nodes_law.specs.Turns.{ClosesMove, ClosesShow, HasMoved, IsTaskInForm, NodesMove, ScriptsMove, ScriptsRest, ScriptsShow, as_move, event_of, files_at, files_of}
 
 pub turns_move : (ts : List Turn) (w : World) → all_turned ts w ≡ all_moved (map as_move ts) w
 turns_move [] w = refl
@@ -95,6 +99,7 @@ nodes_move {C} {D} c d t over now form r =
       };
       journal = sym r.stands.lines ∙ ap (λ (v : World). v.lines) same;
       event = sym r.stands.event ∙ ap (λ (v : World). v.event) same;
+      is_over = ap (λ (v : World). v.over) (sym same) ∙ r.is_over;
       files = λ says. subst (λ v. FilesAre (see [] v) (files_of d now.disks)) same (files_show c d says now w r.stands);
     }
   where
@@ -150,26 +155,41 @@ closes_move {C} {D} c d before after answer closes = (none, some)
     none : at.machine ≡ None → IsLast answer.journal
     none is = subst IsLast (sym (e.journal_is ∙ ap (λ ls. ls ++ last) (bare at.machine is stage.machine_is))) (last_is (all_nodes c d) closes.end at.count (events_run (all_nodes c d) at.machine))
 
-    some : (nodes : AllNodes C) → at.machine ≡ Some nodes → HasMoved c d (task before.rack stage.header (events_of stage.forms)) (hand nodes.world after.rack at.journal) × EndsBehind at.journal answer.journal
+    some : (nodes : AllNodes C) → at.machine ≡ Some nodes → HasMoved c d (task before.rack stage.header (events_of stage.forms)) nodes.over (hand nodes.world after.rack at.journal) × EndsBehind at.journal answer.journal
     some nodes is =
-        (subst (λ rack. HasMoved c d (task before.rack stage.header (events_of stage.forms)) (hand nodes.world rack at.journal)) (sym same) (scripts_move c d before.rack e.mid (let r = e.reached in r.done) (let r = e.reached in r.place) at stage nodes is), (last, last_is (all_nodes c d) closes.end at.count (events_run (all_nodes c d) at.machine), e.journal_is))
+        (subst (λ rack. HasMoved c d (task before.rack stage.header (events_of stage.forms)) nodes.over (hand nodes.world rack at.journal)) (sym same) (scripts_move c d before.rack e.mid (let r = e.reached in r.done) (let r = e.reached in r.place) at stage nodes is), (last, last_is (all_nodes c d) closes.end at.count (events_run (all_nodes c d) at.machine), e.journal_is))
       where
         same : after.rack ≡ e.mid
         same = ⊎_elim (λ format. let never : Some nodes ≡ None = sym is ∙ format.1 in absurd (cc never)) (λ other. other.1) e.racks
 
 -- what is at hand shows so much
-moved_shows : {C D : Type 0} (c : core.Ghosts C) (d : disk.Ghosts D) → SaysPairs c → (t : Task D) (now : Hand C D) → HasMoved c d t now → Shows t.header now.kept.event now.journal (files_of d now.disks)
-moved_shows c d says t now h = subst (λ (p : ℕ × List Line). Shows t.header p.0 p.1 (files_of d now.disks)) (λ i. (sym h.event i, sym h.journal i)) (runs_show t.header h.moves (files_of d now.disks) h.form (h.files says))
+moved_shows : {C D : Type 0} (c : core.Ghosts C) (d : disk.Ghosts D) → SaysPairs c → (t : Task D) (over : Bool) (now : Hand C D) → HasMoved c d t over now → Shows t.header now.kept.event now.journal (files_of d now.disks)
+moved_shows c d says t over now h = subst (λ (p : ℕ × List Line). Shows t.header p.0 p.1 (files_of d now.disks)) (λ i. (sym h.event i, sym h.journal i)) (runs_show t.header h.moves (files_of d now.disks) h.form (h.files says))
 
 pub scripts_show : {C D : Type 0} (c : core.Ghosts C) (d : disk.Ghosts D) → SaysPairs c → ScriptsShow c d
 scripts_show {C} {D} c d says first rack lines place at s nodes is =
-    moved_shows c d says (task first s.header (events_of s.forms)) (hand nodes.world rack at.journal) (scripts_move c d first rack lines place at s nodes is)
+    moved_shows c d says (task first s.header (events_of s.forms)) nodes.over (hand nodes.world rack at.journal) (scripts_move c d first rack lines place at s nodes is)
+
+-- the last of moves whose events end so
+split_last : (ms : List Move) (es : List Event) (e : Event) → map event_of ms ≡ es ++ e ∷ [] → (front : List Move) × (m : Move) × (ms ≡ front ++ m ∷ []) × (event_of m ≡ e)
+split_last [] [] e is = absurd (cc is)
+split_last [] (x ∷ es) e is = absurd (cc is)
+split_last (m ∷ []) [] e is = ([], m, refl, cc is)
+split_last (m ∷ n ∷ ms) [] e is = absurd (cc is)
+split_last (m ∷ ms) (x ∷ es) e is = let r = split_last ms es e (cc is) in (m ∷ r.0, r.1, ap (λ ns. m ∷ ns) r.2, r.3)
+
+pub scripts_rest : {C D : Type 0} (c : core.Ghosts C) (d : disk.Ghosts D) → SaysPairs c → ScriptsRest c d
+scripts_rest {C} {D} c d says first rack lines place at s nodes is ends =
+    let h = scripts_move c d first rack lines place at s nodes is in
+    let l = split_last h.moves ends.before event.Quiesce (h.are ∙ ends.are) in
+    let rest : EndsAtRest s.header h.moves = quiet_end s.header h.moves l.0 h.form (record { last = l.1; are = l.2; quiesces = l.3; unlimited = h.is_over ∙ ends.going; front = ends.front; number = ends.number; line = sym h.journal ∙ ends.line }) in
+    subst (λ ls. HoldAllStates s.header ls (files_of d rack)) (sym h.journal) (rest.last (files_of d rack) (h.files says))
 
 pub closes_show : {C D : Type 0} (c : core.Ghosts C) (d : disk.Ghosts D) → SaysPairs c → ClosesShow c d
 closes_show {C} {D} c d says before after answer closes nodes is =
     let m = (closes_move c d before after answer closes).1 nodes is in
-    let h : HasMoved c d (task before.rack header (events_of stage.forms)) (hand nodes.world after.rack at.journal) = m.0 in
-    last_lines_nothing header nodes.world.event at.journal answer.journal (files_of d after.rack) m.1 (moved_shows c d says (task before.rack header (events_of stage.forms)) (hand nodes.world after.rack at.journal) h)
+    let h : HasMoved c d (task before.rack header (events_of stage.forms)) nodes.over (hand nodes.world after.rack at.journal) = m.0 in
+    last_lines_nothing header nodes.world.event at.journal answer.journal (files_of d after.rack) m.1 (moved_shows c d says (task before.rack header (events_of stage.forms)) nodes.over (hand nodes.world after.rack at.journal) h)
   where
     e : EndsSo (all_nodes c d) closes.given before.rack after.rack closes.end answer.journal
     e = closes.ends

@@ -1,5 +1,5 @@
 -- What nodes run over disks, as runs of moves.
-use Rattle.std.specs.Prelude.{◌≡◌, ◌≤◌, ℕ, Bool, List, [], Option, Some, None, length, map}
+use Rattle.std.specs.Prelude.{◌≡◌, ◌≤◌, ◌++◌, ℕ, Bool, true, false, List, [], ◌∷◌, Option, Some, None, length, map}
 use Rattle.std.specs.List.{AllByRecursion}
 use Rattle.arj_core.specs.declared.node.Core as core
 use Rattle.arj_disk.specs.FileMap.{FileMap}
@@ -13,7 +13,11 @@ use Rattle.arj_loop.specs.Running.{Stage}
 use Rattle.arj_nodes.specs.AllNodes.{RanAll, Task, task}
 use Rattle.arj_nodes.specs.AsMachine.{all_nodes}
 use Rattle.arj_nodes.specs.declared.all_nodes.AllNodes.{AllNodes}
+use Rattle.arj_promise_law.specs.Resting.{HoldAllStates}
 use Rattle.arj_protocol.specs.Tree.{at_place}
+use Rattle.arj_protocol.specs.Words.{Line}
+use Rattle.arj_protocol.specs.Words.body
+use Rattle.arj_protocol.specs.Words.event
 use Rattle.arj_script.specs.Grammar.{Place}
 use Rattle.arj_script.specs.Input.{events_of}
 use Rattle.arj_view_law.specs.Moves.{Move, journal_by, world_by}
@@ -55,24 +59,25 @@ pub record IsTaskInForm {D : Type 0} (t : Task D) : Type 0 where
   pub events : AllByRecursion EventInForm t.events
   pub few : length t.events ≤ most_events
 
--- What is at hand is what a run in form makes of these events: its journal and its count of events, and, where cores say the pairs of their disks,
+-- What is at hand is what a run in form makes of these events: its journal, its count of events and whether it is over, and, where cores say the pairs of their disks,
 -- the files of its nodes.
-pub record HasMoved {C D : Type 0} (c : core.Ghosts C) (d : disk.Ghosts D) (t : Task D) (now : Hand C D) : Type 0 where
+pub record HasMoved {C D : Type 0} (c : core.Ghosts C) (d : disk.Ghosts D) (t : Task D) (over : Bool) (now : Hand C D) : Type 0 where
   pub moves : List Move
   pub are : map event_of moves ≡ t.events
   pub form : IsInForm t.header moves
   pub journal : now.journal ≡ journal_by t.header moves
   pub event : now.kept.event ≡ (let w = world_by t.header moves in w.event)
+  pub is_over : (let w = world_by t.header moves in w.over) ≡ over
   pub files : SaysPairs c → FilesAre (see [] (world_by t.header moves)) (files_of d now.disks)
 
 -- so it is of all that nodes run over disks, whatever stops these make
 abbrev pub NodesMove : {C D : Type 0} → core.Ghosts C → disk.Ghosts D → Type 0
-NodesMove {C} {D} c d = (t : Task D) (over : Bool) (now : Hand C D) → IsTaskInForm t → RanAll c d t over now → HasMoved c d t now
+NodesMove {C} {D} c d = (t : Task D) (over : Bool) (now : Hand C D) → IsTaskInForm t → RanAll c d t over now → HasMoved c d t over now
 
 -- and so it is of what they ran of a script's lines, once they are there, however the script's run ends
 abbrev pub ScriptsMove : {C D : Type 0} → core.Ghosts C → disk.Ghosts D → Type 0
 ScriptsMove {C} {D} c d = (first rack : List D) (lines : List (List ℕ)) (place : Place) (at : loop.Hand (AllNodes C)) (s : Stage (all_nodes c d) first rack lines place at) (nodes : AllNodes C)
-    → at.machine ≡ Some nodes → HasMoved c d (task first s.header (events_of s.forms)) (hand nodes.world rack at.journal)
+    → at.machine ≡ Some nodes → HasMoved c d (task first s.header (events_of s.forms)) nodes.over (hand nodes.world rack at.journal)
 
 -- ---- what a run leaves
 
@@ -82,7 +87,7 @@ abbrev pub ClosesMove : {C D : Type 0} → core.Ghosts C → disk.Ghosts D → T
 ClosesMove {C} {D} c d = (before after : Outside D) (answer : Answer) (closes : Closes (all_nodes c d) before after answer)
     → ((let e = closes.ends in let at = e.at in at.machine) ≡ None → IsLast answer.journal)
     × ((nodes : AllNodes C) → (let e = closes.ends in let at = e.at in at.machine) ≡ Some nodes
-    → (let e = closes.ends in let r = e.reached in let s = r.stage in let at = e.at in HasMoved c d (task before.rack s.header (events_of s.forms)) (hand nodes.world after.rack at.journal))
+    → (let e = closes.ends in let r = e.reached in let s = r.stage in let at = e.at in HasMoved c d (task before.rack s.header (events_of s.forms)) nodes.over (hand nodes.world after.rack at.journal))
     × EndsBehind (let e = closes.ends in let at = e.at in at.journal) answer.journal)
 
 -- ---- what that shows
@@ -96,3 +101,17 @@ ScriptsShow {C} {D} c d = (first rack : List D) (lines : List (List ℕ)) (place
 abbrev pub ClosesShow : {C D : Type 0} → core.Ghosts C → disk.Ghosts D → Type 0
 ClosesShow {C} {D} c d = (before after : Outside D) (answer : Answer) (closes : Closes (all_nodes c d) before after answer) (nodes : AllNodes C)
     → (let e = closes.ends in let at = e.at in at.machine) ≡ Some nodes → Shows (let e = closes.ends in let r = e.reached in let s = r.stage in s.header) (let k = nodes.world in k.event) answer.journal (files_of d after.rack)
+
+-- The last event is a quiesce, no frame was too many, and the journal's last line says that every node is idle.
+pub record EndsIdle (events : List Event) (over : Bool) (lines : List Line) : Type 0 where
+  pub before : List Event
+  pub are : events ≡ before ++ event.Quiesce ∷ []
+  pub going : over ≡ false
+  pub front : List Line
+  pub number : ℕ
+  pub line : lines ≡ front ++ record { event = number; body = body.Quiet true } ∷ []
+
+-- then the files of the disks hold every entry and, at each listed store, every last state
+abbrev pub ScriptsRest : {C D : Type 0} → core.Ghosts C → disk.Ghosts D → Type 0
+ScriptsRest {C} {D} c d = (first rack : List D) (lines : List (List ℕ)) (place : Place) (at : loop.Hand (AllNodes C)) (s : Stage (all_nodes c d) first rack lines place at) (nodes : AllNodes C)
+    → at.machine ≡ Some nodes → EndsIdle (events_of s.forms) nodes.over at.journal → HoldAllStates s.header at.journal (files_of d rack)

@@ -25,11 +25,11 @@ use Rattle.arj_settle_law.specs.Last.{HoldTheLast}
 use Rattle.arj_settle_law.specs.Overtaken.{OnlyOvertakenWait, WaitsOvertaken}
 use Rattle.arj_settle_law.specs.Settled.{EndsQuiet, KnowsPrepared}
 use Rattle.arj_settle_law.proofs.Aborting.{runs_show}
-use Rattle.arj_settle_law.proofs.Idle.{quiesces_idle, rounds_idle}
+use Rattle.arj_settle_law.proofs.Idle.{line_tells, quiesces_idle, rounds_idle}
 use Rattle.arj_settle_law.proofs.Last.{idle_files_hold}
 use Rattle.arj_settle_law.proofs.Settled.{handlers_settle}
 use Rattle.arj_settle_law.proofs.Waiting.{quiesces_answer_the_rest, runs_leave_overtaken}
-use Rattle.arj_promise_law.specs.Promise.{CalmQuiescesEndAtRest, EndsAtRest, EndsInQuiesce, EndsInRound, KeptAfterEveryEvent, QuiescesAnswerWhoWaits, QuiescesGiveUpNothing, QuiescesLeaveOvertaken, QuietFilesHoldAll, RoundsEndAtRest, RunsKeepThePromise, ScriptsAreRuns}
+use Rattle.arj_promise_law.specs.Promise.{CalmQuiescesEndAtRest, EndsAtRest, EndsInQuiesce, EndsInRound, KeptAfterEveryEvent, QuiescesAnswerWhoWaits, QuiescesGiveUpNothing, QuiescesLeaveOvertaken, QuietFilesHoldAll, QuietLinesTell, RoundsEndAtRest, RunsKeepThePromise, ScriptsAreRuns}
 
 -- ---- the promise
 
@@ -108,6 +108,12 @@ nothing_given_up hd ms before q = subst (λ (v : World). (more : List Line) × (
 
 pub calm_end : CalmQuiescesEndAtRest
 calm_end hd ms before f q calm = at_rest hd ms f (subst EndsQuiet (sym (end_is hd ms before q)) (quiesces_idle hd f.header before q.last calm.1 calm.0 q.quiesces (open_before hd ms before q) (open_at_end hd ms before q) (up_at_end hd ms before q)))
+
+pub quiet_end : QuietLinesTell
+quiet_end hd ms before f q =
+    let end : world_by hd ms ≡ moved q.last (world_by hd before) = ap (λ l. all_moved l (format hd)) q.are ∙ more_moves before (q.last ∷ []) (format hd) in
+    let open_end : (moved q.last (world_by hd before)).over ≡ false = ap (λ (w : World). w.over) (sym end) ∙ q.unlimited in
+    at_rest hd ms f (subst EndsQuiet (sym end) (line_tells q.last (world_by hd before) q.quiesces (over_before q.last (world_by hd before) open_end) open_end q.front q.number (ap (λ (w : World). w.lines) (sym end) ∙ q.line)))
 
 -- ---- the stated round
 

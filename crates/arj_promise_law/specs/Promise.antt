@@ -5,6 +5,7 @@ use Rattle.arj_journal.specs.ScriptForm.{HeaderInForm}
 use Rattle.arj_model.specs.Clean.{Clean, Disks}
 use Rattle.arj_model.specs.Last.{first_values}
 use Rattle.arj_protocol.specs.Words.{Header, Line, Uid}
+use Rattle.arj_protocol.specs.Words.body
 use Rattle.arj_protocol.specs.Words.event
 use Rattle.arj_protocol.specs.Coord.{Coord, Doing, doing_of}
 use Rattle.arj_protocol.specs.Step.{is_waiting_now}
@@ -106,6 +107,20 @@ IsCalm w = NobodyWaits w × (lowest_from 1 w.frames ≡ None)
 -- so a run ends with a quiesce that begins where nobody waits and no frame is open
 abbrev pub CalmQuiescesEndAtRest : Type 0
 CalmQuiescesEndAtRest = (hd : Header) (ms before : List Move) → IsInForm hd ms → EndsInQuiesce hd ms before → IsCalm (world_by hd before) → EndsAtRest hd ms
+
+-- The run's last event is a quiesce, no limit was met, and the journal's last line says that every node is idle.
+pub record SaysQuiet (hd : Header) (ms before : List Move) : Type 0 where
+  pub last : Move
+  pub are : ms ≡ before ++ last ∷ []
+  pub quiesces : (let e = last.asked in e.event) ≡ event.Quiesce
+  pub unlimited : (let w = world_by hd ms in w.over) ≡ false
+  pub front : List Line
+  pub number : ℕ
+  pub line : journal_by hd ms ≡ front ++ record { event = number; body = body.Quiet true } ∷ []
+
+-- so a run ends at rest of which the journal says so
+abbrev pub QuietLinesTell : Type 0
+QuietLinesTell = (hd : Header) (ms before : List Move) → IsInForm hd ms → SaysQuiet hd ms before → EndsAtRest hd ms
 
 -- The run ends with the stated round: a quiesce, giveups of each action that waits then, and a second quiesce (or any giveups behind which
 -- nobody waits).

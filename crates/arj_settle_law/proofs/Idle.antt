@@ -1,6 +1,6 @@
 -- A quiesce, and the stated round, leave every node idle: in every run.
-use Rattle.std.proofs.Common.{◌≡◌, true, ◌∙◌, ◌++◌, ℕ, suc, Bool, false, cond, List, [], ◌∷◌, Some, refl, sym, ap, subst}
-use Rattle.arj_protocol.specs.Words.{Header, Line}
+use Rattle.std.proofs.Common.{◌≡◌, true, ◌∙◌, ◌++◌, ℕ, zero, suc, Bool, false, cond, List, [], ◌∷◌, Some, refl, sym, ap, subst}
+use Rattle.arj_protocol.specs.Words.{Body, Header, Line}
 use Rattle.arj_protocol.specs.Words.body
 use Rattle.arj_protocol.specs.Words.event
 use Rattle.arj_protocol.specs.Words.which
@@ -23,6 +23,7 @@ use Rattle.arj_settle_law.proofs.Settled.{handlers_settle}
 use Rattle.arj_settle_law.proofs.Waiting.{AllKnown, all_answer, all_kept}
 use Rattle.std.specs.Prelude.{◌&&◌, nat_le, slice_get}
 use Rattle.std.specs.List.{list_all}
+use Rattle.std.proofs.lemmas.Bool.{and_parts}
 
 -- what holds where more is known
 settles_less : (hd : Header) (P Q : Seen → Type 0) → ((M : Seen) → Q M → P M) → SettlesAll hd P → SettlesAll hd Q
@@ -79,6 +80,49 @@ ends_quiet hd m w h is over last idle = record {
   where
     quiet : is_quiet (moved m w) ≡ true
     quiet = world_idle hd (moved m w) h idle
+
+-- ---- what a line tells
+
+-- the last line of a journal is one
+last_is : (xs ys : List Line) (a b : Line) → xs ++ a ∷ [] ≡ ys ++ b ∷ [] → a ≡ b
+last_is [] [] a b is = cc is
+last_is [] (y ∷ []) a b is = absurd (cc is)
+last_is [] (y ∷ z ∷ ys) a b is = absurd (cc is)
+last_is (x ∷ []) [] a b is = absurd (cc is)
+last_is (x ∷ z ∷ xs) [] a b is = absurd (cc is)
+last_is (x ∷ xs) (y ∷ ys) a b is = last_is xs ys a b (cc is)
+
+-- what a line says of it
+abbrev tells : Body → Bool
+tells (body.Quiet b) = b
+tells b = true
+
+same_quiet : (e n : ℕ) (b c : Bool) → ◌≡◌ {A = Line} (record { event = e; body = body.Quiet b }) (record { event = n; body = body.Quiet c }) → b ≡ c
+same_quiet e n b c is = ap (λ (l : Line). tells l.body) is
+
+each_idle : (ns : List Node) → list_all is_idle ns ≡ true → (k : ℕ) (a : Node) → slice_get ns k ≡ Some a → is_idle a ≡ true
+each_idle [] all k a is = absurd (cc is)
+each_idle (n ∷ ns) all zero a is = let same : n ≡ a = cc is in (λ i. is_idle (sym same i)) ∙ (and_parts (is_idle n) (list_all is_idle ns) all).0
+each_idle (n ∷ ns) all (suc k) a is = each_idle ns (and_parts (is_idle n) (list_all is_idle ns) all).1 k a is
+
+-- where the line of a quiesce says so, every node is idle
+pub line_tells : (m : Move) (w : World) → m.asked.event ≡ event.Quiesce → w.over ≡ false → (moved m w).over ≡ false
+    → (front : List Line) (n : ℕ) → (moved m w).lines ≡ front ++ record { event = n; body = body.Quiet true } ∷ [] → EndsQuiet (moved m w)
+line_tells m w is over last front n line = record {
+  idle = idle;
+  quiet = quiet;
+  line = (s.0, s.1 ∙ (λ i. s.0 ++ numbered (let v = moved m w in v.event) (body.Quiet (quiet i) ∷ [])));
+}
+  where
+    s : Said (run_event m.asked (record w { arms = m.falls }))
+    s = quiesce_said m.asked (record w { arms = m.falls }) is over last
+
+    quiet : is_quiet (moved m w) ≡ true
+    quiet = same_quiet (let v = moved m w in v.event) n (is_quiet (moved m w)) true (last_is s.0 front (record { event = (let v = moved m w in v.event); body = body.Quiet (is_quiet (moved m w)) }) (record { event = n; body = body.Quiet true }) (sym s.1 ∙ line))
+
+    idle : AreQuiet (moved m w)
+    idle zero a node there = absurd (cc there)
+    idle (suc k) a node there = each_idle (let v = moved m w in v.nodes) quiet k a there
 
 -- ---- in every run
 

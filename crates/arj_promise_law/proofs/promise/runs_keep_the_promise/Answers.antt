@@ -1,4 +1,4 @@
-use Rattle.arj_promise_law.proofs.Keeping.{calm_end, fronts_keep, nothing_given_up, overtaken, quiet_hold, rounds_end, runs_keep, scripts_run, who_waits_is_answered}
+use Rattle.arj_promise_law.proofs.Keeping.{calm_end, fronts_keep, nothing_given_up, overtaken, quiet_end, quiet_hold, rounds_end, runs_keep, scripts_run, who_waits_is_answered}
 use Rattle.arj_promise_law.proofs.promise.runs_keep_the_promise.Goals as goal
 
 pub returns-clause-runs : goal.returns-clause-runs
@@ -27,3 +27,6 @@ returns-clause-answers c = who_waits_is_answered
 
 pub returns-clause-plain : goal.returns-clause-plain
 returns-clause-plain c = nothing_given_up
+
+pub returns-clause-told : goal.returns-clause-told
+returns-clause-told c = quiet_end
