@@ -38,7 +38,7 @@ use Rattle.arj_view_law.specs.Seen.{see}
 use Rattle.arj_joint_law.specs.FitRuns.{IsInForm}
 use Rattle.arj_joint_law.specs.Shown.{FilesAre}
 use Rattle.arj_promise_law.proofs.Keeping.{runs_keep}
-use Rattle.arj_nodes_law.specs.Last.{EndsBehind, IsLast, LastLinesTakeNothing, Shows, ends_run}
+use Rattle.arj_nodes_law.specs.Last.{EndsBehind, FilesStay, IsLast, LinesStay, ShowsByFiles, ShowsByLines, ends_run}
 
 -- ---- what is read of the line
 
@@ -309,32 +309,36 @@ module _ (lines : List Line) (l : Line) (is : ends_run l.body ≡ true) where
       before : is_said (lines_before e lines) (uid_of lines t) ≡ false
       before = ⊎_elim (λ same. (λ i. is_said (sym same i) (uid_of lines t)) ∙ was) (λ one. sym (said_same_of (lines_before e lines) l is (uid_of lines t)) ∙ ((λ i. is_said (sym one i) (uid_of lines t)) ∙ was)) (cut_more e lines l)
 
-  shows_more : (hd : Header) (e : ℕ) (disks : Disks) → Shows hd e lines disks → Shows hd e (more lines l) disks
-  shows_more hd e disks shows = record {
+  lines_more : (hd : Header) → ShowsByLines hd lines → ShowsByLines hd (more lines l)
+  lines_more hd shows = record {
     serial = serial_more hd shows.serial;
     book = book_more (first_values hd) shows.book;
-    outcome = record { commits = each_more is_behind_decision ends_behind [] lines l is ∙ shows.outcome.commits; aborts = each_more has_cause_to_abort ends_cause [] lines l is ∙ shows.outcome.aborts };
     held = holds_more shows.held;
-    clean = clean_more hd disks shows.clean;
-    in_time = time_more hd e disks shows.in_time;
+    outcome = record { commits = each_more is_behind_decision ends_behind [] lines l is ∙ shows.outcome.commits; aborts = each_more has_cause_to_abort ends_cause [] lines l is ∙ shows.outcome.aborts };
   }
 
-pub last_lines_nothing : LastLinesTakeNothing
-last_lines_nothing hd e core journal disks (last, is, are) shows = subst (λ ls. Shows hd e ls disks) (sym are) (by last is)
+  files_more : (hd : Header) (e : ℕ) (disks : Disks) → ShowsByFiles hd e lines disks → ShowsByFiles hd e (more lines l) disks
+  files_more hd e disks shows = record { clean = clean_more hd disks shows.clean; in_time = time_more hd e disks shows.in_time }
+
+-- what holds of a journal, and of one with such a line more, holds of one that ends so
+ends_so : (P : List Line → Type 0) → ((lines : List Line) (l : Line) → ends_run l.body ≡ true → P lines → P (more lines l)) → (core journal : List Line) → EndsBehind core journal → P core → P journal
+ends_so P one core journal (last, is, are) p = subst P (sym are) (by last is)
   where
-    by : (last : List Line) → IsLast last → Shows hd e (core ++ last) disks
-    by [] is = subst (λ ls. Shows hd e ls disks) (sym (append-nil core)) shows
-    by (l ∷ []) is = shows_more core l is hd e disks shows
+    by : (last : List Line) → IsLast last → P (core ++ last)
+    by [] is = subst P (sym (append-nil core)) p
+    by (l ∷ []) is = one core l is p
     by (l ∷ m ∷ ls) is = absurd is
+
+pub lines_stay : LinesStay
+lines_stay hd core journal ends shows = ends_so (ShowsByLines hd) (λ lines l is p. lines_more lines l is hd p) core journal ends shows
+
+pub files_stay : FilesStay
+files_stay hd events core journal disks ends shows = ends_so (λ ls. ShowsByFiles hd events ls disks) (λ lines l is p. files_more lines l is hd events disks p) core journal ends shows
 
 -- ---- runs
 
-pub runs_show : (hd : Header) (ms : List Move) (disks : Disks) → IsInForm hd ms → FilesAre (see [] (world_by hd ms)) disks → Shows hd (let w = world_by hd ms in w.event) (journal_by hd ms) disks
-runs_show hd ms disks form files = let k = runs_keep hd ms form in record {
-  serial = k.serial;
-  book = k.book;
-  held = k.held;
-  outcome = k.outcome;
-  clean = k.clean disks files;
-  in_time = k.in_time disks files;
-}
+pub lines_show : (hd : Header) (ms : List Move) → IsInForm hd ms → ShowsByLines hd (journal_by hd ms)
+lines_show hd ms form = let k = runs_keep hd ms form in record { serial = k.serial; book = k.book; held = k.held; outcome = k.outcome }
+
+pub files_show : (hd : Header) (ms : List Move) (disks : Disks) → IsInForm hd ms → FilesAre (see [] (world_by hd ms)) disks → ShowsByFiles hd (let w = world_by hd ms in w.event) (journal_by hd ms) disks
+files_show hd ms disks form files = let k = runs_keep hd ms form in record { clean = k.clean disks files; in_time = k.in_time disks files }

@@ -33,15 +33,15 @@ use Rattle.arj_world.proofs.Stepping.{is_there}
 use Rattle.arj_binding_law.specs.Scripts.{most_events}
 use Rattle.arj_joint_law.specs.FitRuns.{AreMovesInForm}
 use Rattle.arj_joint_law.specs.Shown.{FilesAre}
-use Rattle.arj_nodes_law.proofs.Ending.{last_lines_nothing, runs_show}
+use Rattle.arj_nodes_law.proofs.Ending.{files_show, files_stay, lines_show, lines_stay}
 use Rattle.arj_nodes_law.proofs.Reading.{events_in_form, few_events, header_in_form}
 use Rattle.arj_protocol.specs.Words.event
 use Rattle.arj_promise_law.specs.Promise.{EndsAtRest}
 use Rattle.arj_promise_law.specs.Resting.{HoldAllStates}
 use Rattle.arj_promise_law.proofs.Keeping.{quiet_end}
 use Rattle.arj_nodes_law.specs.Cores.{SayPairs, SaysPairs}
-use Rattle.arj_nodes_law.specs.Last.{EndsBehind, IsLast, Shows}
-use Rattle.arj_nodes_law.specs.Turns.{ClosesMove, ClosesShow, HasMoved, IsTaskInForm, NodesMove, ScriptsMove, ScriptsRest, ScriptsShow, as_move, event_of, files_at, files_of}
+use Rattle.arj_nodes_law.specs.Last.{EndsBehind, IsLast, ShowsByFiles, ShowsByLines}
+use Rattle.arj_nodes_law.specs.Turns.{AreShown, ClosesMove, ClosesShow, HasMoved, IsTaskInForm, NodesMove, ScriptsMove, ScriptsRest, ScriptsShow, as_move, event_of, files_at, files_of}
 
 pub turns_move : (ts : List Turn) (w : World) → all_turned ts w ≡ all_moved (map as_move ts) w
 turns_move [] w = refl
@@ -68,8 +68,8 @@ within (suc i) (x ∷ xs) a is = more i (length xs) (within i xs a is)
     more j k less = omega (arith, less)
 
 module _ {C D : Type 0} (c : core.Ghosts C) (d : disk.Ghosts D) (says : SaysPairs c) where
-  files_show : (now : Hand C D) (w : World) → Stands c d.file now (record w { over = false }) → FilesAre (see [] w) (files_of d now.disks)
-  files_show now w s = record { stores = λ k n is. (pairs k n is).0; names = λ n is. (pairs 1 n is).1 }
+  files_are : (now : Hand C D) (w : World) → Stands c d.file now (record w { over = false }) → FilesAre (see [] w) (files_of d now.disks)
+  files_are now w s = record { stores = λ k n is. (pairs k n is).0; names = λ n is. (pairs 1 n is).1 }
     where
       pairs : (k : ℕ) (n : Node) → at_place k w.nodes ≡ Some n → SayPairs (files_of d now.disks k) n.disk
       pairs zero n is = absurd (cc is)
@@ -100,7 +100,7 @@ nodes_move {C} {D} c d t over now form r =
       journal = sym r.stands.lines ∙ ap (λ (v : World). v.lines) same;
       event = sym r.stands.event ∙ ap (λ (v : World). v.event) same;
       is_over = ap (λ (v : World). v.over) (sym same) ∙ r.is_over;
-      files = λ says. subst (λ v. FilesAre (see [] v) (files_of d now.disks)) same (files_show c d says now w r.stands);
+      files = λ says. subst (λ v. FilesAre (see [] v) (files_of d now.disks)) same (files_are c d says now w r.stands);
     }
   where
     few : (a b m e : ℕ) → a ≡ b → m ≡ b → m ≡ e → e ≤ most_events → a ≤ most_events
@@ -163,12 +163,15 @@ closes_move {C} {D} c d before after answer closes = (none, some)
         same = ⊎_elim (λ format. let never : Some nodes ≡ None = sym is ∙ format.1 in absurd (cc never)) (λ other. other.1) e.racks
 
 -- what is at hand shows so much
-moved_shows : {C D : Type 0} (c : core.Ghosts C) (d : disk.Ghosts D) → SaysPairs c → (t : Task D) (over : Bool) (now : Hand C D) → HasMoved c d t over now → Shows t.header now.kept.event now.journal (files_of d now.disks)
-moved_shows c d says t over now h = subst (λ (p : ℕ × List Line). Shows t.header p.0 p.1 (files_of d now.disks)) (λ i. (sym h.event i, sym h.journal i)) (runs_show t.header h.moves (files_of d now.disks) h.form (h.files says))
+moved_shows : {C D : Type 0} (c : core.Ghosts C) (d : disk.Ghosts D) (t : Task D) (over : Bool) (now : Hand C D) → HasMoved c d t over now → AreShown c d t.header now.kept.event now.journal now.disks
+moved_shows c d t over now h = (
+  subst (ShowsByLines t.header) (sym h.journal) (lines_show t.header h.moves h.form),
+  λ says. subst (λ (p : ℕ × List Line). ShowsByFiles t.header p.0 p.1 (files_of d now.disks)) (λ i. (sym h.event i, sym h.journal i)) (files_show t.header h.moves (files_of d now.disks) h.form (h.files says)),
+)
 
-pub scripts_show : {C D : Type 0} (c : core.Ghosts C) (d : disk.Ghosts D) → SaysPairs c → ScriptsShow c d
-scripts_show {C} {D} c d says first rack lines place at s nodes is =
-    moved_shows c d says (task first s.header (events_of s.forms)) nodes.over (hand nodes.world rack at.journal) (scripts_move c d first rack lines place at s nodes is)
+pub scripts_show : {C D : Type 0} (c : core.Ghosts C) (d : disk.Ghosts D) → ScriptsShow c d
+scripts_show {C} {D} c d first rack lines place at s nodes is =
+    moved_shows c d (task first s.header (events_of s.forms)) nodes.over (hand nodes.world rack at.journal) (scripts_move c d first rack lines place at s nodes is)
 
 -- the last of moves whose events end so
 split_last : (ms : List Move) (es : List Event) (e : Event) → map event_of ms ≡ es ++ e ∷ [] → (front : List Move) × (m : Move) × (ms ≡ front ++ m ∷ []) × (event_of m ≡ e)
@@ -185,11 +188,12 @@ scripts_rest {C} {D} c d says first rack lines place at s nodes is ends =
     let rest : EndsAtRest s.header h.moves = quiet_end s.header h.moves l.0 h.form (record { last = l.1; are = l.2; quiesces = l.3; unlimited = h.is_over ∙ ends.going; front = ends.front; number = ends.number; line = sym h.journal ∙ ends.line }) in
     subst (λ ls. HoldAllStates s.header ls (files_of d rack)) (sym h.journal) (rest.last (files_of d rack) (h.files says))
 
-pub closes_show : {C D : Type 0} (c : core.Ghosts C) (d : disk.Ghosts D) → SaysPairs c → ClosesShow c d
-closes_show {C} {D} c d says before after answer closes nodes is =
+pub closes_show : {C D : Type 0} (c : core.Ghosts C) (d : disk.Ghosts D) → ClosesShow c d
+closes_show {C} {D} c d before after answer closes nodes is =
     let m = (closes_move c d before after answer closes).1 nodes is in
     let h : HasMoved c d (task before.rack header (events_of stage.forms)) nodes.over (hand nodes.world after.rack at.journal) = m.0 in
-    last_lines_nothing header nodes.world.event at.journal answer.journal (files_of d after.rack) m.1 (moved_shows c d says (task before.rack header (events_of stage.forms)) nodes.over (hand nodes.world after.rack at.journal) h)
+    let shown = moved_shows c d (task before.rack header (events_of stage.forms)) nodes.over (hand nodes.world after.rack at.journal) h in
+    (lines_stay header at.journal answer.journal m.1 shown.0, λ says. files_stay header nodes.world.event at.journal answer.journal (files_of d after.rack) m.1 (shown.1 says))
   where
     e : EndsSo (all_nodes c d) closes.given before.rack after.rack closes.end answer.journal
     e = closes.ends

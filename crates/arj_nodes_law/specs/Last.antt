@@ -26,16 +26,22 @@ IsLast (l ∷ m ∷ ls) = ⊥
 abbrev pub EndsBehind : List Line → List Line → Type 0
 EndsBehind core journal = (last : List Line) × IsLast last × (journal ≡ core ++ last)
 
--- What a journal of so many events, and the files of disks at its end, show of the promise (`arj_promise_law`): all that it says of a run, which is
--- said of these alone.
-pub record Shows (hd : Header) (events : ℕ) (lines : List Line) (disks : Disks) : Type 0 where
+-- What a journal shows of the promise (`arj_promise_law`) by its lines alone.
+pub record ShowsByLines (hd : Header) (lines : List Line) : Type 0 where
   pub serial : IsSerialBy hd lines
   pub book : KeepsTheBook (first_values hd) lines
   pub held : HoldsEach lines
   pub outcome : ShowsOneOutcome lines
+
+-- What the files of disks at the end of a journal of so many events show of it.
+pub record ShowsByFiles (hd : Header) (events : ℕ) (lines : List Line) (disks : Disks) : Type 0 where
   pub clean : Clean hd lines disks
   pub in_time : FilesAreInTime hd events lines disks
 
--- a line outside of events, behind it, takes nothing of it
-abbrev pub LastLinesTakeNothing : Type 0
-LastLinesTakeNothing = (hd : Header) (events : ℕ) (core journal : List Line) (disks : Disks) → EndsBehind core journal → Shows hd events core disks → Shows hd events journal disks
+-- a line outside of events, behind a journal, takes nothing of what the journal shows
+abbrev pub LinesStay : Type 0
+LinesStay = (hd : Header) (core journal : List Line) → EndsBehind core journal → ShowsByLines hd core → ShowsByLines hd journal
+
+-- nor of what files show
+abbrev pub FilesStay : Type 0
+FilesStay = (hd : Header) (events : ℕ) (core journal : List Line) (disks : Disks) → EndsBehind core journal → ShowsByFiles hd events core disks → ShowsByFiles hd events journal disks

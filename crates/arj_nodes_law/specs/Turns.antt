@@ -15,7 +15,7 @@ use Rattle.arj_nodes.specs.AsMachine.{all_nodes}
 use Rattle.arj_nodes.specs.declared.all_nodes.AllNodes.{AllNodes}
 use Rattle.arj_promise_law.specs.Resting.{HoldAllStates}
 use Rattle.arj_protocol.specs.Tree.{at_place}
-use Rattle.arj_protocol.specs.Words.{Line}
+use Rattle.arj_protocol.specs.Words.{Header, Line}
 use Rattle.arj_protocol.specs.Words.body
 use Rattle.arj_protocol.specs.Words.event
 use Rattle.arj_script.specs.Grammar.{Place}
@@ -28,7 +28,7 @@ use Rattle.arj_binding_law.specs.Scripts.{most_events}
 use Rattle.arj_joint_law.specs.FitRuns.{IsInForm}
 use Rattle.arj_joint_law.specs.Shown.{FilesAre}
 use Rattle.arj_nodes_law.specs.Cores.{SaysPairs}
-use Rattle.arj_nodes_law.specs.Last.{EndsBehind, IsLast, Shows}
+use Rattle.arj_nodes_law.specs.Last.{EndsBehind, IsLast, ShowsByFiles, ShowsByLines}
 
 -- ---- turns
 
@@ -92,15 +92,19 @@ ClosesMove {C} {D} c d = (before after : Outside D) (answer : Answer) (closes : 
 
 -- ---- what that shows
 
--- The journal of what was run of a script's lines, and the files of the disks behind them, show what is promised.
+-- A journal shows what is promised of it, and, where cores say the pairs of their disks, so do the files of these disks.
+abbrev pub AreShown : {C D : Type 0} → core.Ghosts C → disk.Ghosts D → Header → ℕ → List Line → List D → Type 0
+AreShown c d header events journal rack = ShowsByLines header journal × (SaysPairs c → ShowsByFiles header events journal (files_of d rack))
+
+-- so do the journal of what was run of a script's lines, and the disks behind them
 abbrev pub ScriptsShow : {C D : Type 0} → core.Ghosts C → disk.Ghosts D → Type 0
 ScriptsShow {C} {D} c d = (first rack : List D) (lines : List (List ℕ)) (place : Place) (at : loop.Hand (AllNodes C)) (s : Stage (all_nodes c d) first rack lines place at) (nodes : AllNodes C)
-    → at.machine ≡ Some nodes → Shows s.header (let k = nodes.world in k.event) at.journal (files_of d rack)
+    → at.machine ≡ Some nodes → AreShown c d s.header (let k = nodes.world in k.event) at.journal rack
 
--- so do the journal and the files that a run leaves
+-- and the journal and the disks that a run leaves
 abbrev pub ClosesShow : {C D : Type 0} → core.Ghosts C → disk.Ghosts D → Type 0
 ClosesShow {C} {D} c d = (before after : Outside D) (answer : Answer) (closes : Closes (all_nodes c d) before after answer) (nodes : AllNodes C)
-    → (let e = closes.ends in let at = e.at in at.machine) ≡ Some nodes → Shows (let e = closes.ends in let r = e.reached in let s = r.stage in s.header) (let k = nodes.world in k.event) answer.journal (files_of d after.rack)
+    → (let e = closes.ends in let at = e.at in at.machine) ≡ Some nodes → AreShown c d (let e = closes.ends in let r = e.reached in let s = r.stage in s.header) (let k = nodes.world in k.event) answer.journal after.rack
 
 -- The last event is a quiesce, no frame was too many, and the journal's last line says that every node is idle.
 pub record EndsIdle (events : List Event) (over : Bool) (lines : List Line) : Type 0 where

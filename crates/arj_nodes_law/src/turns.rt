@@ -16,12 +16,12 @@ pub fn nodes_run_moves<C: Core, D: Disk>()
 {}
 
 /// The journal of what nodes ran of a script's lines is serial, keeps the lock book, holds calls at each line by its tables and shows one outcome
-/// of each top, and the files of their disks behind it are clean and exclude stores in time, where cores say the pairs of their disks
+/// of each top; and where cores say the pairs of their disks, the files of their disks behind it are clean and exclude stores in time
 /// (`scripts`). So do the journal and the disks that the call `nodes` leaves at each such status, once its script's header was read (`closes`).
-/// And where the last event was a quiesce, and the last line says that every node is idle, the files hold every entry and, at each listed store,
-/// every last state, with no exception (`rest`). It does nothing when it runs.
+/// And where cores say so, the last event was a quiesce, and the last line says that every node is idle, the files hold every entry and, at each
+/// listed store, every last state, with no exception (`rest`). It does nothing when it runs.
 pub fn nodes_show_what_is_promised<C: Core, D: Disk>()
-    ensures scripts { SaysPairs C.Core → ScriptsShow C.Core D.Disk }
-    ensures closes { SaysPairs C.Core → ClosesShow C.Core D.Disk }
+    ensures scripts { ScriptsShow C.Core D.Disk }
+    ensures closes { ClosesShow C.Core D.Disk }
     ensures rest { SaysPairs C.Core → ScriptsRest C.Core D.Disk }
 {}

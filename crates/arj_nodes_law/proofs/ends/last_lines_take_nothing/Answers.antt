@@ -1,5 +1,8 @@
-use Rattle.arj_nodes_law.proofs.Ending.{last_lines_nothing}
+use Rattle.arj_nodes_law.proofs.Ending.{files_stay, lines_stay}
 use Rattle.arj_nodes_law.proofs.ends.last_lines_take_nothing.Goals as goal
 
-pub returns : goal.returns
-returns c = last_lines_nothing
+pub returns-clause-lines : goal.returns-clause-lines
+returns-clause-lines c = lines_stay
+
+pub returns-clause-files : goal.returns-clause-files
+returns-clause-files c = files_stay
