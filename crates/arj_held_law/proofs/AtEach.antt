@@ -28,7 +28,7 @@ use Rattle.arj_lock_run_law.specs.Fixed.{AgreesAs, Fixed}
 use Rattle.arj_lock_run_law.specs.Sees.{SeesLocks}
 use Rattle.arj_lock_run_law.specs.Tied.{AreTied}
 use Rattle.arj_serial_law.specs.Codes.{code_of}
-use Rattle.arj_serial_law.specs.Locked.{IsSeenAt, IsWrittenIn, caller_at, joins_top, joins_with, locks_call, locks_entry, ran_at, writes_entry}
+use Rattle.arj_serial_law.specs.Locked.{IsHeldByUpper, IsSeenAt, IsWrittenIn, caller_at, joins_top, joins_with, locks_call, locks_entry, ran_at, writes_entry}
 use Rattle.arj_serial_law.specs.Seen.{IsCalled, RequestsAreOne}
 use Rattle.arj_serial_law.specs.Tied.{AreApart, Began, IsTied, path_of}
 use Rattle.arj_serial_law.proofs.Begun.{path_same}
@@ -90,12 +90,12 @@ pub record OfEach (lines : List Line) (x : ℕ) : Type 0 where
   pub written : (u : Top) → In u (tops lines) → (i : Placed Inclusion) → In i (joins_with lines u) → i.it.x ≡ x → (p : ℕ) → i.at < p → p ≤ unit_place (tops lines) u.root → IsWrittenIn lines (tables_of lines 1 p) u x
   pub one : (c d : Call) → In c (committed_calls lines) → In d (committed_calls lines) → c.x ≡ x → d.x ≡ x → AreAtOneNode lines node c d
 
--- an action that was begun is one of the journal
-journal_has : (begun : List Action) (xs : List Act) → AreAlike begun xs → (a : Action) → In a begun → (b : Act) × In b xs × (b.uid ≡ act_of a)
+-- an action that was begun is one of the journal, of the same kind
+journal_has : (begun : List Action) (xs : List Act) → AreAlike begun xs → (a : Action) → In a begun → (b : Act) × In b xs × (b.uid ≡ act_of a) × (b.kind ≡ a.kind)
 journal_has [] xs alike a i = absurd i
 journal_has (c ∷ begun) [] alike a i = absurd alike
-journal_has (c ∷ begun) (x ∷ xs) alike a (inl is) = (x, inl refl, alike.0 ∙ ap act_of is)
-journal_has (c ∷ begun) (x ∷ xs) alike a (inr i) = let r = journal_has begun xs alike.3 a i in (r.0, inr r.1, r.2)
+journal_has (c ∷ begun) (x ∷ xs) alike a (inl is) = (x, inl refl, alike.0 ∙ ap act_of is, alike.1 ∙ ap (λ (z : Action). z.kind) is)
+journal_has (c ∷ begun) (x ∷ xs) alike a (inr i) = let r = journal_has begun xs alike.3 a i in (r.0, inr r.1, r.2, r.3)
 
 module _ (values : Values) (x : ℕ) (M : Seen) (begun : List Action) (alike : IsAlikeOf begun M) (seen : (f : Fixed) → AreApart f.code → AgreesAs values f x begun M.sent → (S : State) × SeesLocks f x begun S M × AreTied f x M.lines S) (knows : RequestsAreOne M) where
   abbrev lines : List Line
@@ -120,8 +120,8 @@ module _ (values : Values) (x : ℕ) (M : Seen) (begun : List Action) (alike : I
   sound : AreSound (acts lines)
   sound = its_sound lines right
 
-  its_action : (a : Action) → Contains begun a → (b : Act) × Began lines b × (b.uid ≡ act_of a)
-  its_action a there = let r = journal_has begun (acts lines) (subst (AreAlike begun) (its_acts lines right) alike.1) a (in_from a begun there) in (r.0, in_to r.0 (acts lines) r.1, r.2)
+  its_action : (a : Action) → Contains begun a → (b : Act) × Began lines b × (b.uid ≡ act_of a) × (b.kind ≡ a.kind)
+  its_action a there = let r = journal_has begun (acts lines) (subst (AreAlike begun) (its_acts lines right) alike.1) a (in_from a begun there) in (r.0, in_to r.0 (acts lines) r.1, r.2, r.3)
 
   -- whose paths are those of the journal
   its_path : (a : Action) → Contains begun a → (b : Act) × Began lines b × (uids_of a.path ≡ uids (path_of lines b))
@@ -171,8 +171,8 @@ module _ (values : Values) (x : ℕ) (M : Seen) (begun : List Action) (alike : I
     abbrev seen_at : (p : ℕ) (q : Named p) → IsSeenAt values lines x last t q.front
     seen_at p q = record { state = q.state; before = q.run; behind = q.behind; tied = q.tied values (let a = agreed in a.1) }
 
-    its_askers : (p : ℕ) (q : Named p) (r : Row) → Contains q.rows r → r.object ≡ entry x → (b : Act) × Began lines b × (last_uid r.holder ≡ b.uid)
-    its_askers p q r i of = let k = q.known r i in let b = its_action k.0 k.1 in (b.0, b.1, k.2 ∙ sym b.2)
+    its_askers : (p : ℕ) (q : Named p) (r : Row) → Contains q.rows r → r.object ≡ entry x → IsHeldByUpper lines r
+    its_askers p q r i of = let k = q.known r i in let b = its_action k.0 k.1 in (b.0, b.1, k.2 ∙ sym b.2, λ nested. k.3 (sym b.3 ∙ nested))
 
     entry_at : (c : Call) → Shows c → (p : ℕ) → c.at < p → p ≤ unit_end lines c → list_any (locks_entry lines c) (tables_of lines 1 p) ≡ true
     entry_at c s p behind within =

@@ -1,5 +1,5 @@
 -- Places of a journal at which naming's rows on the object's entry were seen in the lock machine, as the table of node 1 has them there.
-use Rattle.std.proofs.Common.{◌≡◌, ◌⊎◌, ◌≤◌, ◌∙◌, ◌++◌, ℕ, List, [], Bool, true, Option, Some, None, length, take, refl, sym, ap, subst, inl, inr, arith, Contains}
+use Rattle.std.proofs.Common.{◌≡◌, ◌≢◌, ◌⊎◌, ◌≤◌, ◌∙◌, ◌++◌, ℕ, List, [], Bool, true, Option, Some, None, length, take, refl, sym, ap, subst, inl, inr, arith, Contains}
 use Rattle.std.specs.Prelude.{is_some}
 use Rattle.std.specs.List.{list_any}
 use Rattle.arj_base.specs.Rows.{Row, last_uid}
@@ -7,6 +7,7 @@ use Rattle.arj_base.specs.Uid.{entry, object}
 use Rattle.arj_lock.proofs.Members.{in_from}
 use Rattle.arj_model.specs.Table.{table}
 use Rattle.arj_protocol.specs.Words.{Line, uids_of}
+use Rattle.arj_protocol.specs.Words.kind
 use Rattle.arj_protocol.specs.Effect.{Disk}
 use Rattle.arj_protocol.specs.Laws.{rows_in_named}
 use Rattle.arj_protocol.specs.Named.{Named}
@@ -24,7 +25,7 @@ use Rattle.arj_lock_law.proofs.Order.{go_on}
 use Rattle.arj_lock_view_law.specs.Ends.{SeesNothing}
 use Rattle.arj_lock_view_law.specs.Hearing.{SeesNamingIn}
 use Rattle.arj_lock_view_law.specs.Rows.{SeesRows, held_in}
-use Rattle.arj_lock_fact_law.specs.Uppers.{AreUppersOf}
+use Rattle.arj_lock_fact_law.specs.Uppers.{AreUpper, AreUppersOf, HaveUpper}
 use Rattle.arj_lock_run_law.specs.Fixed.{Fixed, view_of}
 use Rattle.arj_lock_run_law.specs.Sees.{SeesLocks, SeesMemory}
 use Rattle.arj_lock_run_law.specs.Tied.{AreTied}
@@ -34,6 +35,10 @@ use Rattle.arj_lock_whole_law.proofs.CalledSays.{calls_commit}
 use Rattle.arj_held_law.proofs.Acted.{AreWider}
 use Rattle.arj_held_law.proofs.Calling.{answers_call}
 use Rattle.arj_held_law.proofs.Marks.{NoneBetween, longer, none_more, take_front}
+
+-- the row is held by an action that was begun, and isn't nested
+abbrev pub IsOfUpper : List Action → Row → Type 0
+IsOfUpper begun r = (a : Action) × Contains begun a × (last_uid r.holder ≡ act_of a) × (a.kind ≢ kind.Nested)
 
 -- At this place the object's machine was seen, in a state on its way to the present one, at a place between which and this one no call is
 -- answered, or no commit is called; and in that state naming had rows on the entry that the table of node 1 shows here, and servers had locks.
@@ -47,7 +52,7 @@ pub record IsNamed (f : Fixed) (x : ℕ) (begun : List Action) (S : State) (line
   pub place : ((front ≤ p) × NoneBetween answers_call lines front p) ⊎ ((p ≤ front) × NoneBetween calls_commit lines p front)
   pub rows : List Row
   pub sees : SeesRows f.act (entry x) rows (let n = state.naming in n.rows)
-  pub known : (r : Row) → Contains rows r → (a : Action) × Contains begun a × (last_uid r.holder ≡ act_of a)
+  pub known : (r : Row) → Contains rows r → IsOfUpper begun r
   pub shown : (test : Row → Bool) → list_any test rows ≡ true → list_any test (table 1 (take p lines)) ≡ true
   pub locks : ℕ → List Row
   pub locks_seen : (n : ℕ) → SeesRows f.act (object x) (locks n) (let a = state.server n in a.rows)
@@ -56,8 +61,8 @@ pub record IsNamed (f : Fixed) (x : ℕ) (begun : List Action) (S : State) (line
 pub known_wider : (begun more : List Action) → AreWider begun more → (r : Row) → ((a : Action) × Contains begun a × (r.holder ≡ uids_of a.path)) → (a : Action) × Contains more a × (r.holder ≡ uids_of a.path)
 known_wider begun more wider r k = let w = wider k.0 k.1 in (w.0, w.1, k.2 ∙ w.2)
 
-asker_wider : (begun more : List Action) → AreWider begun more → (r : Row) → ((a : Action) × Contains begun a × (last_uid r.holder ≡ act_of a)) → (a : Action) × Contains more a × (last_uid r.holder ≡ act_of a)
-asker_wider begun more wider r k = let w = wider k.0 k.1 in (w.0, w.1, k.2 ∙ ap last_uid w.2)
+asker_wider : (begun more : List Action) → AreWider begun more → (r : Row) → IsOfUpper begun r → IsOfUpper more r
+asker_wider begun more wider r k = let w = wider k.0 k.1 in (w.0, w.1, k.2 ∙ ap last_uid w.2, λ nested. k.3 (w.3 ∙ nested))
 
 -- so it is with more actions
 pub named_wider : (f : Fixed) (x : ℕ) (begun more : List Action) (S : State) (lines : List Line) (p : ℕ) → AreWider begun more → IsNamed f x begun S lines p → IsNamed f x more S lines p
@@ -130,26 +135,28 @@ module _ (f : Fixed) (x : ℕ) (begun : List Action) (S : State) (M : Seen) (see
       by None is = let a = sees.absent 1 is in let down = a.1 in none_left a.0 (down.naming refl) []
       by (Some m) is = named m.disk m.live (sees.nodes 1 m is)
 
--- these are of actions that were begun
-pub names_known : (x : ℕ) (begun : List Action) (M : Seen) → AreUppersOf HoldsNames begun M → (r : Row) → Contains (names_in x M) r → (a : Action) × Contains begun a × (last_uid r.holder ≡ act_of a)
+-- these are of actions that were begun, and aren't nested
+pub names_known : (x : ℕ) (begun : List Action) (M : Seen) → AreUppersOf HoldsNames begun M → (r : Row) → Contains (names_in x M) r → IsOfUpper begun r
 names_known x begun M names r there = by (M.nodes 1) refl there
   where
-    of_row : IsEntryRow begun r → (a : Action) × Contains begun a × (last_uid r.holder ≡ act_of a)
-    of_row (inl alone) = (let a = alone.1 in (a.0, a.1, ap last_uid alone.2 ∙ sym a.2))
-    of_row (inr below) = (below.0, below.1, ap last_uid below.3)
+    of_row : AreUpper begun r.holder → IsEntryRow begun r → IsOfUpper begun r
+    of_row upper (inl alone) = let a = (subst (AreUpper begun) alone.2 upper).0 in (a.0, a.1, ap last_uid alone.2 ∙ sym a.2, a.3)
+    of_row upper (inr below) = (below.0, below.1, ap last_uid below.3, λ nested. let no_way : kind.Constituent ≡ kind.Nested = sym below.2 ∙ nested in cc no_way)
 
-    held : (o : Option Named) (n : Naming) → HoldsNames begun n → at_number x n.objects ≡ o → Contains (rows_in_named o) r → (a : Action) × Contains begun a × (last_uid r.holder ≡ act_of a)
+    held : (o : Option Named) (n : Naming) → HoldsNames begun n → at_number x n.objects ≡ o → Contains (rows_in_named o) r → IsOfUpper begun r
     held None n holds is i = absurd (in_from r [] i)
-    held (Some o) n holds is i = of_row (all_at (λ (q : Named). (s : Row) → Contains q.rows s → IsEntryRow begun s) x n.objects o holds.entries is r i)
+    held (Some o) n holds is i = of_row
+        (all_at (λ (q : Named). HaveUpper begun q.rows) x n.objects o (let u = holds.objects.uppers in u.rows) is r i)
+        (all_at (λ (q : Named). (s : Row) → Contains q.rows s → IsEntryRow begun s) x n.objects o holds.entries is r i)
 
-    named_rows : (m : Node) (t : Parts) → M.nodes 1 ≡ Some m → m.live ≡ Some t → (o : Option Naming) → t.naming ≡ o → Contains (named_locks x o) r → (a : Action) × Contains begun a × (last_uid r.holder ≡ act_of a)
+    named_rows : (m : Node) (t : Parts) → M.nodes 1 ≡ Some m → m.live ≡ Some t → (o : Option Naming) → t.naming ≡ o → Contains (named_locks x o) r → IsOfUpper begun r
     named_rows m t is up None none i = absurd (in_from r [] i)
     named_rows m t is up (Some n) at i = held (at_number x n.objects) n (let q = names 1 m is in q.live t n up at) refl i
 
-    live_rows : (m : Node) → M.nodes 1 ≡ Some m → (o : Option Parts) → m.live ≡ o → Contains (entry_locks_in x o) r → (a : Action) × Contains begun a × (last_uid r.holder ≡ act_of a)
+    live_rows : (m : Node) → M.nodes 1 ≡ Some m → (o : Option Parts) → m.live ≡ o → Contains (entry_locks_in x o) r → IsOfUpper begun r
     live_rows m is None down i = absurd (in_from r [] i)
     live_rows m is (Some t) up i = named_rows m t is up t.naming refl i
 
-    by : (o : Option Node) → M.nodes 1 ≡ o → Contains (entry_locks_in x (memory_of o)) r → (a : Action) × Contains begun a × (last_uid r.holder ≡ act_of a)
+    by : (o : Option Node) → M.nodes 1 ≡ o → Contains (entry_locks_in x (memory_of o)) r → IsOfUpper begun r
     by None is i = absurd (in_from r [] i)
     by (Some m) is i = live_rows m is m.live refl i

@@ -19,7 +19,7 @@ use Rattle.arj_lock_law.specs.State.{Server, State}
 use Rattle.arj_lock_law.specs.Machine.{Run}
 use Rattle.arj_lock_law.proofs.Roots.{roots_low, start_low}
 use Rattle.arj_lock_view_law.specs.Rows.{SeesRows}
-use Rattle.arj_serial_law.specs.Locked.{AreRowsSeen, IsSeenAt, IsWrittenIn, locks_call, locks_entry, ran_at}
+use Rattle.arj_serial_law.specs.Locked.{AreRowsSeen, IsHeldByUpper, IsSeenAt, IsWrittenIn, locks_call, locks_entry, ran_at}
 use Rattle.arj_serial_law.specs.Tied.{Began, IsTied, path_of}
 use Rattle.arj_serial_law.proofs.Locks.{closes, entries_by, found_call, here, last_top, m, objects_by, same_node, survives_on, tie, unit_last, zero_yet}
 use Rattle.arj_serial_law.proofs.Joins.{written_in}
@@ -98,8 +98,8 @@ module _ (values : Values) (lines : List Line) (right : AreRight new_book lines)
     pub is_within : (c.at < front) × (front ≤ unit_end lines c)
     is_within = within_both lines c.at (unit_end lines c) front p answer_line commit_line behind in_unit place
 
-    -- The entry is for its unit in rows which show what naming had there, by actions of the journal.
-    pub entry_there : (seen : IsSeenAt values lines x T t front) (names : List Row) → ((r : Row) → Contains names r → r.object ≡ entry x → (b : Act) × Began lines b × (last_uid r.holder ≡ b.uid)) → SeesRows t.act (entry x) names (let z = seen.state in let n = z.naming in n.rows) → list_any (locks_entry lines c) names ≡ true
+    -- The entry is for its unit in rows which show what naming had there, by actions of the journal that aren't nested.
+    pub entry_there : (seen : IsSeenAt values lines x T t front) (names : List Row) → ((r : Row) → Contains names r → r.object ≡ entry x → IsHeldByUpper lines r) → SeesRows t.act (entry x) names (let z = seen.state in let n = z.naming in n.rows) → list_any (locks_entry lines c) names ≡ true
     entry_there seen names askers sees = let w = is_within in entries_by values lines right x T t front seen c s w.0 w.1 names askers sees
 
     module _ (seen : IsSeenAt values lines x T t front) (servers : ℕ → Server) (to : Run seen.state (record seen.state { server = servers }))

@@ -10,7 +10,7 @@ use Rattle.arj_model.specs.Table.{table}
 use Rattle.arj_protocol.specs.Words.{Body, Line, Uid}
 use Rattle.arj_protocol.specs.Tree.{at_place}
 use Rattle.arj_protocol.specs.World.{World, numbered}
-use Rattle.arj_part_law.specs.Actions.{Action, act_of}
+use Rattle.arj_part_law.specs.Actions.{Action}
 use Rattle.arj_lock_law.specs.Actions as machine
 use Rattle.arj_lock_law.specs.Actions.{same}
 use Rattle.arj_lock_law.specs.State.{State}
@@ -26,7 +26,7 @@ use Rattle.arj_held_law.specs.Shown.{AreShown}
 use Rattle.arj_held_law.proofs.Acted.{HasActs}
 use Rattle.arj_held_law.proofs.Calling.{answers_call}
 use Rattle.arj_held_law.proofs.Marks.{NoneBetween, take_all, take_behind, take_front}
-use Rattle.arj_held_law.proofs.Names.{IsNamed}
+use Rattle.arj_held_law.proofs.Names.{IsNamed, IsOfUpper}
 use Rattle.arj_held_law.proofs.Points.{never_row}
 use Rattle.arj_held_law.proofs.RestartPlaces.{Lately, none_answered, none_begun}
 use Rattle.arj_held_law.proofs.Traces.{none_said}
@@ -93,7 +93,7 @@ module _ (n e : ℕ) (w v : World) (shown : AreShown w) (l : Lately n e w v) whe
 
   module _ (f : Fixed) (x : ℕ) (begun : List Action) (S : State) (h : IsNamed f x begun S v.lines (length w.lines)) (p : ℕ) (le : length w.lines ≤ p) where
     -- with these rows
-    with_rows : (rows : List Row) → SeesRows f.act (entry x) rows (let z = h.state in let m = z.naming in m.rows) → ((r : Row) → Contains rows r → (a : Action) × Contains begun a × (last_uid r.holder ≡ act_of a)) → ((test : Row → Bool) → list_any test rows ≡ true → list_any test (table 1 (take p v.lines)) ≡ true) → IsNamed f x begun S v.lines p
+    with_rows : (rows : List Row) → SeesRows f.act (entry x) rows (let z = h.state in let m = z.naming in m.rows) → ((r : Row) → Contains rows r → IsOfUpper begun r) → ((test : Row → Bool) → list_any test rows ≡ true → list_any test (table 1 (take p v.lines)) ≡ true) → IsNamed f x begun S v.lines p
     with_rows rows sees known shows = record {
       front = h.front;
       within = h.within;

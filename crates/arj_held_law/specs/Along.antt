@@ -17,14 +17,14 @@ use Rattle.arj_joint_law.specs.FitRuns.{IsInForm}
 abbrev pub AreLockedByCallers : List Line → (Call → ℕ) → Type 0
 AreLockedByCallers lines node = AllByRecursion (λ (c : Call). (p : ℕ) → c.at < p → p ≤ unit_end lines c → list_any (locks_call lines c) (tables_of lines (node c) p) ≡ true) (committed_calls lines)
 
--- The entry of each surviving include's object is locked for writing at each line in the table of node 1, for the unit of the top in which it survives:
--- from its `includes` line to the `committing` line of the unit's last member.
+-- The entry of each surviving include's object is locked for writing at each line in the table of node 1, by the root of the unit of the top in which it
+-- survives, or by a top of that root: from its `includes` line to the `committing` line of the unit's last member.
 abbrev pub AreWrittenAlong : List Line → Type 0
 AreWrittenAlong lines = AllByRecursion (λ (u : Top). AllByRecursion (λ (i : Placed Inclusion). (p : ℕ) → i.at < p → p ≤ unit_place (tops lines) u.root → IsWrittenIn lines (tables_of lines 1 p) u i.it.x) (joins_with lines u)) (tops lines)
 
 -- Held, and entry held, by the tables, at each line: each surviving call of a committed top has a node in whose table its object is locked for its unit,
--- and on its caller's path; in the table of node 1 its object's entry is, for its unit, as is that of each surviving include, for writing; and calls of
--- one object and of different units that overlap are at one node.
+-- and on its caller's path; in the table of node 1 its object's entry is, by the unit's root or a top of it, as is that of each surviving include,
+-- for writing; and calls of one object and of different units that overlap are at one node.
 pub record HoldsEach (lines : List Line) : Type 0 where
   pub node : Call → ℕ
   pub held : AreHeld lines (tables_of lines) node

@@ -51,11 +51,11 @@ entry_locks x w = entry_locks_in x (memory_of (at_place 1 w.nodes))
 -- ---- after each event
 
 -- Where the call was answered by now, and the commit of its unit's last member isn't called yet, the call is locked for at this node, which
--- is up, on its caller's path; and its object's entry is at naming, for its unit.
+-- is up, on its caller's path; and its object's entry is at naming, by its unit's root or a top of it.
 abbrev pub IsHeldNow : List Line → Call → ℕ → World → Type 0
 IsHeldNow lines c n w = c.at < length w.lines → length w.lines ≤ unit_end lines c → IsLockedIn lines (locks_at c.x w n) (entry_locks c.x w) c
 
--- So long the entry of an include's object is locked for writing at naming, for the unit of the top in which it survives.
+-- So long the entry of an include's object is locked for writing at naming, by the root of the unit of the top in which it survives, or a top of it.
 abbrev pub IsWrittenNow : List Line → Top → Placed Inclusion → World → Type 0
 IsWrittenNow lines u i w = i.at < length w.lines → length w.lines ≤ unit_place (tops lines) u.root → IsWrittenIn lines (entry_locks i.it.x w) u i.it.x
 

@@ -238,7 +238,7 @@ module _ (lines : List Line) (l : Line) (is : ends_run l.body ≡ true) where
 
   -- entries that are locked for
   entries_same : (c : Call) (row : Row) → locks_entry (more lines l) c row ≡ locks_entry lines c row
-  entries_same c row = (λ i. uid_eq row.object (entry c.x) && is_number (root_in (path_by (acts_same lines l is i) (last_uid row.holder))) (root_same c i))
+  entries_same c row = (λ i. uid_eq row.object (entry c.x) && (is_number (root_in (path_by (acts_same lines l is i) (last_uid row.holder))) (root_same c i) && (length (chain_in (path_by (acts_same lines l is i) (last_uid row.holder))) == 0)))
 
   entries_more : (c : Call) → ((p : ℕ) → c.at < p → p ≤ unit_end lines c → list_any (locks_entry lines c) (tables_of lines 1 p) ≡ true) → (p : ℕ) → c.at < p → p ≤ unit_end (more lines l) c → list_any (locks_entry (more lines l) c) (tables_of (more lines l) 1 p) ≡ true
   entries_more c h p behind le = (λ i. list_any (λ row. entries_same c row i) (rows_same 1 p i)) ∙ h p behind (subst (λ e. p ≤ e) (end_same c) le)
@@ -252,7 +252,7 @@ module _ (lines : List Line) (l : Line) (is : ends_run l.body ≡ true) where
   joining_same u = (λ k. filter (λ i. joined_same u i (top_in i.it.path) k) (includes_same k))
 
   writes_same : (x root : ℕ) (row : Row) → writes_entry (more lines l) x root row ≡ writes_entry lines x root row
-  writes_same x root row = (λ i. uid_eq row.object (entry x) && (is_number (root_in (path_by (acts_same lines l is i) (last_uid row.holder))) root && is_write row.mode))
+  writes_same x root row = (λ i. uid_eq row.object (entry x) && ((is_number (root_in (path_by (acts_same lines l is i) (last_uid row.holder))) root && (length (chain_in (path_by (acts_same lines l is i) (last_uid row.holder))) == 0)) && is_write row.mode))
 
   abbrev WrittenAt : List Line → Top → Placed Inclusion → Type 0
   WrittenAt ls u i = (p : ℕ) → i.at < p → p ≤ unit_place (tops ls) u.root → IsWrittenIn ls (tables_of ls 1 p) u i.it.x

@@ -38,10 +38,10 @@ HasFiles hd ms disks = FilesAre (see [] (world_by hd ms)) disks
 -- The run keeps the promise. Committed tops got the answers of running them alone, one after another, and so did nested actions, each whole at its
 -- commit; and the lock book is kept: calls that conflict stand in that order, each behind the call of the commit of the earlier one's top, or, within
 -- one top, behind the commits of the earlier one's actions; and each is answered by the writes before it. Until the commit of its unit's last member
--- is called, each surviving call of a committed top is locked for by the journal's tables at each line, and so is its object's entry, which for a
--- surviving include is locked for writing. The disks' files are clean. Of each object that a top wrote which the last event committed,
--- the files of each store that the entry in naming's files lists hold the last state, or have it prepared for that top, or it is about to be taken
--- out. And what is done as committed was decided before, while an abort of what was decided has a cause.
+-- is called, each surviving call of a committed top is locked for by the journal's tables at each line, and its object's entry is locked by the
+-- unit's root or a top of it, and for a surviving include for writing. The disks' files are clean. Of each object that a top wrote which the last
+-- event committed, the files of each store that the entry in naming's files lists hold the last state, or have it prepared for that top, or it is
+-- about to be taken out. And what is done as committed was decided before, while an abort of what was decided has a cause.
 pub record KeepsThePromise (hd : Header) (ms : List Move) : Type 0 where
   pub serial : IsSerialBy hd (journal_by hd ms)
   pub book : KeepsTheBook (first_values hd) (journal_by hd ms)

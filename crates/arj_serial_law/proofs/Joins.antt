@@ -25,7 +25,7 @@ use Rattle.arj_lock_law.proofs.Ordered.{is_entry_written}
 use Rattle.arj_lock_law.proofs.Roots.{roots_low, start_low}
 use Rattle.arj_lock_view_law.specs.Rows.{held_in}
 use Rattle.arj_lock_line_law.specs.Lines.{IsIncludeOf, included_on}
-use Rattle.arj_serial_law.specs.Locked.{AreRowsSeen, IsSeenAt, IsWrittenIn, is_of_root, writes_entry}
+use Rattle.arj_serial_law.specs.Locked.{AreRowsSeen, IsSeenAt, IsWrittenIn, is_upper_of, writes_entry}
 use Rattle.arj_serial_law.specs.Tied.{IsTied, path_of}
 use Rattle.arj_serial_law.proofs.Including.{IsChange, IsLastOf, find_include, join_of, last_of, root_of_change}
 use Rattle.arj_serial_law.proofs.Locks.{any_in, both_true, find_row, its_number, read_taken, run_place, taken_length, write_mode}
@@ -87,9 +87,9 @@ module _ (values : Values) (lines : List Line) (right : AreRight new_book lines)
         let b = in_from h.0 (acts lines) h.1 in
         let stands : root (t.act h.0.uid) ≡ root (t.act (let z = item.act in z.uid)) = ap (λ v. root (t.act v)) (sym h.2) ∙ ap root r.holder ∙ unit_root written.0 written.1 ∙ ap root same_act ∙ root_of_change values lines right x T t u item (let k = found.0 in k.act) i.at found.3 in
         any_in (writes_entry lines x u.root) r.row names r.there
-        (both_true (uid_eq (let w = r.row in w.object) (entry x)) (is_of_root lines u.root (last_uid (let w = r.row in w.holder)) && is_write (let w = r.row in w.mode)) r.of_object
-        (both_true (is_of_root lines u.root (last_uid (let w = r.row in w.holder))) (is_write (let w = r.row in w.mode))
-        (ap (is_of_root lines u.root) h.2 ∙ its_number values lines right x T t h.0 b u.root (let pl = t.places in pl.units h.0 item.act h.1 (in_to item.act (acts lines) item.there) stands ∙ root_number))
+        (both_true (uid_eq (let w = r.row in w.object) (entry x)) (is_upper_of lines u.root (last_uid (let w = r.row in w.holder)) && is_write (let w = r.row in w.mode)) r.of_object
+        (both_true (is_upper_of lines u.root (last_uid (let w = r.row in w.holder))) (is_write (let w = r.row in w.mode))
+        (ap (is_upper_of lines u.root) h.2 ∙ its_number values lines right x T t h.0 b h.3 u.root (let pl = t.places in pl.units h.0 item.act h.1 (in_to item.act (acts lines) item.there) stands ∙ root_number))
         (write_mode (let w = r.row in w.mode) r.strong)))
       where
         unit_root : (h : machine.Act) → OfUnit (let k = now.0 in k.act) h → root h ≡ root (let k = now.0 in k.act)

@@ -12,9 +12,10 @@ use Rattle.arj_base.specs.declared.mode.Mode.TheVariants as mode
 use Rattle.arj_base.specs.declared.uid.Uid.{Uid}
 use Rattle.arj_class.specs.Table.{is_write, writes}
 use Rattle.arj_journal.specs.declared.body.Body.{Body}
+use Rattle.arj_journal.specs.declared.body.Kind.TheVariants as kind
 use Rattle.arj_journal.specs.declared.body.Line.{Line}
 use Rattle.arj_lock.proofs.Members.{In, in_filter_map, in_from, in_to}
-use Rattle.arj_model.specs.Actions.{Act, Placed, acts, acts_after, committed, path, path_in, put, read, recovered, root_in, uids}
+use Rattle.arj_model.specs.Actions.{Act, Placed, acts, acts_after, chain_in, committed, path, path_in, put, read, recovered, root_in, uids}
 use Rattle.arj_model.specs.Calls.{Call, Said, Top, committed_calls, kept, root_or, said, said_of, tops}
 use Rattle.arj_model.specs.Last.{uid_of_id}
 use Rattle.arj_model.specs.Serial.{Values, root_of, unit_place}
@@ -44,9 +45,9 @@ use Rattle.arj_lock_law.proofs.Roots.{roots_low, start_low}
 use Rattle.arj_lock_view_law.specs.Acts.{Acts}
 use Rattle.arj_lock_view_law.specs.Rows.{SeesRows, held_in, strength}
 use Rattle.arj_lock_line_law.specs.Lines.{IsCallOf, said_on}
-use Rattle.arj_serial_law.specs.Locked.{AreLockedAlong, AreRowsSeen, AreTiedAlong, EntriesAreHeld, IsLockedIn, IsSeenAt, caller_at, is_number, is_of_root, locks_call, locks_entry, ran_at}
+use Rattle.arj_serial_law.specs.Locked.{AreLockedAlong, AreRowsSeen, AreTiedAlong, EntriesAreHeld, IsHeldByUpper, IsLockedIn, IsSeenAt, caller_at, is_number, is_upper_of, locks_call, locks_entry, ran_at}
 use Rattle.arj_serial_law.specs.Tied.{Began, IsTied, path_of}
-use Rattle.arj_serial_law.proofs.Order.{IsShown, IsTopOf, before_top, find_call, head_of, is_top_in, its_root, its_top, listed, one_unit, place_in, root_of_top, same_number, shown, stage_of_top, top_item, unit_behind}
+use Rattle.arj_serial_law.proofs.Order.{IsShown, IsTopOf, before_top, find_call, head_of, is_top_in, its_root, its_top, listed, one_unit, place_in, root_of_top, same_number, shown, stage_of_top, top_item, unit_behind, upper_chain}
 use Rattle.arj_serial_law.proofs.Paths.{own_last, own_there}
 use Rattle.arj_serial_law.proofs.Ties.{Tie, tie_of}
 use Rattle.arj_serial_law.proofs.Tying.{member}
@@ -218,9 +219,13 @@ module _ (values : Values) (lines : List Line) (right : AreRight new_book lines)
   one_node : IsAtOneNode T
   one_node = is_at_one_node holds (roots_low tie.run (start_low (t.code (values x) (t.act nobody))))
 
-  -- an action is of the root with this number
-  pub its_number : (b : Act) → In b (acts lines) → (n : ℕ) → root_in (path_of lines b) ≡ Some n → is_of_root lines n b.uid ≡ true
-  its_number b i n e = ap (λ q. is_number (root_in q) n) (path_of_uid (acts lines) sound.distinct b i) ∙ ap (λ o. is_number o n) e ∙ eq-eqb n n refl
+  -- an action that isn't nested is the root with this number, or a top of it
+  pub its_number : (b : Act) → In b (acts lines) → b.kind ≢ kind.Nested → (n : ℕ) → root_in (path_of lines b) ≡ Some n → is_upper_of lines n b.uid ≡ true
+  its_number b i upper n e =
+      let its_path = path_of_uid (acts lines) sound.distinct b i in
+      both_true (is_number (root_in (path_by (acts lines) b.uid)) n) (length (chain_in (path_by (acts lines) b.uid)) == 0)
+      (ap (λ q. is_number (root_in q) n) its_path ∙ ap (λ o. is_number o n) e ∙ eq-eqb n n refl)
+      (ap (λ q. length (chain_in q) == 0) its_path ∙ ap (λ (q : List Act). length q == 0) (upper_chain lines right b i upper))
 
   -- the unit of a call
   unit_is : (c : Call) (s : IsShown values lines right x T tie c) → root_of_call lines c ≡ (let n = s.number in n.root)
@@ -411,7 +416,7 @@ module _ (values : Values) (lines : List Line) (right : AreRight new_book lines)
     unit_root h (inr (is, e)) = e
 
     -- and where those on its entry do, the entry is for its unit
-    pub entries_by : (names : List Row) → ((r : Row) → Contains names r → r.object ≡ entry x → (b : Act) × Began lines b × (last_uid r.holder ≡ b.uid)) → SeesRows t.act (entry x) names (let n = S.naming in n.rows) → list_any (locks_entry lines c) names ≡ true
+    pub entries_by : (names : List Row) → ((r : Row) → Contains names r → r.object ≡ entry x → IsHeldByUpper lines r) → SeesRows t.act (entry x) names (let n = S.naming in n.rows) → list_any (locks_entry lines c) names ≡ true
     entries_by names askers sees =
         let naming = held.entry in
         let less : 1 ≤ held_in t.act (entry x) naming.0 names = (let a = naming.2 in let b = sees naming.0 in omega (arith, a, b)) in
@@ -421,9 +426,9 @@ module _ (values : Values) (lines : List Line) (right : AreRight new_book lines)
         let stands : root (t.act h.0.uid) ≡ root (let e = s.call in e.act) = ap (λ v. root (t.act v)) (sym h.2) ∙ ap root r.holder ∙ unit_root naming.0 naming.1 ∙ ap root same_act in
         let root_of_it = of_unit c s h.0 b stands in
         any_in (locks_entry lines c) r.row names r.there
-        (both_true (uid_eq (let w = r.row in w.object) (entry c.x)) (is_of_root lines (root_of_call lines c) (last_uid (let w = r.row in w.holder)))
+        (both_true (uid_eq (let w = r.row in w.object) (entry c.x)) (is_upper_of lines (root_of_call lines c) (last_uid (let w = r.row in w.holder)))
         (ap (λ y. uid_eq (let w = r.row in w.object) (entry y)) s.call_object ∙ r.of_object)
-        (ap (is_of_root lines (root_of_call lines c)) h.2 ∙ its_number h.0 b (root_of_call lines c) root_of_it.number))
+        (ap (is_upper_of lines (root_of_call lines c)) h.2 ∙ its_number h.0 b h.3 (root_of_call lines c) root_of_it.number))
 
     -- in these rows
     module _ (rows : ℕ → List Row) (names : List Row) (sees : AreRowsSeen t.act lines x rows names S) where

@@ -1,5 +1,5 @@
 -- Committed tops and surviving calls of an object, by its machine: their order, and that of nested actions.
-use Rattle.std.proofs.Common.{◌≡◌, ◌≢◌, ◌⊎◌, ◌<◌, ◌≤◌, ℕ, ◌+◌, ◌==◌, ◌&&◌, ◌||◌, List, [], ◌∷◌, Bool, true, false, cond, nat_lt, max, Some, None, refl, sym, ◌∙◌, ap, subst, inl, inr, ⊎_elim, arith, eqb-true, eq-eqb}
+use Rattle.std.proofs.Common.{◌≡◌, ◌≢◌, ◌⊎◌, ◌<◌, ◌≤◌, ℕ, ◌+◌, ◌==◌, ◌&&◌, ◌||◌, List, [], ◌∷◌, ◌++◌, Bool, true, false, cond, nat_lt, max, Some, None, refl, sym, ◌∙◌, ap, subst, inl, inr, ⊎_elim, arith, eqb-true, eq-eqb}
 use Rattle.std.specs.List.{AllByRecursion}
 use Rattle.std.proofs.lemmas.Bool.{and_parts}
 use Rattle.std.proofs.lemmas.Bool.Decides.{nat_tests}
@@ -9,7 +9,7 @@ use Rattle.arj_journal.specs.declared.body.Kind.{Kind}
 use Rattle.arj_journal.specs.declared.body.Kind.TheVariants as kind
 use Rattle.arj_journal.specs.declared.body.Line.{Line}
 use Rattle.arj_lock.proofs.Members.{In, in_filter_map, in_from, in_to}
-use Rattle.arj_model.specs.Actions.{Act, Placed, acts, chain_in, committed, has_end, is_committed, is_serial, recovered, root_in, top_in}
+use Rattle.arj_model.specs.Actions.{Act, Placed, acts, behind_first, chain_in, committed, has_end, is_committed, is_serial, recovered, root_in, top_in}
 use Rattle.arj_model.specs.Calls.{Call, Said, Top, committed_calls, committings, ids, kept, root_or, said, top_by, top_of, tops}
 use Rattle.arj_model.specs.Last.{is_among}
 use Rattle.arj_model.specs.Serial.{Values, lex, root_of, serial_key, serial_less, top_place, unit_place}
@@ -38,7 +38,7 @@ use Rattle.arj_serial_law.specs.Decided.{CommitsComeFirst, IsCalledFirst}
 use Rattle.arj_serial_law.specs.Tied.{path_of}
 use Rattle.arj_serial_law.proofs.Ties.{Tie, Ties}
 use Rattle.arj_serial_law.proofs.Items.{IsCallOfTop, call_top}
-use Rattle.arj_serial_law.proofs.Paths.{chain_on, own_there, own_top, parts, top_on}
+use Rattle.arj_serial_law.proofs.Paths.{chain_on, found as found_by, own_there, own_top, parts, top_on, well}
 use Rattle.arj_serial_law.proofs.Timely.{AreTimely, run_timely, start_timely}
 use Rattle.arj_serial_law.proofs.Tying.{IsKeptSo, IsMade, acts_are, chain_nested, from_on, kept_so, kept_survives, made, member, on_it, shape_of}
 use Rattle.arj_serial_law.proofs.Values.{any_said, kept_shape, to_object}
@@ -139,6 +139,28 @@ top_plain kind.Top e = refl
 top_plain kind.Constituent e = refl
 top_plain kind.Independent e = refl
 
+-- where all below the top are nested, and the last of the path isn't, there is none
+none_below : (before : List Act) (a : Act) → AllByRecursion (λ (y : Act). y.kind ≡ kind.Nested) (chain_in (before ++ a ∷ [])) → a.kind ≢ kind.Nested → chain_in (before ++ a ∷ []) ≡ []
+none_below [] a all upper = by (is_serial a.kind)
+  where
+    by : (s : Bool) → ◌≡◌ {A = List Act} (cond s (behind_first []) []) []
+    by true = refl
+    by false = refl
+none_below (r ∷ []) a all upper = by (is_serial r.kind) all
+  where
+    by : (s : Bool) → AllByRecursion (λ (y : Act). y.kind ≡ kind.Nested) (cond s (behind_first (a ∷ [])) (a ∷ [])) → cond s (behind_first (a ∷ [])) (a ∷ []) ≡ []
+    by true each = refl
+    by false each = absurd (upper each.0)
+none_below (r ∷ b ∷ rest) a all upper = by (is_serial r.kind) all
+  where
+    last_nested : (xs : List Act) → AllByRecursion (λ (y : Act). y.kind ≡ kind.Nested) (xs ++ a ∷ []) → a.kind ≡ kind.Nested
+    last_nested [] each = each.0
+    last_nested (x ∷ xs) each = last_nested xs each.1
+
+    by : (s : Bool) → AllByRecursion (λ (y : Act). y.kind ≡ kind.Nested) (cond s (rest ++ a ∷ []) (b ∷ (rest ++ a ∷ []))) → cond s (rest ++ a ∷ []) (b ∷ (rest ++ a ∷ [])) ≡ []
+    by true each = absurd (upper (last_nested rest each))
+    by false each = absurd (upper (last_nested rest each.1))
+
 module _ (lines : List Line) (right : AreRight new_book lines) where
   sound : AreSound (acts lines)
   sound = its_sound lines right
@@ -151,6 +173,12 @@ module _ (lines : List Line) (right : AreRight new_book lines) where
   own a i is =
       let t = own_top (acts lines) sound.distinct sound.formed a i (top_plain a.kind is) in
       ⊎_elim (λ same. t.1 ∙ ap Some same) (λ j. never is (chain_nested lines right a a j).0) (parts (path_of lines a) t.0 a t.1 (own_there (acts lines) sound.distinct sound.formed a i) (top_plain a.kind is))
+
+  -- nothing is below the top on the path of an action that isn't nested
+  pub upper_chain : (a : Act) → In a (acts lines) → a.kind ≢ kind.Nested → chain_in (path_of lines a) ≡ []
+  upper_chain a i upper =
+      let e = (well (acts lines) sound.formed a.label).1 a (found_by (acts lines) sound.distinct a i) in
+      ap chain_in e.are ∙ none_below e.before a (subst (λ q. AllByRecursion (λ (y : Act). y.kind ≡ kind.Nested) (chain_in q)) e.are (let s = shape_of lines right a in s.below)) upper
 
   pub top_item : (t : Top) → In t (tops lines) → IsTopOf lines t
   top_item t i =
