@@ -1,19 +1,13 @@
 -- At a message: the ends that come with it raise copies to what was planned, and a Yes is sent by a server only.
-use Rattle.std.proofs.Common.{false, ◌≡◌, ◌∙◌, ℕ, List, [], ◌∷◌, true, Option, None, Some, refl, sym, inl, inr}
-use Rattle.std.specs.List.{AllByRecursion}
-use Rattle.arj_lock.proofs.Members as list
+use Rattle.std.proofs.Common.{false, ◌≡◌, ◌∙◌, ℕ, List, [], ◌∷◌, true, Option, None, Some, refl}
 use Rattle.arj_protocol.specs.Words.{Ask, Binding, Head, Message, Uid, asks}
 use Rattle.arj_protocol.specs.Words.ask
 use Rattle.arj_protocol.specs.Words.message
 use Rattle.arj_protocol.specs.Copy.{Base}
 use Rattle.arj_protocol.specs.Order.{binding_number}
-use Rattle.arj_protocol.specs.Coord.{Coord}
-use Rattle.arj_protocol.specs.Effect.{Do, Effect, Say, Send}
 use Rattle.arj_protocol.specs.Server.{Server}
 use Rattle.arj_part_law.specs.Actions.{Action}
-use Rattle.arj_part_law.specs.Claims.{AreTrue}
 use Rattle.arj_part_law.specs.Ends.{ask_ends, brought, brought_by, told_by}
-use Rattle.arj_call_law.proofs.WorldSteps.{no_answer}
 use Rattle.arj_disk_law.specs.Core.{Core}
 use Rattle.arj_disk_law.specs.Effects.{World}
 use Rattle.arj_lock_law.specs.Actions as machine
@@ -27,7 +21,6 @@ use Rattle.arj_lock_view_law.specs.Serving.{IsShown}
 use Rattle.arj_lock_view_law.specs.Telling.{Sees, View}
 use Rattle.arj_serial_law.specs.Tied.{AreApart}
 use Rattle.arj_joint_law.specs.Based.{HasWriters, IsBasedAt, WasVotedOver}
-use Rattle.arj_joint_law.specs.BasedSteps.{SendsNoYes}
 use Rattle.arj_joint_law.proofs.BasedRaise.{all_raise}
 use Rattle.arj_joint_law.proofs.BasedServers.{AreRaised}
 
@@ -81,17 +74,3 @@ shown_other v s S (message.Told m) off = absurd (cc off)
 shown_other v s S (message.Hello m) off = absurd (cc off)
 
 -- ---- who sends a Yes
-
--- a coordinator sends none
-pub coord_no_yes : (c : Coord) (es : List Effect) → AreTrue c es → AllByRecursion SendsNoYes es
-coord_no_yes c [] its = tt
-coord_no_yes c (Say b ∷ es) its = (tt, coord_no_yes c es its.1)
-coord_no_yes c (Do w ∷ es) its = (tt, coord_no_yes c es its.1)
-coord_no_yes c (Send to m ∷ es) its = ((λ a states is. absurd (let e = sym (no_answer m (let z = its.0 in z.plain)) ∙ is in cc e)), coord_no_yes c es its.1)
-
--- nor does an acknowledgement or a question
-each_no_yes : (es : List Effect) → ((to : ℕ) (m : Message) → list.In (Send to m) es → SendsNoYes (Send to m)) → AllByRecursion SendsNoYes es
-each_no_yes [] each = tt
-each_no_yes (Say b ∷ es) each = (tt, each_no_yes es (λ to m i. each to m (inr i)))
-each_no_yes (Do w ∷ es) each = (tt, each_no_yes es (λ to m i. each to m (inr i)))
-each_no_yes (Send to m ∷ es) each = (each to m (inl refl), each_no_yes es (λ j n i. each j n (inr i)))

@@ -36,7 +36,7 @@ use Rattle.arj_lock_law.proofs.ValueClaims.{Values}
 use Rattle.arj_lock_law.proofs.VoteLasts.{Votes}
 use Rattle.arj_lock_law.proofs.VoteRun.{run_all_votes, start_votes}
 use Rattle.arj_lock_law.proofs.ValueRun.{start_values}
-use Rattle.arj_lock_view_law.specs.Telling.{AreBrought, IsCommittedSo, IsOfFamily, Sees, ShowsEnd, View}
+use Rattle.arj_lock_view_law.specs.Telling.{AreBrought, IsCommittedSo, IsOfFamily, Sees, ShowsEnd}
 use Rattle.arj_lock_view_law.proofs.ToldSteps.{brought_go, family_told, turn_of}
 use Rattle.arj_lock_run_law.specs.Fixed.{Fixed, view_of}
 use Rattle.arj_part_law.specs.Actions.{Action}
@@ -139,9 +139,6 @@ over_in u os o is = let g = in_find (is_of u) o os is in (g.0, g.1)
 
 module _ (f : Fixed) (apart : AreApart f.code) (x k : ℕ) (begun : List Action) (S : State) (W : World) (core : Core W.disk) (writers : HasWriters W.disk) (reached : Run (start f.first) S) (ends : List (Uid × End)) (s : Server) (brought : AreBrought (view_of f x begun k) ends s S) (sees : Sees (view_of f x begun k) s S)
     (planned : (u : Uid) → (let a = S.action (f.act u) in a.stage) ≡ 3 → (c : Call) → In c S.calls → c.write ≡ true → top c.act ≡ f.act u → Alive S c.act → WasVotedOver f x u S W) where
-  abbrev v : View
-  v = view_of f x begun k
-
   abbrev B : Binding → Base → Type 0
   B b base = IsBasedAt S W (binding_number b) base.version base.writer
 

@@ -14,7 +14,7 @@ use Rattle.arj_disk_law.proofs.History.{in_decided}
 use Rattle.arj_disk_line_law.proofs.Owners.{decided_begun}
 use Rattle.arj_disk_view_law.specs.Pairs.{packed}
 use Rattle.arj_lock_view_law.specs.Copies.{state_code}
-use Rattle.arj_joint_law.specs.Given.{LastThereIsLast}
+use Rattle.arj_joint_law.proofs.Given.{LastThereIsLast}
 use Rattle.arj_joint_law.proofs.GivenFirst.{first_in_form}
 use Rattle.arj_joint_law.proofs.GivenSettled.{nobody_in_doubt}
 use Rattle.arj_joint_law.proofs.GivenTops.{tied}
@@ -27,7 +27,7 @@ last_there_is_last hd f x begun S M form line b st there = record {
       (λ (none : WroteNone (let A = b.office in A.world.disk.first) (let A = b.office in A.world.disk.tops)). first_is_last hd f x begun S M b (state_code f.act f.code st) none (is_first none))
       (λ (z : IsNewest M.lines (let A = b.office in A.world.disk.first) (let A = b.office in A.world.disk.tops)). newest_wrote hd f x begun S M b z st.writer (ap (λ (k : Packed). k.writer) (there.last_one ∙ z.last) ∙ its_writer z) form line st kind refl (there.last_one ∙ z.last))
       (newest_of M.lines (let A = b.office in A.world.disk.first) (let A = b.office in A.world.disk.tops) b.turns);
-  settled = (let l = there.loading in nobody_in_doubt hd f x begun S M b there.settled l.first l.there);
+  settled = nobody_in_doubt hd f x begun S M b there.settled there.first there.first_there;
 }
   where
     -- its class is the object's

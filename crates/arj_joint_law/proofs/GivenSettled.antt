@@ -2,7 +2,7 @@
 -- undecided.
 use Rattle.std.proofs.Common.{◌≡◌, ◌⊎◌, ◌≤◌, ◌||◌, ℕ, List, Bool, true, false, Option, Some, None, is_some, refl, sym, ◌∙◌, ap, subst, inl, inr, ⊎_elim, arith}
 use Rattle.arj_lock.proofs.Members as list
-use Rattle.arj_lock.proofs.Members.{in_from, in_to}
+use Rattle.arj_lock.proofs.Members.{in_to}
 use Rattle.arj_model.specs.Actions.{Act, acts}
 use Rattle.arj_model.specs.Last.{first_values}
 use Rattle.arj_protocol.specs.Words.{End, Header, Kind, ObjectState, Uid}
@@ -31,7 +31,7 @@ use Rattle.arj_disk_view_law.specs.Sees.{ClaimsAsked, Works, WorksBy}
 use Rattle.arj_view_law.specs.Seen.{Seen}
 use Rattle.arj_line_law.specs.Book.{is_top}
 use Rattle.arj_lock_law.specs.Actions as machine
-use Rattle.arj_lock_law.specs.Actions.{In, Root, is_action, root, top}
+use Rattle.arj_lock_law.specs.Actions.{In, is_action, top}
 use Rattle.arj_lock_law.specs.State.{Alive, Call, State}
 use Rattle.arj_lock_law.specs.Steps.{NobodyInDoubt}
 use Rattle.arj_lock_law.proofs.Paths.{top_action}
@@ -39,7 +39,7 @@ use Rattle.arj_lock_view_law.specs.Actions.{stage_of}
 use Rattle.arj_lock_view_law.specs.Acts.{AreOne}
 use Rattle.arj_lock_run_law.specs.Fixed.{Fixed, view_of}
 use Rattle.arj_lock_run_law.specs.Sees.{ArePast, IsOverIn, IsPast, SeesDown, SeesMemory, SeesUp, WasAnsweredYes, WasConfirmed}
-use Rattle.arj_joint_law.specs.Given.{AreBeside}
+use Rattle.arj_joint_law.proofs.Given.{AreBeside}
 use Rattle.arj_joint_law.proofs.GivenLight.{never_light}
 use Rattle.arj_joint_law.proofs.GivenTops.{begun_of, committed_there, core, disk_of, holds, node_of, places}
 use Rattle.arj_serial_law.proofs.Order.{top_plain}

@@ -2,7 +2,7 @@
 use Rattle.std.proofs.Common.{◌≡◌, ℕ, List, [], ◌∷◌, true, false, Some, Contains, refl, sym, ◌∙◌, ap, subst, inl, inr, ⊎_elim}
 use Rattle.std.specs.List.{AllByRecursion}
 use Rattle.arj_lock.proofs.Members as list
-use Rattle.arj_lock.proofs.Members.{in_from, in_to}
+use Rattle.arj_lock.proofs.Members.{in_to}
 use Rattle.arj_model.specs.Actions.{Act, acts, is_serial}
 use Rattle.arj_model.specs.Last.{first_values}
 use Rattle.arj_protocol.specs.Words.{Header, Uid}
@@ -30,7 +30,7 @@ use Rattle.arj_lock_run_law.specs.Fixed.{Fixed}
 use Rattle.arj_serial_law.specs.Tied.{HasPlaces}
 use Rattle.arj_serial_law.proofs.Begun.{begun_have_places}
 use Rattle.arj_serial_law.proofs.Ties.{IsAsSaid, as_said}
-use Rattle.arj_joint_law.specs.Given.{AreBeside}
+use Rattle.arj_joint_law.proofs.Given.{AreBeside}
 
 all_at : {A : Type 0} (P : A → Type 0) (xs : List A) → AllByRecursion P xs → (a : A) → list.In a xs → P a
 all_at P [] all a i = absurd i

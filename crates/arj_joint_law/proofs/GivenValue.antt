@@ -7,10 +7,10 @@ use Rattle.arj_class.specs.declared.value.Value.{Value}
 use Rattle.arj_journal.specs.ScriptForm.{HeaderInForm}
 use Rattle.arj_law.proofs.Last.{writes_conflict}
 use Rattle.arj_lock.proofs.Members as list
-use Rattle.arj_lock.proofs.Members.{in_from, in_to}
+use Rattle.arj_lock.proofs.Members.{in_to}
 use Rattle.arj_model.specs.Actions.{Act, acts}
 use Rattle.arj_model.specs.Calls as model
-use Rattle.arj_model.specs.Calls.{Top, committed_calls, tops}
+use Rattle.arj_model.specs.Calls.{committed_calls, tops}
 use Rattle.arj_model.specs.Last.{first_values, object_line}
 use Rattle.arj_model.specs.Serial.{top_place, writes_on}
 use Rattle.arj_protocol.proofs.Numbers.{number_tells}
@@ -46,7 +46,7 @@ use Rattle.arj_serial_law.specs.Decided.{Wrote}
 use Rattle.arj_serial_law.specs.Tied.{IsTied}
 use Rattle.arj_serial_law.proofs.Order.{IsShown, before_top, called_first, listed, off_one, place_of_top, same_number, shown, top_for, top_plain}
 use Rattle.arj_serial_law.proofs.Ties.{Tie, tie_of}
-use Rattle.arj_joint_law.specs.Given.{AreBeside}
+use Rattle.arj_joint_law.proofs.Given.{AreBeside}
 use Rattle.arj_joint_law.specs.Joined.{IsPlannedSo}
 use Rattle.arj_joint_law.specs.Ordered.{IsCalledFirst}
 use Rattle.arj_joint_law.proofs.Called.{writers_are_called_first, wrote_something}

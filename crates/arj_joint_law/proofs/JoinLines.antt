@@ -158,11 +158,6 @@ fits_turn B b right stands l m (a, named, called, its) = (
   record { rising = its.rising; same = λ x s. its.same x s ∙ sym (included_turn B stands a.uid called b right x s) },
 )
 
--- and behind lines
-pub fits_from : (B : Book) (ls : List Line) → AreRight B ls → Stands B → (l : List ℕ) (m : Machine) → FitsIncludes B l m → FitsIncludes (book_from B ls) l m
-fits_from B [] right stands l m fits = fits
-fits_from B (k ∷ ls) right stands l m fits = fits_from (turned B k.body) ls right.1 (stands_turn B k.body right.0 stands) l m (fits_turn B k.body right.0 stands l m fits)
-
 -- and behind effects
 pub fits_after : (k : ℕ) (B : Book) (es : List Effect) → AreLined k B es → Stands B → (l : List ℕ) (m : Machine) → FitsIncludes B l m → FitsIncludes (after B es) l m
 fits_after k B [] lined stands l m fits = fits

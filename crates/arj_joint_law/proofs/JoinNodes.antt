@@ -11,7 +11,7 @@ use Rattle.arj_protocol.specs.Effect.{Disk, Effect, Intent}
 use Rattle.arj_protocol.specs.Node.{Parts, Took, handle}
 use Rattle.arj_protocol.specs.Order.{uid_number}
 use Rattle.arj_protocol.specs.Step as input
-use Rattle.arj_protocol.specs.Step.{Input, Node, acts, branch_named, commit_reasons, first_disk, is_committing_now, parent_of, parts_in, refusal_up, refused_by, restart_outs, waits_above, waits_below}
+use Rattle.arj_protocol.specs.Step.{Input, acts, branch_named, commit_reasons, is_committing_now, parts_in, refusal_up, refused_by, waits_above, waits_below}
 use Rattle.arj_protocol.specs.Tree.{Branch, at_place, branch_of, is_own, root_of}
 use Rattle.arj_part_law.specs.Actions.{AreBegun, paths_of}
 use Rattle.arj_part_law.specs.Coords.{IsGoodCoord}
@@ -36,7 +36,7 @@ use Rattle.arj_names_view_law.specs.Both.{SeesBoth}
 use Rattle.arj_names_view_law.specs.Handlers.{Answering, Change, Changes, Deciding, Quietly}
 use Rattle.arj_names_view_law.proofs.Onward.{none_confirmed}
 use Rattle.arj_disk_run_law.specs.Part.{are_recorded}
-use Rattle.arj_disk_run_law.proofs.Grows.{called_there, effects_grow}
+use Rattle.arj_disk_run_law.proofs.Grows.{effects_grow}
 use Rattle.arj_run_law.specs.Worlds.{IsGood, IsMemory}
 use Rattle.arj_line_law.specs.Book.{book}
 use Rattle.arj_line_law.specs.Knows.{IsKept, KnowsUp}
@@ -145,9 +145,6 @@ module _ (x k : ℕ) (d : Disk) (t : Parts) (M : Seen) (tops : Kinds) (A : Offic
       where
         undone : decided S (uid_number w) ≡ false
         undone = falls_to (decided S (uid_number w)) (λ on. never (let k = core.coordinators in k.decided_closed (uid_number w) on) (ap is_gone sees.stage))
-
-  pub called_so : (w : Uid) → IsConfirming t.coord w → is_on (book M.lines).called w ≡ true
-  called_so w c = called_there tops k d t M knows kept (uid_number w) (record { top = w; doing = c.doing; machine = Confirming c.plan; does = c.works; now = c.now; number = refl }) w refl
 
 -- ---- how the machine has grown
 

@@ -32,7 +32,7 @@ use Rattle.arj_serial_law.proofs.Paths.{chain_on, top_on, well}
 use Rattle.arj_serial_law.proofs.Values.{to_filter}
 use Rattle.arj_view_law.specs.Seen.{Seen, up}
 use Rattle.arj_disk_view_law.specs.Plans.{plan_by, used_at}
-use Rattle.arj_line_law.specs.Book.{Access, Book, book, is_top, new_book}
+use Rattle.arj_line_law.specs.Book.{Access, book, is_top, new_book}
 use Rattle.arj_line_law.specs.Knows.{IsAccess, IsEnd, IsKept, KnowsUp, root_in}
 use Rattle.arj_line_law.specs.Plans.{path_of}
 use Rattle.arj_line_law.proofs.Books.{committed_decided, never, over_by_commit}
@@ -65,9 +65,6 @@ in_second x (z ∷ xs) ys i = inr (in_second x xs ys i)
 module _ (k : ℕ) (d : Disk) (t : Parts) (M : Seen) (kept : IsKept (up k d t M)) (u : Uid) (b : Branch) (found : branch_of u t.coord.tree ≡ Some b) (top : is_top b.kind ≡ true) (notes : IncludesAreNoted (book M.lines) t.coord) where
   abbrev c : Coord
   c = t.coord
-
-  abbrev B : Book
-  B = book M.lines
 
   abbrev r : Root
   r = root_at (root_of b.path) t.coord

@@ -52,7 +52,7 @@ use Rattle.arj_lock_run_law.specs.Beside.{world_at}
 use Rattle.arj_lock_whole_law.proofs.Of.{of_more}
 use Rattle.arj_lock_whole_law.proofs.Whole.{whole_of}
 use Rattle.arj_joint_law.specs.Forms.{AreSo, kind_of}
-use Rattle.arj_joint_law.specs.Given.{AreBeside}
+use Rattle.arj_joint_law.proofs.Given.{AreBeside}
 use Rattle.arj_joint_law.proofs.GivenLast.{last_there_is_last}
 use Rattle.arj_joint_law.proofs.Beginning.{WithFirst, first_begins, first_part}
 use Rattle.arj_joint_law.proofs.FormRuns.{kept_forms}
@@ -101,7 +101,6 @@ gives_last hd x form there L Past tops A s walk r both part j f agrees from m v 
         let b = e.0.0 in
         record {
           tops = tops;
-          unwalked = walk;
           office = A;
           both = both;
           carried = recorded_of hd x tops A (world_at s) part;
@@ -112,8 +111,6 @@ gives_last hd x form there L Past tops A s walk r both part j f agrees from m v 
           agrees = agrees;
           voted = g.3;
           planned = g.4;
-          loads = g.5;
-          named = j.4;
           whole = j.2.0;
           known = (b.0.0, e.1.0.0);
           forms = b.1;

@@ -61,12 +61,11 @@ use Rattle.arj_lock_run_law.specs.Tied.{AreTied}
 use Rattle.arj_lock_run_law.specs.Votes.{AreVotedAt}
 use Rattle.arj_lock_run_law.proofs.KeptSteps.{LocksFrom, LocksSo, as_older, first_kept, kept_act, kept_begin, kept_message, kept_restart, kept_tick, quiet_kept, stop_kept}
 use Rattle.arj_lock_view_law.specs.Calling.{IsReached}
-use Rattle.arj_lock_whole_law.specs.Stored.{AwaitsLoad}
 use Rattle.arj_lock_whole_law.specs.Whole.{KnowsWhole}
 use Rattle.arj_serial_law.specs.Tied.{AreApart}
 use Rattle.arj_joint_law.specs.Apt.{AgreesApart, IsApt}
 use Rattle.arj_joint_law.specs.BasedSteps.{AreBasedSo, StaysBased}
-use Rattle.arj_joint_law.specs.Loads.{AreLoadsLast}
+use Rattle.arj_joint_law.specs.Loads.{AreLoadsLast, AwaitsLoad}
 use Rattle.arj_joint_law.specs.Joined.{ArePlannedSo, ChangesCalled, IsPaired, IsPlannedSo, IsRecordedAt}
 use Rattle.arj_joint_law.proofs.BasedLater.{voted_on}
 use Rattle.arj_joint_law.proofs.BasedLaws.{stops_keep}

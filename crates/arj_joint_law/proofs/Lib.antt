@@ -100,6 +100,7 @@ pub mod NextVersions
 pub mod Owns
 pub mod NextGiven
 pub mod GivenMachine
+pub mod Given
 pub mod GivenTops
 pub mod GivenLight
 pub mod GivenSettled

@@ -58,10 +58,10 @@ use Rattle.arj_lock_run_law.specs.Kept.{HasCome, case_of}
 use Rattle.arj_lock_run_law.specs.Sees.{SeesDown, SeesLocks, SeesMemory}
 use Rattle.arj_lock_run_law.proofs.GoodSteps.{its}
 use Rattle.arj_lock_run_law.proofs.LeftSteps.{IsPlain, IsSentTo}
-use Rattle.arj_lock_whole_law.specs.Stored.{AwaitsLoad}
+use Rattle.arj_joint_law.specs.Loads.{AwaitsLoad}
 use Rattle.arj_lock_whole_law.proofs.CoordCases as cases
 use Rattle.arj_lock_whole_law.proofs.CoordCases.{CoordCase, coord_case}
-use Rattle.arj_joint_law.specs.Given.{AreBeside, IsLastThere}
+use Rattle.arj_joint_law.proofs.Given.{AreBeside, IsLastThere}
 use Rattle.arj_joint_law.proofs.LoadGuards.{as_it_is, maker_there}
 use Rattle.arj_joint_law.proofs.Mute.{AllSilent, silent_in, true_silent}
 
@@ -365,22 +365,14 @@ module _ (hd : Header) (f : Fixed) (x : ℕ) (begun : List Action) (S : State) (
       let q = stores_load x s.node (let d = s.disk in d.store) A.world.disk st (e.stores s.node (record { number = s.node; disk = s.disk; live = Some s.parts }) here) stored.0 stored.1 in
       loads_the_last A (let y = b.both in y.named) (uid_number its_top) s.node (packed st) listed.holds (listed.listed s.node first_asked) q.0 q.1
 
-  pub last_there : IsLastThere x S b.office (world_at s) st
+  pub last_there : IsLastThere x b.office (world_at s) st
   last_there = record {
-    asked = a;
-    to = to;
     store = s.node;
-    known = k;
-    awaits = w;
-    current = current;
-    loading = loading;
-    one = refl;
-    same = refl;
-    holds = listed.holds;
-    listed = listed.listed s.node first_asked;
     node = record { number = s.node; disk = s.disk; live = Some s.parts };
     there = here;
     held = stored.1;
     last_one = is_last.0;
     settled = is_last.1;
+    first = made.first;
+    first_there = made.there;
   }

@@ -27,7 +27,7 @@ use Rattle.arj_lock_run_law.specs.Beside.{Case, IsSeenIn, Spot, world_at}
 use Rattle.arj_lock_run_law.specs.Coordinating.{IsWorking, coord_at}
 use Rattle.arj_lock_run_law.specs.Fixed.{Fixed}
 use Rattle.arj_lock_run_law.proofs.WorkSteps.{here, placed, reached_S, waits_in, works_in}
-use Rattle.arj_lock_whole_law.specs.Stored.{AwaitsLoad}
+use Rattle.arj_joint_law.specs.Loads.{AwaitsLoad}
 
 -- ---- a node as it is
 

@@ -31,8 +31,7 @@ use Rattle.arj_lock_law.proofs.ValueRun.{run_values, start_values}
 use Rattle.arj_lock_view_law.specs.Calling.{IsReached}
 use Rattle.arj_lock_view_law.specs.Copies.{state_code}
 use Rattle.arj_lock_run_law.specs.Fixed.{Fixed}
-use Rattle.arj_lock_whole_law.specs.Stored.{AwaitsLoad}
-use Rattle.arj_joint_law.specs.Loads.{AreLoadsLast}
+use Rattle.arj_joint_law.specs.Loads.{AreLoadsLast, AwaitsLoad}
 use Rattle.arj_joint_law.proofs.Mute.{AllSilent, silent_in}
 
 -- ---- what is sent

@@ -31,8 +31,7 @@ use Rattle.arj_lock_run_law.proofs.GoodSteps.{its}
 use Rattle.arj_lock_run_law.proofs.OtherSteps.{node_there}
 use Rattle.arj_lock_run_law.proofs.StartSteps.{no_work}
 use Rattle.arj_lock_run_law.proofs.VoteSteps.{IsOldOrNew, nodes_walk}
-use Rattle.arj_lock_whole_law.specs.Stored.{AwaitsLoad}
-use Rattle.arj_joint_law.specs.Loads.{AreLoadsLast}
+use Rattle.arj_joint_law.specs.Loads.{AreLoadsLast, AwaitsLoad}
 use Rattle.arj_joint_law.proofs.LoadGuards.{as_it_is}
 use Rattle.arj_joint_law.proofs.LoadMoves.{IsOnward, IsSentBy, awaited, loads_next, sent_walk}
 use Rattle.arj_joint_law.proofs.Mute.{AllSilent, restart_silent, silent_in}

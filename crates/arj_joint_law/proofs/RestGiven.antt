@@ -18,9 +18,8 @@ use Rattle.arj_lock_run_law.specs.Kept.{case_of}
 use Rattle.arj_call_law.specs.Runs.{KnowsFew}
 use Rattle.arj_lock_whole_law.specs.Whole.{KnowsWhole}
 use Rattle.arj_lock_whole_law.specs.Rest.{GivesRest}
-use Rattle.arj_lock_whole_law.specs.Stored.{AwaitsLoad}
 use Rattle.arj_joint_law.specs.Joined.{IsPaired, SeesRecorded}
-use Rattle.arj_joint_law.specs.Loads.{AreLoadsLast}
+use Rattle.arj_joint_law.specs.Loads.{AreLoadsLast, AwaitsLoad}
 use Rattle.arj_joint_law.proofs.DecidedTops.{machine_decided}
 
 -- what a store gave to a call that waits for it is the last committed state

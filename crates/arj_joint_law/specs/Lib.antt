@@ -23,7 +23,6 @@ pub mod Includers
 pub mod Lights
 pub mod Based
 pub mod BasedSteps
-pub mod Given
 pub mod Nodes
 pub mod Fit
 pub mod FitRuns

@@ -52,9 +52,6 @@ use Rattle.arj_lock_whole_law.specs.Acks.{AcksAreKnown}
 use Rattle.arj_lock_whole_law.proofs.AbortRuns.{root_own}
 use Rattle.arj_lock_whole_law.proofs.AckSteps.{voter_part}
 
-some_is : {A : Type 0} {a b : A} → Some a ≡ Some b → a ≡ b
-some_is {A} {a} {b} is = let k : ◌≡◌ {A = Option A} (Some a) (Some b) = is in cc
-
 never : {P : Type 0} {b : Bool} → b ≡ true → b ≡ false → P
 never {P} {b} holds fails = let no_way : true ≡ false = sym holds ∙ fails in absurd (cc no_way)
 

@@ -17,7 +17,7 @@ use Rattle.arj_protocol.specs.Follow.{tick_outs}
 use Rattle.arj_protocol.specs.Node.{Parts, Took, handle, holders, query_about, with_coord}
 use Rattle.arj_protocol.specs.Order.{at_uid}
 use Rattle.arj_protocol.specs.Says.{AreAll}
-use Rattle.arj_protocol.specs.Step.{Input, Node, acts, first_disk, first_node, numbers_to, parent_of, parts_in, refusal_up, restart_outs, tolds_again}
+use Rattle.arj_protocol.specs.Step.{Input, Node, acts, parent_of, parts_in, refusal_up, restart_outs, tolds_again}
 use Rattle.arj_protocol.specs.Step as input
 use Rattle.arj_protocol.specs.Tree.{Tree, branch_of, is_own, root_of}
 use Rattle.arj_protocol.specs.World.{format, is_serial_kind}
@@ -60,12 +60,6 @@ use Rattle.arj_lock_whole_law.proofs.Aborting.{AllTell, IsFirm, Runs, acked_tell
 use Rattle.arj_lock_whole_law.proofs.AbortWalks.{Around, Before, Here, IsAsker, IsHome, around, decided_keeps, down_so, mute_queries, mute_records, mute_restart, mute_seeks, mute_tells, quietly, runs_walk, start_walk, walk}
 use Rattle.arj_lock_whole_law.proofs.CoordCases.{Acks, Asks, CoordCase, Heard, OfParts, coord_case}
 use Rattle.arj_lock_whole_law.proofs.Of.{walk_end}
-
-some_is : {A : Type 0} {a b : A} → Some a ≡ Some b → a ≡ b
-some_is {A} {a} {b} is = let k : ◌≡◌ {A = Option A} (Some a) (Some b) = is in cc
-
-none_at : {A P : Type 0} {o : Option A} {x : A} → o ≡ None → o ≡ Some x → P
-none_at {A} {P} {o} {x} none is = let no_way : ◌≡◌ {A = Option A} None (Some x) = sym none ∙ is in absurd (cc no_way)
 
 never : {P : Type 0} {b : Bool} → b ≡ true → b ≡ false → P
 never {P} {b} holds fails = let no_way : true ≡ false = sym holds ∙ fails in absurd (cc no_way)

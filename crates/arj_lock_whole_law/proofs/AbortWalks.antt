@@ -61,9 +61,6 @@ never {P} {b} holds fails = let no_way : true ≡ false = sym holds ∙ fails in
 later_said : (e : ℕ) (bs : List Body) (M : Seen) → Later (book M.lines) (book (let N = said e bs M in N.lines))
 later_said e bs M = subst (Later (book M.lines)) (sym (book_more new_book M.lines (numbered e bs))) (later_from (book M.lines) (numbered e bs))
 
-pub part_more : (r : Post) (sent : List Post) (u : Uid) (to : ℕ) → IsPartAsked sent u to → IsPartAsked (r ∷ sent) u to
-part_more r sent u to q = record { post = q.post; head = q.head; ask = q.ask; there = inr q.there; to_it = q.to_it; is = q.is; part = q.part; by = q.by }
-
 keeps_later : (begun : List Action) (sent : List Post) (B V : Book) (k : ℕ) (intents : List (Uid × Intent)) → Later B V → KeepsAborts begun sent B k intents → KeepsAborts begun sent V k intents
 keeps_later begun sent B V k intents l keeps w i at other open_still u to node told part a known of root = l.aborted u (keeps w i at other (λ on. open_still (decided_later B V l w on)) u to node told part a known of root)
 

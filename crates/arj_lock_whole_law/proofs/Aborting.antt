@@ -23,7 +23,7 @@ use Rattle.arj_protocol.specs.Effect.{Did, Do, Effect, Intent, PutIntent, Say, S
 use Rattle.arj_protocol.specs.Effect as effect
 use Rattle.arj_protocol.specs.Ending.{abort_action, aborts_with, acked, acked_by, acked_left, all_aborted, answer_decided, answer_query, answer_recorded, decide, decided_told, ended, ends_with, is_deferred, is_kept_commit, is_over, let_go, root_after, root_or_self, say_for, says, tell, tell_all, took_part, tolds_by, tolds_let_go, tolds_of, tolds_of_branch, up_to}
 use Rattle.arj_protocol.specs.Order.{at_uid, has, put_uid, unbound, without_number, without_uid}
-use Rattle.arj_protocol.specs.Step.{Input, acts, branch_named, commit_reasons, on_branch, parent_of, refusal_up, refused_by, tolds_again}
+use Rattle.arj_protocol.specs.Step.{Input, acts, branch_named, commit_reasons, on_branch, parent_of, refusal_up, refused_by}
 use Rattle.arj_protocol.specs.Step as input
 use Rattle.arj_protocol.specs.Tree.{Branch, branch_of, ended_at, ended_branch, ended_so, ends_of, has_end, has_open_child, is_constituent, is_open, is_open_branch, is_own, open_below, root_of, uses_object}
 use Rattle.arj_part_law.specs.Actions.{Action, AreBegun, Stands, action_of, act_of}
@@ -218,11 +218,6 @@ module _ (begun : List Action) where
     tell_step_call : (s : Steps) (t : CallStep) (d : Coord) → AllTell c (step_call s t d).outs
     tell_step_call s (On at) d = tell_goes (record s { req = s.req + 1; at = at }) d
     tell_step_call s (Ended e) d = tell_lines (says (actor s.path) _ d) (lines_say (actor s.path) _ d)
-
-    -- what is told again is committed
-    pub tell_records : (records : List (Uid × Intent)) → AllTell c (tolds_again records)
-    tell_records [] = tt
-    tell_records (e ∷ es) = tell_both (tell_all e.1.root true ((e.0, ending.Commit) ∷ []) e.1.nodes) (tolds_again es) (tell_tells e.1.root true ((e.0, ending.Commit) ∷ []) e.1.nodes (λ w n. tell_one e.0 ending.Commit n (λ same. absurd (cc same)) w)) (tell_records es)
 
     pub tell_again : (ds : List Doing) (d : Coord) → AllTell c (again_all ds d).outs
     tell_again [] d = tt

@@ -5,5 +5,4 @@ pub mod Aborts
 pub mod Acks
 pub mod Whole
 pub mod Rest
-pub mod Stored
 pub mod Runs

@@ -13,24 +13,20 @@ use Rattle.arj_line_law.specs.Book.{new_book}
 use Rattle.arj_line_law.specs.Paths.{AreAlike, IsAlikeOf}
 use Rattle.arj_line_law.specs.Right.{AreRight}
 use Rattle.arj_line_law.proofs.Models.{its_acts}
-use Rattle.arj_line_law.proofs.Runs.{kept_right}
 use Rattle.arj_lock_fact_law.specs.Given.{SentWants}
 use Rattle.arj_lock_fact_law.proofs.Wants.{requests_want}
 use Rattle.arj_lock_law.specs.State.{State}
 use Rattle.arj_lock_run_law.specs.Fixed.{AgreesAs, Fixed, view_of}
 use Rattle.arj_lock_run_law.specs.Sees.{SeesLocks}
 use Rattle.arj_lock_run_law.specs.Tied.{AreTied as AreTiedNow}
-use Rattle.arj_lock_run_law.proofs.KeptSteps.{locks_are_kept}
 use Rattle.arj_lock_view_law.specs.Families.{acts_of}
 use Rattle.arj_lock_view_law.specs.Servers.{Wants}
 use Rattle.arj_lock_view_law.specs.Telling.{AreOneTree}
 use Rattle.arj_lock_view_law.proofs.FamilySteps.{families_are_trees}
-use Rattle.arj_view_law.specs.Moves.{world_by}
 use Rattle.arj_view_law.specs.Seen.{Seen}
-use Rattle.arj_call_law.proofs.Reaching.{kept_holds, moves_keep}
 use Rattle.arj_lock_view_law.specs.Copies.{Codes}
 use Rattle.arj_serial_law.specs.Codes.{code_of}
-use Rattle.arj_serial_law.specs.Seen.{AreLocked, GivenRunsAreSerial, IsSerialBy, LockedRunsAreSerial, RequestsAreOne}
+use Rattle.arj_serial_law.specs.Seen.{AreLocked, IsSerialBy, RequestsAreOne}
 use Rattle.arj_serial_law.specs.Tied.{AreApart, IsTied}
 use Rattle.arj_serial_law.proofs.Begun.{begun_have_places}
 use Rattle.arj_serial_law.proofs.Codes.{codes_are_apart}
@@ -88,12 +84,3 @@ locked_serial hd w right locked = (
 
     serial : Serial values lines
     serial = order_law values lines (all_in_order values lines right tied) (are_answered values lines right tied)
-
-pub locked_runs_are_serial : LockedRunsAreSerial
-locked_runs_are_serial hd ms locked = locked_serial hd (world_by hd ms) (kept_right hd (world_by hd ms) (moves_keep hd ms)) locked
-
-pub given_runs_are_serial : GivenRunsAreSerial
-given_runs_are_serial hd ms before test everywhere requests gives = locked_runs_are_serial hd ms (λ x called.
-    let g = gives x called in
-    let h = kept_holds hd (world_by hd ms) (moves_keep hd ms) _ (locks_are_kept hd (first_values hd) x before (test x) g.0 g.1 everywhere) in
-    record { sent = h.sent; stands = h.stands; holds = (let z = h.holds in (z.1.0, z.1.1, (λ f apart a. z.1.3 f a), requests _ z.0)) })

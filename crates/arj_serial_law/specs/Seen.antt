@@ -1,5 +1,5 @@
 -- What the lock machines have to see of a run for its journal to be serial, and what gives that.
-use Rattle.std.specs.Prelude.{◌≡◌, ℕ, ◌==◌, Bool, true, List, Some}
+use Rattle.std.specs.Prelude.{◌≡◌, ℕ, ◌==◌, true, List, Some}
 use Rattle.std.specs.List.{list_any}
 use Rattle.arj_journal.specs.declared.body.Line.{Line}
 use Rattle.arj_journal.specs.declared.header.Header.{Header}
@@ -14,13 +14,10 @@ use Rattle.arj_lock_law.specs.State.{State}
 use Rattle.arj_part_law.specs.Actions.{Action}
 use Rattle.arj_call_law.specs.Servers.{AreOneCall}
 use Rattle.arj_line_law.specs.Paths.{IsAlikeOf}
-use Rattle.arj_view_law.specs.Keeps.{Holds, Keeps}
-use Rattle.arj_view_law.specs.Moves.{Move, journal_by, world_by}
+use Rattle.arj_view_law.specs.Keeps.{Holds}
 use Rattle.arj_view_law.specs.Seen.{In, Post, Seen}
-use Rattle.arj_lock_fact_law.specs.Acts.{KeepsOf}
 use Rattle.arj_lock_fact_law.specs.Worlds.{IsFromOne}
-use Rattle.arj_lock_run_law.specs.Fixed.{AgreesAs, BeginsAs, Fixed}
-use Rattle.arj_lock_run_law.specs.Kept.{GivesLocks}
+use Rattle.arj_lock_run_law.specs.Fixed.{AgreesAs, Fixed}
 use Rattle.arj_lock_run_law.specs.Sees.{SeesLocks}
 use Rattle.arj_lock_run_law.specs.Tied.{AreTied}
 use Rattle.arj_serial_law.specs.Tied.{AreApart}
@@ -34,12 +31,8 @@ pub record RequestsAreOne (M : Seen) : Type 0 where
   pub one : AreOneCall M.sent
   pub numbered : (p : Post) → In p M.sent → (h : Head) (a : Ask) → asks (let q = p in q.message) ≡ Some (h, a) → IsFromOne h a
 
--- The actions that were begun are those of the journal, and for all that may be fixed and agrees with them, and begins with this value, the
--- object is seen in a state of its lock machine, to which the journal is tied.
-abbrev pub IsLocked : Values → ℕ → Seen → Type 0
-IsLocked values x M = (begun : List Action) × IsAlikeOf begun M × ((f : Fixed) → AgreesAs values f x begun M.sent → (S : State) × SeesLocks f x begun S M × AreTied f x M.lines S) × RequestsAreOne M
-
--- so it is for all that tells values apart
+-- The actions that were begun are those of the journal, and for all that may be fixed, tells values apart, agrees with them, and begins with this value,
+-- the object is seen in a state of its lock machine, to which the journal is tied.
 abbrev pub IsLockedApart : Values → ℕ → Seen → Type 0
 IsLockedApart values x M = (begun : List Action) × IsAlikeOf begun M × ((f : Fixed) → AreApart f.code → AgreesAs values f x begun M.sent → (S : State) × SeesLocks f x begun S M × AreTied f x M.lines S) × RequestsAreOne M
 
@@ -50,16 +43,3 @@ AreLocked hd w = (x : ℕ) → IsCalled x (let v = w in v.lines) → Holds hd (I
 -- the journal is serial, and its calls give the same answers where each committed nested action runs whole at its commit
 abbrev pub IsSerialBy : Header → List Line → Type 0
 IsSerialBy hd lines = Serial (first_values hd) lines × Answers (first_values hd) (nested_calls lines)
-
--- a run of which the lock machines see so much is serial, whatever stops fall
-abbrev pub LockedRunsAreSerial : Type 0
-LockedRunsAreSerial = (hd : Header) (ms : List Move) → AreLocked hd (world_by hd ms) → IsSerialBy hd (journal_by hd ms)
-
--- a relation of the actions that were begun is kept, beside what holds everywhere, and gives what handlers count on
-abbrev pub IsGiven : Header → ℕ → (Seen → Bool) → (List Action → Seen → Bool) → Type 0
-IsGiven hd x before test = KeepsOf hd (λ begun M. before M ≡ true) (λ begun M. test begun M ≡ true) × ((f : Fixed) → BeginsAs (first_values hd) x f → GivesLocks hd f x (λ begun S M. (before M ≡ true) × (test begun M ≡ true)))
-
--- Where there is one for each object of which a call was answered, and what holds everywhere knows requests, the run is serial.
-abbrev pub GivenRunsAreSerial : Type 0
-GivenRunsAreSerial = (hd : Header) (ms : List Move) (before : Seen → Bool) (test : ℕ → List Action → Seen → Bool)
-    → Keeps hd (λ M. before M ≡ true) → ((M : Seen) → before M ≡ true → RequestsAreOne M) → ((x : ℕ) → IsCalled x (journal_by hd ms) → IsGiven hd x before (test x)) → IsSerialBy hd (journal_by hd ms)

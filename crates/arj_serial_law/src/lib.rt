@@ -6,8 +6,7 @@
 //! right (`arj_line_law`), and on the lock book (`arj_law`). What it gives upward: `tied_journals_are_serial`: a journal
 //! whose lines are right, as that of each run, and that is tied to a machine for each object, keeps the lock book and is
 //! serial, with nested actions each whole at its commit; and `tied_journals_hold_locks`, where each machine was seen after
-//! each line (`specs/Locked.antt`); and `locked_runs_are_serial`, of runs in which each object is seen by its lock machine
-//! (`specs/Seen.antt`). With the decided tops of an object's disk machine (`arj_disk_law`) tied to the journal
+//! each line (`specs/Locked.antt`). With the decided tops of an object's disk machine (`arj_disk_law`) tied to the journal
 //! (`specs/Decided.antt`) the machine's last state and entry are the journal's, and disks in which it is seen are clean
 //! (`specs/Cleaned.antt`).
 #![tactic(auto)]
@@ -27,7 +26,7 @@ pub use locked::{
     tied_calls_are_locked_for, tied_includes_are_locked_for, tied_journals_hold_locks,
 };
 pub use places::{begun_actions_have_their_paths, values_have_codes};
-pub use runs::{locked_runs_are_serial, seen_runs_are_clean, seen_runs_are_serial};
+pub use runs::{seen_runs_are_clean, seen_runs_are_serial};
 pub use serial::{tied_journals_are_serial, tied_journals_keep_the_lock_book};
 pub use turns::{
     changers_take_turns, decided_tops_take_turns, includes_take_turns, turns_give_the_order,

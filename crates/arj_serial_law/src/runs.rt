@@ -5,7 +5,6 @@ ghost use Rattle.arj_model.specs.Last.{first_values};
 ghost use Rattle.arj_model.specs.Serial.{Answers, Serial};
 ghost use Rattle.arj_protocol.specs.World.{World};
 ghost use Rattle.arj_serial_law.specs.Runs.{AreCleanIn, AreSeenDecided, AreSeenTied};
-ghost use Rattle.arj_serial_law.specs.Seen.{GivenRunsAreSerial, LockedRunsAreSerial};
 ghost use Rattle.arj_view_law.specs.Keeps.{Holds};
 
 /// A world in which each object's lock machine is seen tied to the journal is serial, and its calls give the same answers where
@@ -19,13 +18,4 @@ pub fn seen_runs_are_serial()
 /// of the header. It does nothing when it runs.
 pub fn seen_runs_are_clean()
     ensures { (hd : Header) (w : World) → Holds hd (AreSeenDecided hd) w → Holds hd (AreCleanIn hd) w }
-{}
-
-/// A run, wherever disks stop in it, is serial at whose end each object of which a call was answered is seen by its lock machine, for all
-/// that may be fixed, in a state to which the journal is tied: places, paths and codes are chosen here. So is each run where a relation of
-/// the actions that were begun is kept for each such object, and gives what handlers count on, with the calls that stand behind requests.
-/// It does nothing when it runs.
-pub fn locked_runs_are_serial()
-    ensures locked { LockedRunsAreSerial }
-    ensures given { GivenRunsAreSerial }
 {}

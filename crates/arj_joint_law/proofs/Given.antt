@@ -1,35 +1,27 @@
 -- What a store gives to a call that waits for it, where both machines of the object stand in one run: by the disk machine it is the last state, and
 -- so it is the last committed one by the lock machine.
-use Rattle.std.specs.Prelude.{◌≡◌, ℕ, true, List, None, Some, is_some}
+use Rattle.std.specs.Prelude.{◌≡◌, ℕ, true, List, Some, is_some}
 use Rattle.arj_journal.specs.ScriptForm.{HeaderInForm}
 use Rattle.arj_model.specs.Last.{first_values, object_line}
-use Rattle.arj_protocol.specs.Words.{Asked, Header, ObjectState, object}
-use Rattle.arj_protocol.specs.Ask.{top_of}
-use Rattle.arj_protocol.specs.Call.{Known}
+use Rattle.arj_protocol.specs.Words.{Header, ObjectState, object}
 use Rattle.arj_protocol.specs.Effect.{held_at}
-use Rattle.arj_protocol.specs.Order.{binding_number, uid_number}
 use Rattle.arj_protocol.specs.Step.{Node}
 use Rattle.arj_part_law.specs.Actions.{Action}
 use Rattle.arj_disk_law.specs.Names.{Office}
-use Rattle.arj_disk_law.specs.NamingLaws.{HoldsWrite}
 use Rattle.arj_disk_law.specs.State.{last, undecided}
-use Rattle.arj_disk_law.specs.Words as disk
 use Rattle.arj_disk_view_law.specs.Pairs.{packed}
 use Rattle.arj_disk_view_law.specs.Sees.{Kinds}
 use Rattle.arj_names_view_law.specs.Both.{SeesBoth}
 use Rattle.arj_disk_run_law.specs.Bindings.{AreGoodCounted, KnowsScript}
-use Rattle.arj_disk_run_law.specs.Listed.{IsLoading}
 use Rattle.arj_disk_line_law.specs.Said.{AreNotLate}
 use Rattle.arj_line_law.specs.Knows.{IsKept}
 use Rattle.arj_lock_law.specs.State as lock
-use Rattle.arj_lock_law.specs.Steps.{IsCurrent, LoadsTheLast}
+use Rattle.arj_lock_law.specs.Steps.{LoadsTheLast}
 use Rattle.arj_lock_view_law.specs.Copies.{state_code}
-use Rattle.arj_lock_view_law.specs.Named.{binding_at}
 use Rattle.arj_lock_run_law.specs.Beside.{IsSeenIn}
 use Rattle.arj_lock_run_law.specs.Fixed.{Fixed}
-use Rattle.arj_lock_run_law.specs.Kept.{AreCoordsNamed, case_of}
+use Rattle.arj_lock_run_law.specs.Kept.{case_of}
 use Rattle.arj_lock_run_law.specs.Votes.{AreVotedAt}
-use Rattle.arj_lock_whole_law.specs.Stored.{AwaitsLoad}
 use Rattle.arj_lock_whole_law.specs.Whole.{KnowsWhole}
 use Rattle.arj_serial_law.specs.Cleaned.{BeginsSo}
 use Rattle.arj_view_law.specs.Seen.{Seen}
@@ -39,7 +31,6 @@ use Rattle.arj_serial_law.specs.Tied.{AreApart}
 use Rattle.arj_joint_law.specs.Fit.{OpsFit}
 use Rattle.arj_joint_law.specs.Housed.{AreHoused}
 use Rattle.arj_joint_law.specs.Joined.{ArePlannedSo, SeesRecorded}
-use Rattle.arj_joint_law.specs.Loads.{AreLoadsLast}
 use Rattle.arj_joint_law.specs.Ordered.{AreTurnsOf}
 
 -- The object in one state of a run, by both machines: the disk machine, which began as the header says, whose decisions are said, none of them
@@ -47,7 +38,6 @@ use Rattle.arj_joint_law.specs.Ordered.{AreTurnsOf}
 -- alone, with the nodes of all labels there; and values are told apart, and operations in form.
 pub record AreBeside (hd : Header) (f : Fixed) (x : ℕ) (begun : List Action) (S : lock.State) (M : Seen) : Type 0 where
   pub tops : Kinds
-  pub unwalked : tops.walk ≡ None
   pub office : Office
   pub both : SeesBoth x tops office M
   pub carried : SeesRecorded x tops office M
@@ -58,8 +48,6 @@ pub record AreBeside (hd : Header) (f : Fixed) (x : ℕ) (begun : List Action) (
   pub agrees : AgreesApart (first_values hd) f x begun M.sent
   pub voted : AreVotedAt f x S M
   pub planned : ArePlannedSo f x S (let A = office in A.world) M
-  pub loads : AreLoadsLast f x S M
-  pub named : AreCoordsNamed M
   pub whole : KnowsWhole x begun M
   pub known : (AreGoodCounted M × IsKept M) × KnowsScript M
   pub forms : AreSo (kind_of hd x) M
@@ -67,27 +55,18 @@ pub record AreBeside (hd : Header) (f : Fixed) (x : ℕ) (begun : List Action) (
   pub fit : OpsFit x M.lines
   pub housed : AreHoused M
 
--- A store has this state for a call that waits for it under a binding that is current by both machines: its top has the write lock of the entry, which
--- lists the store, what the store has is the last state by the disk machine, and there nobody who is confirmed is undecided.
-pub record IsLastThere (x : ℕ) (S : lock.State) (A : Office) (M : Seen) (st : ObjectState) : Type 0 where
-  pub asked : Asked
-  pub to : ℕ
+-- What a store has is the last state by the disk machine, and there nobody who is confirmed is undecided; and a node is naming's.
+pub record IsLastThere (x : ℕ) (A : Office) (M : Seen) (st : ObjectState) : Type 0 where
   pub store : ℕ
-  pub known : Known
-  pub awaits : AwaitsLoad x M asked to store known
-  pub current : IsCurrent S.naming (let k = known in let b = binding_at S k.binding in b.maker) (let k = known in binding_number k.binding)
-  pub loading : IsLoading x M
-  pub one : (let l = loading in let q = l.steps in top_of q.path) ≡ (let w = awaits in let q = w.steps in top_of q.path)
-  pub same : (let l = loading in l.known) ≡ known
-  pub holds : HoldsWrite A (uid_number (let w = awaits in let q = w.steps in top_of q.path))
-  pub listed : disk.has store (let W = A.world in let D = W.disk in let e = D.entry in e.content) ≡ true
   pub node : Node
   pub there : M.nodes store ≡ Some node
   pub held : held_at (object x) (let n = node in let d = n.disk in d.store) ≡ Some st
   pub last_one : packed st ≡ last (let W = A.world in W.disk)
   pub settled : (z : ℕ) → (let W = A.world in let D = W.disk in D.conf z) ≡ true → undecided (let W = A.world in W.disk) z ≡ true → ⊥
+  pub first : Node
+  pub first_there : M.nodes 1 ≡ Some first
 
 -- So a state of an object of the header is the last committed one by the lock machine, and nothing is in doubt.
 abbrev pub LastThereIsLast : Type 0
-LastThereIsLast = (hd : Header) (f : Fixed) (x : ℕ) (begun : List Action) (S : lock.State) (M : Seen) → HeaderInForm hd → is_some (object_line hd x) ≡ true → (b : AreBeside hd f x begun S M) (st : ObjectState) → IsLastThere x S (let k = b in k.office) M st
+LastThereIsLast = (hd : Header) (f : Fixed) (x : ℕ) (begun : List Action) (S : lock.State) (M : Seen) → HeaderInForm hd → is_some (object_line hd x) ≡ true → (b : AreBeside hd f x begun S M) (st : ObjectState) → IsLastThere x (let k = b in k.office) M st
     → LoadsTheLast S (state_code f.act f.code st)
