@@ -6,8 +6,9 @@
 //! are those of their nodes, where cores say the pairs of their disks (`specs/Turns.antt`); and cores say what their parts say
 //! (`specs/Cores.antt`). A line outside of events, which a run's end may put behind its journal, takes nothing of what the journal shows
 //! (`specs/Last.antt`). So the journal that `nodes` leaves is serial, keeps the lock book, holds calls at each line by its tables and shows one
-//! outcome of each top; and its disks' files are clean and exclude stores in time, where cores say the pairs of their disks. It stands on `arj_nodes`, `arj_node` and `arj_promise_law`.
-//! What it gives upward: `nodes_run_moves`, `nodes_show_what_is_promised`, `last_lines_take_nothing`, `cores_say_what_their_parts_say`.
+//! outcome of each top; and its disks' files are clean and exclude stores in time, where cores say the pairs of their disks. It stands on
+//! `arj_nodes`, `arj_node` and `arj_promise_law`. What it gives upward: `nodes_run_moves`, `nodes_show_what_is_promised`,
+//! `last_lines_take_nothing`, `cores_say_what_their_parts_say`.
 #![tactic(auto)]
 
 mod cores;

@@ -96,18 +96,18 @@ module _ (hd : Header) (ms before : List Move) (q : EndsInQuiesce hd ms before) 
   up_at_end = subst AreUp end_is q.up
 
 pub overtaken : QuiescesLeaveOvertaken
-overtaken hd ms before f q = subst OnlyOvertakenWait (sym (end_is hd ms before q)) (runs_leave_overtaken hd f.header before q.last q.quiesces (open_before hd ms before q) (open_at_end hd ms before q) (up_at_end hd ms before q))
+overtaken hd ms before f q = subst OnlyOvertakenWait (sym (end_is hd ms before q)) (runs_leave_overtaken hd f.header before q.last q.quiesces (open_at_end hd ms before q) (up_at_end hd ms before q))
 
 pub who_waits_is_answered : QuiescesAnswerWhoWaits
 who_waits_is_answered hd ms before f q k c u d node coord does waits = subst (λ (v : World). WaitsOvertaken v k u d ⊎ HasAnswer d (journal_by hd before) v.lines) (sym (end_is hd ms before q))
-    (quiesces_answer_the_rest hd f.header before q.last k c u d q.quiesces (open_before hd ms before q) (open_at_end hd ms before q) (up_at_end hd ms before q) node coord does waits)
+    (quiesces_answer_the_rest hd f.header before q.last k c u d q.quiesces (open_at_end hd ms before q) (up_at_end hd ms before q) node coord does waits)
 
 pub nothing_given_up : QuiescesGiveUpNothing
 nothing_given_up hd ms before q = subst (λ (v : World). (more : List Line) × (v.lines ≡ journal_by hd before ++ more) × AllByRecursion (IsPlainIn v) more) (sym (end_is hd ms before q))
     (let m = q.last in quiesces_give_nothing_up m.asked (record (world_by hd before) { arms = m.falls }) q.quiesces (open_before hd ms before q))
 
 pub calm_end : CalmQuiescesEndAtRest
-calm_end hd ms before f q calm = at_rest hd ms f (subst EndsQuiet (sym (end_is hd ms before q)) (quiesces_idle hd f.header before q.last calm.1 calm.0 q.quiesces (open_before hd ms before q) (open_at_end hd ms before q) (up_at_end hd ms before q)))
+calm_end hd ms before f q calm = at_rest hd ms f (subst EndsQuiet (sym (end_is hd ms before q)) (quiesces_idle hd f.header before q.last calm.1 calm.0 q.quiesces (open_at_end hd ms before q) (up_at_end hd ms before q)))
 
 pub quiet_end : QuietLinesTell
 quiet_end hd ms before f q =
@@ -136,13 +136,10 @@ module _ (hd : Header) (ms : List Move) (f : IsInForm hd ms) (r : EndsInRound hd
 
   quiet_at_end : EndsQuiet (world_by hd ms)
   quiet_at_end = subst EndsQuiet (sym last_is) (rounds_idle hd f.header r.before r.giveups r.first.last r.second.last r.first.quiesces r.give_up r.second.quiesces
-      (open_before hd r.between r.before r.first) (open_at_end hd r.between r.before r.first) (up_at_end hd r.between r.before r.first) open_w who open_last (subst AreUp last_is r.second.up))
+      (up_at_end hd r.between r.before r.first) who open_last (subst AreUp last_is r.second.up))
     where
       open_last : (moved r.second.last w).over ≡ false
       open_last = ap (λ (x : World). x.over) (sym last_is) ∙ r.second.unlimited
-
-      open_w : w.over ≡ false
-      open_w = over_before r.second.last w open_last
 
       who : AreGivenUp r.giveups v ⊎ NobodyWaits w
       who = ⊎_elim (λ given. inl (subst (AreGivenUp r.giveups) v_is given)) (λ nobody. inr (subst NobodyWaits w_is nobody)) r.who_waits

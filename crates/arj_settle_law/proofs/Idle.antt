@@ -15,7 +15,7 @@ use Rattle.arj_address_law.specs.Addresses.{AreAddressed, IsNode}
 use Rattle.arj_address_law.proofs.Runs.{kept}
 use Rattle.arj_round_law.specs.Quiet.{AreQuiet, SettlesAll}
 use Rattle.arj_round_law.proofs.Fits.{runs_few}
-use Rattle.arj_round_law.proofs.GiveUps.{round_settles}
+use Rattle.arj_round_law.proofs.GiveUps.{over_before, over_front, round_settles}
 use Rattle.arj_round_law.proofs.Quiesces.{asked_both, keeps_good}
 use Rattle.arj_round_law.proofs.Quiets.{move_settles}
 use Rattle.arj_settle_law.specs.Settled.{EndsQuiet, KnowsPrepared, QuiescesIdle, RoundsIdle}
@@ -127,19 +127,31 @@ line_tells m w is over last front n line = record {
 -- ---- in every run
 
 pub quiesces_idle : QuiescesIdle
-quiesces_idle hd form ms m none nobody is over last ups = ends_quiet hd m (world_by hd ms) (move_asked hd (AreAddressed hd) (kept hd form) m (world_by hd ms) (moves_asked hd (AreAddressed hd) (kept hd form) ms)) is over last
+quiesces_idle hd form ms m none nobody is last ups = ends_quiet hd m (world_by hd ms) (move_asked hd (AreAddressed hd) (kept hd form) m (world_by hd ms) (moves_asked hd (AreAddressed hd) (kept hd form) ms)) is over last
     (move_settles hd (KnowsPrepared hd) s.0 (settles_less hd (KnowsPrepared hd) (λ M. KnowsPrepared hd M × IsGood M) (λ M q. q.0) s.1)
     m (world_by hd ms) (moves_asked hd (λ M. KnowsPrepared hd M × IsGood M) (keeps_good hd (KnowsPrepared hd) s.0) ms) (runs_few hd ms) none nobody is over last ups)
   where
+    over : (world_by hd ms).over ≡ false
+    over = over_before m (world_by hd ms) last
+
     s : KeepsAsked hd (KnowsPrepared hd) × SettlesAll hd (KnowsPrepared hd)
     s = handlers_settle hd form
 
 pub rounds_idle : RoundsIdle
-rounds_idle hd form ms gs m n is all last over went ups over_w nobody over_n ups_n = ends_quiet hd n (all_moved gs (moved m (world_by hd ms))) addressed last over_w over_n
+rounds_idle hd form ms gs m n is all last ups nobody over_n ups_n = ends_quiet hd n (all_moved gs (moved m (world_by hd ms))) addressed last over_w over_n
     (round_settles hd (λ M. KnowsPrepared hd M × AllKnown hd M) (asked_both hd (KnowsPrepared hd) (AllKnown hd) s.0 (all_kept hd form))
     (all_answer hd form (λ M. (KnowsPrepared hd M × AllKnown hd M) × IsGood M) (λ M q. q.0.1))
     (settles_less hd (KnowsPrepared hd) (λ M. (KnowsPrepared hd M × AllKnown hd M) × IsGood M) (λ M q. q.0.0) s.1) ms gs m n is all last over went ups over_w nobody over_n ups_n)
   where
+    over_w : (all_moved gs (moved m (world_by hd ms))).over ≡ false
+    over_w = over_before n (all_moved gs (moved m (world_by hd ms))) over_n
+
+    went : (moved m (world_by hd ms)).over ≡ false
+    went = over_front gs (moved m (world_by hd ms)) over_w
+
+    over : (world_by hd ms).over ≡ false
+    over = over_before m (world_by hd ms) went
+
     keeps : KeepsAsked hd (AreAddressed hd)
     keeps = kept hd form
 

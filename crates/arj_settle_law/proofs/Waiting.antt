@@ -18,6 +18,7 @@ use Rattle.arj_round_law.specs.Answered.{StillWaits}
 use Rattle.arj_round_law.specs.Rounds.{AnswersWaits, WaitOvertaken}
 use Rattle.arj_round_law.specs.Waits.{coord_in}
 use Rattle.arj_round_law.proofs.Ended.{same_waits}
+use Rattle.arj_round_law.proofs.GiveUps.{over_before}
 use Rattle.arj_round_law.proofs.PlainRuns.{quiesces_answer_or_leave}
 use Rattle.arj_round_law.proofs.Quiesces.{asked_both, keeps_good, run_answers}
 use Rattle.arj_wait_law.specs.Waits.{WaitsAreKnown}
@@ -48,7 +49,7 @@ pub all_answer : (hd : Header) → HeaderInForm hd → (P : Seen → Type 0) →
 all_answer hd form P to = known_give_by hd form P (λ M p. (to M p).0) (loads_given hd P (λ M p. (to M p).1))
 
 pub runs_leave_overtaken : RunsLeaveOvertaken
-runs_leave_overtaken hd form ms v is over last ups k c u q node found does waits =
+runs_leave_overtaken hd form ms v is last ups k c u q node found does waits =
     ⊎_elim (λ s. s) (λ m. absurd (none_left (see after.sent (moved v (world_by hd ms))) (let p = after.holds in p.1) k c u q m.0 found does m.1 m.2)) (answer k c u q node found does waits)
   where
     kept : KeepsAsked hd (AllKnown hd)
@@ -61,11 +62,11 @@ runs_leave_overtaken hd form ms v is over last ups k c u q node found does waits
     after = move_asked hd P (keeps_good hd (AllKnown hd) kept) v (world_by hd ms) (moves_asked hd P (keeps_good hd (AllKnown hd) kept) ms)
 
     answer : WaitOvertaken (moved v (world_by hd ms))
-    answer = run_answers hd (AllKnown hd) kept (all_answer hd form P (λ M p. p.0)) ms v is over last ups
+    answer = run_answers hd (AllKnown hd) kept (all_answer hd form P (λ M p. p.0)) ms v is (over_before v (world_by hd ms) last) last ups
 
 -- whoever waited as it began waits so, or was answered
 pub quiesces_answer_the_rest : QuiescesAnswerTheRest
-quiesces_answer_the_rest hd form ms v k c u q is over last ups node found does waits = ⊎_elim (λ still. inl (overtaken still)) (λ answer. inr answer) (quiesces_answer_or_leave hd ms v k c u q is over (ups k there) found does waits)
+quiesces_answer_the_rest hd form ms v k c u q is last ups node found does waits = ⊎_elim (λ still. inl (overtaken still)) (λ answer. inr answer) (quiesces_answer_or_leave hd ms v k c u q is (over_before v (world_by hd ms) last) (ups k there) found does waits)
   where
     w : World
     w = world_by hd ms
@@ -82,5 +83,5 @@ quiesces_answer_the_rest hd form ms v k c u q is over last ups node found does w
 
     overtaken : StillWaits (moved v w) k u q → WaitsOvertaken (moved v w) k u q
     overtaken still =
-        let o = runs_leave_overtaken hd form ms v is over last ups k still.coord u still.doing there still.found still.does (same_waits q.now still.doing.now still.same) in
+        let o = runs_leave_overtaken hd form ms v is last ups k still.coord u still.doing there still.found still.does (same_waits q.now still.doing.now still.same) in
         record { still = still; steps = o.0; now = o.1; overtaken = o.2 }

@@ -19,7 +19,7 @@ OnlyOvertakenWait w = (k : ℕ) (c : Coord) (u : Uid) (q : Doing) → is_node k 
 
 -- So it is after a quiesce of a run at whose end every node is up, whatever stops fall, and in which no limit is met.
 abbrev pub RunsLeaveOvertaken : Type 0
-RunsLeaveOvertaken = (hd : Header) → HeaderInForm hd → (ms : List Move) (m : Move) → let w = world_by hd ms in m.asked.event ≡ event.Quiesce → w.over ≡ false → (moved m w).over ≡ false → AreUp (moved m w) → OnlyOvertakenWait (moved m w)
+RunsLeaveOvertaken = (hd : Header) → HeaderInForm hd → (ms : List Move) (m : Move) → let w = world_by hd ms in m.asked.event ≡ event.Quiesce → (moved m w).over ≡ false → AreUp (moved m w) → OnlyOvertakenWait (moved m w)
 
 -- The action waits still at the node, in a call that is overtaken.
 pub record WaitsOvertaken (w : World) (k : ℕ) (u : Uid) (q : Doing) : Type 0 where
@@ -31,5 +31,5 @@ pub record WaitsOvertaken (w : World) (k : ℕ) (u : Uid) (q : Doing) : Type 0 w
 -- So does whoever waits as such a quiesce begins, or a line of it answers it: an `ok` or `includes`, `committed`, a refusal with its cause, or `lost` where
 -- naming has no store to ask.
 abbrev pub QuiescesAnswerTheRest : Type 0
-QuiescesAnswerTheRest = (hd : Header) → HeaderInForm hd → (ms : List Move) (m : Move) (k : ℕ) (c : Coord) (u : Uid) (q : Doing) → let w = world_by hd ms in m.asked.event ≡ event.Quiesce → w.over ≡ false → (moved m w).over ≡ false → AreUp (moved m w)
+QuiescesAnswerTheRest = (hd : Header) → HeaderInForm hd → (ms : List Move) (m : Move) (k : ℕ) (c : Coord) (u : Uid) (q : Doing) → let w = world_by hd ms in m.asked.event ≡ event.Quiesce → (moved m w).over ≡ false → AreUp (moved m w)
     → is_node k w ≡ true → coord_in (at_place k w.nodes) ≡ Some c → doing_of u c ≡ Some q → is_waiting_now q.now ≡ true → let v = moved m w in WaitsOvertaken v k u q ⊎ HasAnswer q w.lines v.lines
