@@ -11,4 +11,6 @@
 
 mod runs;
 
-pub use runs::{moves_keep_what_handlers_keep, runs_go_on_as_handlers_keep, runs_keep_what_handlers_keep};
+pub use runs::{
+    moves_keep_what_handlers_keep, runs_go_on_as_handlers_keep, runs_keep_what_handlers_keep,
+};
