@@ -1,5 +1,5 @@
 use Rattle.arj_binding_law.proofs.Events.{moves_reach, moves_vote}
-use Rattle.arj_binding_law.proofs.bindings.calls_are_known_in_scripts.Goals as goal
+use Rattle.arj_binding_law.proofs.bindings.calls_are_known_in_runs.Goals as goal
 
 pub returns-clause-votes : goal.returns-clause-votes
 returns-clause-votes c = moves_vote
