@@ -1,4 +1,3 @@
-pub mod BuiltForms
 pub mod Bytes
 pub mod Cuts
 pub mod Sessions

@@ -10,7 +10,7 @@ use Rattle.arj_io.specs.Told.{Takes as IsTaken}
 use Rattle.arj_journal.specs.declared.body.Line.{Line}
 use Rattle.arj_journal.specs.LineText.{text}
 use Rattle.arj_script.specs.Cutting.{Takes}
-use Rattle.arj_script.specs.Grammar.{Place, Start, Run}
+use Rattle.arj_script.specs.Grammar.{HasForm, IsBadLine, Place, Run, Start}
 use Rattle.arj_script.specs.Input.{AtEnd, AtFault, AtRunEnd, ended_from, ended_lines, rest_line, is_enough, last_line, lines_of}
 use Rattle.arj_script.proofs.Cutting.{ended_from-append}
 use Rattle.arj_script.specs.declared.cutter.Full.TheVariants as full
@@ -22,10 +22,10 @@ use Rattle.arj_loop.specs.declared.gather.Gather.{Gather}
 use Rattle.arj_loop.specs.declared.run.Runner.{Runner}
 use Rattle.arj_loop.specs.declared.session.Session.{Session}
 use Rattle.arj_loop.specs.declared.machine.Machine.{Ghosts}
-use Rattle.arj_loop.specs.Built.{HasFormOf, IsBadOf, IsBadWhy}
+use Rattle.arj_loop.specs.Forms.{IsBadBy}
 use Rattle.arj_loop.specs.Input.{Arrived, Came, SourceView, WentOn, ReadsFewPast, arrived, script, script_of, source_view}
 use Rattle.arj_loop.specs.Replayed.{Answer, Closes, EndsSo, Outside, StopsShort, answer, outside}
-use Rattle.arj_loop.specs.Running.{Stage, StageOf, Reached, Halfway, Hand, Gathers, Fronts, Work, IsGoing, IsAtLine, HasEnded, IsOverflown, Moved, built_by, end_of, hand, hand_of, lines_before, overflown, status_of, why_of, work}
+use Rattle.arj_loop.specs.Running.{Stage, StageOf, Reached, Halfway, Hand, Gathers, Fronts, Work, IsGoing, IsAtLine, HasEnded, IsOverflown, Moved, end_of, hand, hand_of, lines_before, overflown, status_of, why_of, work}
 use Rattle.arj_loop.specs.Written.{IsWritten}
 use Rattle.arj_loop.proofs.Bytes.{short_of}
 use Rattle.arj_loop.proofs.Cuts.{fed_none, fed_line, fed_long, lines_line, lines_long, lines_last, lines_none}
@@ -39,7 +39,7 @@ with_line session line = record { runner = session.runner; cutter = line; gather
 
 -- so many lines were run
 pub stage_count : {D M : Type 0} (view : Ghosts M D) (first rack : List D) (lines : List (List ℕ)) (runner : Runner M) (journal : List Line) → StageOf view first rack lines runner journal → runner.lines ≡ length lines
-stage_count view first rack lines runner journal s = s.counted ∙ forms_length (built_by view) Start lines s.forms runner.reader s.read
+stage_count view first rack lines runner journal s = s.counted ∙ forms_length Start lines s.forms runner.reader s.read
 
 pub went_more : (given : Arrived) (m n : ℕ) → m ≤ n → WentOn given m → WentOn given n
 went_more given m n more w = record { earlier = omega (arith, w.earlier, more); to_the_end = λ go. omega (arith, w.to_the_end go, more) }
@@ -57,6 +57,7 @@ pub ended_reached : {D M : Type 0} (view : Ghosts M D) (first : List D) (before 
     → Gathers now.journal now.session.gather.waiting.items before now.taken → HasEnded view first before given now end
 ended_reached view first before given now end w m f r went past g = record {
   reached = λ _ _ _. (r, went, past);
+  none = λ e. absurd (f e);
   format = λ e. absurd (f e);
   rose = λ e. absurd (f e);
   gathers = λ _ _. g;
@@ -73,6 +74,7 @@ ended_memory {D} {M} view first rack before given done rest runner journal now w
     let half : Halfway view first now.rack (script_of given) at = record { place = runner.reader; done = done; rest = rest; whole = whole; mid = rack; stage = s; since = touches } in
     record {
       reached = λ _ m. absurd (m refl);
+      none = λ e. absurd (let never : ending.Memory ≡ ending.Format = e in cc);
       format = λ e. absurd (let never : ending.Memory ≡ ending.Format = e in cc);
       rose = λ e. absurd (let never : ending.Memory ≡ ending.Format = e in cc);
       gathers = λ _ m. absurd (m refl);
@@ -88,6 +90,7 @@ ended_write {D} {M} view first before given done rest now whole s went front =
     let half : Halfway view first now.rack (script_of given) (hand_of now) = record { place = now.session.runner.reader; done = done; rest = rest; whole = whole; mid = now.rack; stage = s; since = moved_none view now.rack } in
     record {
       reached = λ w. absurd (w refl);
+      none = λ e. absurd (let never : ending.Write ≡ ending.Format = e in cc);
       format = λ e. absurd (let never : ending.Write ≡ ending.Format = e in cc);
       rose = λ e. absurd (let never : ending.Write ≡ ending.Format = e in cc);
       gathers = λ w. absurd (w refl);
@@ -112,9 +115,9 @@ bare_stage : {D M : Type 0} (view : Ghosts M D) (first rack : List D) (done : Li
 bare_stage {D} {M} view first rack done place count journal s = (s.machine_is.1, subst (λ r. Stage view first r done place (hand None count journal)) s.machine_is.1 s)
 
 pub ended_format : {D M : Type 0} (view : Ghosts M D) (first rack : List D) (before : Option (List ℕ)) (given : Arrived) (done : List (List ℕ)) (line : List ℕ) (tail : List (List ℕ)) (runner : Runner M) (journal : List Line) (now : Work D M)
-    → (let s = script_of given in s.lines) ≡ done ++ line ∷ tail → StageOf view first rack done runner journal → now.journal ≡ journal → runner.machine ≡ None → HasFormOf (built_by view) runner.reader line Run → runner.lines < 100000
+    → (let s = script_of given in s.lines) ≡ done ++ line ∷ tail → StageOf view first rack done runner journal → now.journal ≡ journal → runner.machine ≡ None → now.session.runner.machine ≡ None → HasForm runner.reader line Run → runner.lines < 100000
     → view.stopped rack now.rack → Moved view rack now.rack → WentOn given (length done) → ReadsFewPast given (length done) → Gathers journal now.session.gather.waiting.items before now.taken → HasEnded view first before given now ending.Format
-ended_format {D} {M} view first rack before given done line tail runner journal now whole s still none form room rose moved went past g =
+ended_format {D} {M} view first rack before given done line tail runner journal now whole s still none unmade form room rose moved went past g =
     let count = stage_count view first rack done runner journal s in
     let bare = bare_stage view first rack done runner.reader runner.lines journal (subst (λ en. Stage view first rack done runner.reader (hand en runner.lines journal)) none s) in
     let at : Reached view first first (script_of given) (hand None runner.lines now.journal) ending.Format = record {
@@ -128,6 +131,7 @@ ended_format {D} {M} view first rack before given done line tail runner journal 
     } in
     record {
       reached = λ _ _ f. absurd (f refl);
+      none = λ _. unmade;
       format = λ _. (runner.lines, at, went_as given (length done) runner.lines count went, past_as given (length done) runner.lines count past);
       rose = λ _. (subst (λ r. view.stopped r now.rack) bare.0 rose, subst (λ r. Moved view r now.rack) bare.0 moved);
       gathers = λ _ _. subst (λ js. Gathers js now.session.gather.waiting.items before now.taken) (sym still) g;
@@ -165,13 +169,13 @@ same_before ending.Frames count others = absurd (others refl)
 
 -- what the runner says of an end
 pub record RunnerEnds {D M : Type 0} (view : Ghosts M D) (was : Work D M) (now : Work D M) (end : End) : Type 0 where
-  pub bad : (w : BadLine) → IsEnd end (ending.Bad w) → (was.session.runner.lines < 100000 ⊎ (200 < length was.session.cutter)) × IsBadOf (built_by view) was.session.runner.reader was.session.cutter × IsBadWhy (built_by view) w was.session.runner.reader was.session.cutter
+  pub bad : (w : BadLine) → IsEnd end (ending.Bad w) → (was.session.runner.lines < 100000 ⊎ (200 < length was.session.cutter)) × IsBadLine was.session.runner.reader was.session.cutter × IsBadBy w was.session.runner.reader was.session.cutter
   pub many : IsEnd end ending.Lines → (100000 ≤ was.session.runner.lines) × (length was.session.cutter ≤ 200)
   pub kept : ((w : BadLine) × IsEnd end (ending.Bad w)) ⊎ IsEnd end ending.Lines → (now.session.runner.machine ≡ was.session.runner.machine) × (now.session.runner.lines ≡ was.session.runner.lines) × (now.rack ≡ was.rack)
   pub labels : IsEnd end ending.Labels → (first : List D) (lines : List (List ℕ)) → StageOf view first was.rack lines was.session.runner was.journal
       → Limited view first now.rack lines now.session.runner.reader now.session.runner.machine now.session.runner.lines now.journal was.session.cutter
   pub labels_going : IsEnd end ending.Labels → overflown view now.session.runner.machine ≡ false
-  pub format : IsEnd end ending.Format → HasFormOf (built_by view) was.session.runner.reader was.session.cutter Run × (was.session.runner.lines < 100000) × (was.session.runner.machine ≡ None) × view.stopped was.rack now.rack
+  pub format : IsEnd end ending.Format → HasForm was.session.runner.reader was.session.cutter Run × (was.session.runner.lines < 100000) × (was.session.runner.machine ≡ None) × (now.session.runner.machine ≡ None) × view.stopped was.rack now.rack
   pub still : (end ≡ ending.Memory → ⊥) → now.journal ≡ was.journal
   pub only : (end ≡ ending.Whole → ⊥) × (end ≡ ending.Fault → ⊥) × (end ≡ ending.Write → ⊥) × (end ≡ ending.Frames → ⊥)
   pub moved : Moved view was.rack now.rack
@@ -185,7 +189,7 @@ ended_line {D} view first before given done was now end r at =
     (λ stopped.
     let f = r.format (ap Err stopped) in
     subst (λ e. HasEnded view first before given now e) (sym stopped) (ended_format view first was.rack before given done was.session.cutter at.tail was.session.runner was.journal now at.cut at.stage
-    (r.still (λ m. (let never : ending.Format ≡ ending.Memory = sym stopped ∙ m in cc))) f.2 f.0 f.1 f.3 r.moved at.went_on at.past gathers))
+    (r.still (λ m. (let never : ending.Format ≡ ending.Memory = sym stopped ∙ m in cc))) f.2 f.3 f.0 f.1 f.4 r.moved at.went_on at.past gathers))
     (λ rest. ⊎_elim
     (λ wanting. subst (λ e. HasEnded view first before given now e) (sym wanting) (ended_memory view first was.rack before given done (was.session.cutter ∷ at.tail) was.session.runner was.journal now at.cut at.stage r.moved at.went_on gathers))
     (λ more. ⊎_elim
@@ -276,7 +280,7 @@ ended_long view first before used bytes earlier after count was takes g some wit
       rest = cut.0 ∷ cut.1;
       whole = ap (λ bs. lines_of AtRunEnd bs) (sym whole) ∙ cut.2;
       stage = g.stage;
-      why = inl (cut.0, cut.1, refl, inr cut.3, (λ form h. omega (arith, h.has.short, cut.3)), cut.3);
+      why = inl (cut.0, cut.1, refl, inr cut.3, (λ form h. omega (arith, h.short, cut.3)), cut.3);
       going = λ _. g.going;
     })
     (record { earlier = omega (arith, no_more, size); to_the_end = λ go. absurd (go refl) })
@@ -345,7 +349,7 @@ going_short view first before used now g =
     let s = g.stage in
     short_of used (record {
       few = omega (arith, s.within, stage_count view first now.rack (ended_lines used) now.session.runner now.journal s);
-      short = all_short (built_by view) Start (ended_lines used) s.forms now.session.runner.reader s.read;
+      short = all_short Start (ended_lines used) s.forms now.session.runner.reader s.read;
       rest = omega (arith, ap length g.in_hand, g.short);
     })
 
@@ -455,9 +459,10 @@ few_lines view first before given now end w h is =
     reached.stage.within
 
 -- what the answer of a run shows
-pub closes_of : {D M : Type 0} (view : Ghosts M D) (before after : Outside D) (given : Arrived) (end : End) (answer : Answer) → Came (source_view before.left before.faults) (source_view after.left after.faults) given
-    → answer.status ≡ status_of end → answer.why ≡ why_of end → EndsSo view given before.rack after.rack end answer.journal → IsTaken before.taken (text answer.journal) after.taken → Closes view before after answer
-closes_of view before after given end answer came status w ends wrote = record { given = given; reads = came; end = end; status_is = status; why_is = w; ends = ends; wrote = wrote }
+pub closes_of : {D M : Type 0} (view : Ghosts M D) (before after : Outside D) (given : Arrived) (end : End) (answer : Answer M) → Came (source_view before.left before.faults) (source_view after.left after.faults) given
+    → answer.status ≡ status_of end → answer.why ≡ why_of end → (ends : EndsSo view given before.rack after.rack end answer.journal) → answer.machine ≡ (let at = ends.at in at.machine) → IsTaken before.taken (text answer.journal) after.taken
+    → Closes view before after answer
+closes_of view before after given end answer came status w ends machine wrote = record { given = given; reads = came; end = end; status_is = status; why_is = w; ends = ends; machine_is = machine; wrote = wrote }
 
 pub short_5 : {D M : Type 0} (view : Ghosts M D) (before after : Outside D) (given : Arrived) (waiting : List ℕ) (u : Option (List ℕ)) → Came (source_view before.left before.faults) (source_view after.left after.faults) given → Wanted view given before.rack after.rack waiting before.taken u
     → IsTaken u waiting after.taken → StopsShort view before after 5

@@ -9,19 +9,18 @@ use Rattle.arj_journal.specs.declared.event.Event.{Event}
 use Rattle.arj_journal.specs.declared.header.Header.{Header}
 use Rattle.arj_script.specs.declared.reader.Item.{Item}
 use Rattle.arj_script.specs.declared.reader.Item.TheVariants as item
-use Rattle.arj_script.specs.Grammar.{Form, Blank, Nodes, Object, Run, Asks, Place, Start, Objects, Running, next_place}
+use Rattle.arj_script.specs.Grammar.{Asks, Blank, Form, HasForm, Nodes, Object, Objects, Place, Run, Running, Start, next_place}
 use Rattle.arj_script.specs.Input.{events_of, Tells}
 use Rattle.arj_script.proofs.Lines.{events_of-append}
 use Rattle.arj_loop.specs.declared.machine.Machine.{Ghosts}
-use Rattle.arj_loop.specs.Built.{HasFormOf, HaveFormsOf, HasTakenNodes, takes}
-use Rattle.arj_loop.proofs.BuiltForms.{have_forms_more}
+use Rattle.arj_loop.specs.Forms.{HaveForms}
 use Rattle.arj_loop.specs.Input.{header_from}
-use Rattle.arj_loop.specs.Running.{MachineRuns, Stage, Started, Stepped, Refused, IsStanding, AsksTooMany, Moved, Chain, built_by, hand, held_by, overflown}
-use Rattle.arj_loop.proofs.Steps.{header_then, header_stays, events_within}
+use Rattle.arj_loop.specs.Running.{MachineRuns, Stage, Started, Stepped, Refused, IsStanding, AsksTooMany, Moved, Chain, hand, held_by, overflown}
+use Rattle.arj_loop.proofs.Steps.{events_within, have_forms_more, header_stays, header_then}
 
 -- the reader's answer
-abbrev pub Taken : (Form → Bool) → Place → List ℕ → Item → Place → Type 0
-Taken built place line i after = (form : Form) × HasFormOf built place line form × Tells place form i × (after ≡ next_place place form)
+abbrev pub Taken : Place → List ℕ → Item → Place → Type 0
+Taken place line i after = (form : Form) × HasForm place line form × Tells place form i × (after ≡ next_place place form)
 
 -- A form that is no event and no end of the header.
 record IsQuiet (place : Place) (form : Form) : Type 0 where
@@ -38,26 +37,26 @@ quiet_blank Running = record { events = refl; header = refl; running = λ e. e; 
 not_objects : (n : ℕ) (os : List ObjectLine) → Objects n os ≡ Running → ⊥
 not_objects n os e = cc
 
-quiet_of : (built : Form → Bool) (place : Place) (line : List ℕ) (form : Form) → HasFormOf built place line form → Tells place form item.Blank ⊎ Tells place form item.Part → IsQuiet place form
-quiet_of built place line Blank h told = quiet_blank place
-quiet_of built Start line (Nodes n) h told = record { events = refl; header = refl; running = λ e. absurd (let never : Start ≡ Running = e in cc); waiting = λ no e. not_objects n [] e }
-quiet_of built (Objects n os) line (Nodes m) h told = absurd h.has.fits
-quiet_of built Running line (Nodes m) h told = absurd h.has.fits
-quiet_of built Start line (Object o) h told = absurd h.has.fits
-quiet_of built (Objects n os) line (Object o) h told = record { events = refl; header = refl; running = λ e. absurd (not_objects n os e); waiting = λ no e. not_objects n _ e }
-quiet_of built Running line (Object o) h told = absurd h.has.fits
-quiet_of built Start line Run h told = absurd h.has.fits
-quiet_of built (Objects n os) line Run h told = absurd (⊎_elim (λ t. t) (λ t. t) told)
-quiet_of built Running line Run h told = absurd h.has.fits
-quiet_of built Start line (Asks e) h told = absurd h.has.fits
-quiet_of built (Objects n os) line (Asks e) h told = absurd h.has.fits
-quiet_of built Running line (Asks e) h told = absurd (⊎_elim (λ t. t) (λ t. t) told)
+quiet_of : (place : Place) (line : List ℕ) (form : Form) → HasForm place line form → Tells place form item.Blank ⊎ Tells place form item.Part → IsQuiet place form
+quiet_of place line Blank h told = quiet_blank place
+quiet_of Start line (Nodes n) h told = record { events = refl; header = refl; running = λ e. absurd (let never : Start ≡ Running = e in cc); waiting = λ no e. not_objects n [] e }
+quiet_of (Objects n os) line (Nodes m) h told = absurd h.fits
+quiet_of Running line (Nodes m) h told = absurd h.fits
+quiet_of Start line (Object o) h told = absurd h.fits
+quiet_of (Objects n os) line (Object o) h told = record { events = refl; header = refl; running = λ e. absurd (not_objects n os e); waiting = λ no e. not_objects n _ e }
+quiet_of Running line (Object o) h told = absurd h.fits
+quiet_of Start line Run h told = absurd h.fits
+quiet_of (Objects n os) line Run h told = absurd (⊎_elim (λ t. t) (λ t. t) told)
+quiet_of Running line Run h told = absurd h.fits
+quiet_of Start line (Asks e) h told = absurd h.fits
+quiet_of (Objects n os) line (Asks e) h told = absurd h.fits
+quiet_of Running line (Asks e) h told = absurd (⊎_elim (λ t. t) (λ t. t) told)
 
 machine_quiet : {D M : Type 0} (view : Ghosts M D) (first rack : List D) (lines : List (List ℕ)) (forms : List Form) (place : Place) (form : Form) (header : Header) (journal : List Line) (machine : Option M)
-    → HaveFormsOf (built_by view) Start lines forms place → IsQuiet place form → MachineRuns view first rack forms place header journal machine → MachineRuns view first rack (forms ++ form ∷ []) (next_place place form) header journal machine
+    → HaveForms Start lines forms place → IsQuiet place form → MachineRuns view first rack forms place header journal machine → MachineRuns view first rack (forms ++ form ∷ []) (next_place place form) header journal machine
 machine_quiet view first rack lines forms place form header journal None read q h =
     let events : events_of (forms ++ form ∷ []) ≡ [] = events_of-append forms (form ∷ []) ∙ (λ i. h.3 i ++ q.events i) in
-    (q.waiting h.0, h.1, header_then (built_by view) Start forms (form ∷ []) lines place read h.2 ∙ q.header, events, h.4, h.5)
+    (q.waiting h.0, h.1, header_then Start forms (form ∷ []) lines place read h.2 ∙ q.header, events, h.4, h.5)
 machine_quiet view first rack lines forms place form header journal (Some machine) read q h =
     let events : events_of (forms ++ form ∷ []) ≡ events_of forms = events_of-append forms (form ∷ []) ∙ ((λ j. events_of forms ++ q.events j) ∙ append-nil (events_of forms)) in
     (q.running h.0, header_stays Start forms (form ∷ []) (header.nodes, header.objects) h.1, subst (λ es. view.ran first header es rack journal machine) (sym events) h.2, h.3 ∙ ap length (sym events))
@@ -67,15 +66,15 @@ count_more forms form count is = omega (arith, is, length-append forms (form ∷
 
 -- a line that is no event and no end of the header
 pub stage_quiet : {D M : Type 0} (view : Ghosts M D) (first rack : List D) (lines : List (List ℕ)) (line : List ℕ) (place after : Place) (machine : Option M) (count : ℕ) (journal : List Line)
-    → (form : Form) × HasFormOf (built_by view) place line form × (Tells place form item.Blank ⊎ Tells place form item.Part) × (after ≡ next_place place form) → count < 100000
+    → (form : Form) × HasForm place line form × (Tells place form item.Blank ⊎ Tells place form item.Part) × (after ≡ next_place place form) → count < 100000
     → Stage view first rack lines place (hand machine count journal) → Stage view first rack (lines ++ line ∷ []) after (hand machine (count + 1) journal)
 stage_quiet view first rack lines line place after machine count journal taken room s =
     let form = taken.0 in
-    let q = quiet_of (built_by view) place line form taken.1 taken.2 in
+    let q = quiet_of place line form taken.1 taken.2 in
     let made : Stage view first rack (lines ++ line ∷ []) (next_place place form) (hand machine (count + 1) journal) = record {
       forms = s.forms ++ form ∷ [];
       header = s.header;
-      read = have_forms_more (built_by view) Start place lines s.forms line form s.read taken.1;
+      read = have_forms_more Start place lines s.forms line form s.read taken.1;
       counted = count_more s.forms form count s.counted;
       within = omega (arith, room);
       machine_is = machine_quiet view first rack lines s.forms place form s.header journal machine s.read q s.machine_is;
@@ -91,64 +90,33 @@ record IsRun (place : Place) (form : Form) (header : Header) : Type 0 where
   nodes_are : header.nodes ≡ nodes
   objects_are : header.objects ≡ objects
 
-run_of : (built : Form → Bool) (place : Place) (line : List ℕ) (form : Form) (header : Header) → HasFormOf built place line form → Tells place form (item.Run header) → IsRun place form header
-run_of built Start line Blank header h told = absurd told
-run_of built (Objects n os) line Blank header h told = absurd told
-run_of built Running line Blank header h told = absurd told
-run_of built Start line (Nodes n) header h told = absurd told
-run_of built (Objects n os) line (Nodes m) header h told = absurd told
-run_of built Running line (Nodes m) header h told = absurd told
-run_of built Start line (Object o) header h told = absurd told
-run_of built (Objects n os) line (Object o) header h told = absurd told
-run_of built Running line (Object o) header h told = absurd told
-run_of built Start line Run header h told = absurd h.has.fits
-run_of built (Objects n os) line Run header h told = record { nodes = n; objects = os; place_is = refl; form_is = refl; nodes_are = told.0; objects_are = told.1 }
-run_of built Running line Run header h told = absurd h.has.fits
-run_of built Start line (Asks e) header h told = absurd h.has.fits
-run_of built (Objects n os) line (Asks e) header h told = absurd h.has.fits
-run_of built Running line (Asks e) header h told = absurd told
-
--- a place in a header has a count of nodes that is taken
-next_taken : (nodes : ℕ → Bool) (events : Event → Bool) (p : Place) (line : List ℕ) (form : Form) → HasTakenNodes nodes p → HasFormOf (takes nodes events) p line form → HasTakenNodes nodes (next_place p form)
-next_taken nodes events Start line Blank g h = tt
-next_taken nodes events Start line (Nodes n) g h = h.built
-next_taken nodes events Start line (Object o) g h = tt
-next_taken nodes events Start line Run g h = tt
-next_taken nodes events Start line (Asks e) g h = tt
-next_taken nodes events (Objects n os) line Blank g h = g
-next_taken nodes events (Objects n os) line (Nodes m) g h = g
-next_taken nodes events (Objects n os) line (Object o) g h = g
-next_taken nodes events (Objects n os) line Run g h = tt
-next_taken nodes events (Objects n os) line (Asks e) g h = g
-next_taken nodes events Running line Blank g h = tt
-next_taken nodes events Running line (Nodes n) g h = tt
-next_taken nodes events Running line (Object o) g h = tt
-next_taken nodes events Running line Run g h = tt
-next_taken nodes events Running line (Asks e) g h = tt
-
-pub place_taken : (nodes : ℕ → Bool) (events : Event → Bool) (p : Place) (lines : List (List ℕ)) (forms : List Form) (q : Place) → HasTakenNodes nodes p → HaveFormsOf (takes nodes events) p lines forms q → HasTakenNodes nodes q
-place_taken nodes events p [] [] q g h = subst (HasTakenNodes nodes) h g
-place_taken nodes events p [] (f ∷ forms) q g h = absurd h
-place_taken nodes events p (l ∷ lines) [] q g h = absurd h
-place_taken nodes events p (l ∷ lines) (f ∷ forms) q g h = place_taken nodes events (next_place p f) lines forms q (next_taken nodes events p l f g h.0) h.1
-
--- the header that the reader hands out has a count of nodes that is taken
-pub header_taken : (nodes : ℕ → Bool) (events : Event → Bool) (lines : List (List ℕ)) (line : List ℕ) (forms : List Form) (place after : Place) (header : Header) → HaveFormsOf (takes nodes events) Start lines forms place
-    → Taken (takes nodes events) place line (item.Run header) after → nodes header.nodes ≡ true
-header_taken nodes events lines line forms place after header read taken =
-    let run = run_of (takes nodes events) place line taken.0 header taken.1 taken.2 in
-    ap nodes run.nodes_are ∙ subst (HasTakenNodes nodes) run.place_is (place_taken nodes events Start lines forms place tt read)
+run_of : (place : Place) (line : List ℕ) (form : Form) (header : Header) → HasForm place line form → Tells place form (item.Run header) → IsRun place form header
+run_of Start line Blank header h told = absurd told
+run_of (Objects n os) line Blank header h told = absurd told
+run_of Running line Blank header h told = absurd told
+run_of Start line (Nodes n) header h told = absurd told
+run_of (Objects n os) line (Nodes m) header h told = absurd told
+run_of Running line (Nodes m) header h told = absurd told
+run_of Start line (Object o) header h told = absurd told
+run_of (Objects n os) line (Object o) header h told = absurd told
+run_of Running line (Object o) header h told = absurd told
+run_of Start line Run header h told = absurd h.fits
+run_of (Objects n os) line Run header h told = record { nodes = n; objects = os; place_is = refl; form_is = refl; nodes_are = told.0; objects_are = told.1 }
+run_of Running line Run header h told = absurd h.fits
+run_of Start line (Asks e) header h told = absurd h.fits
+run_of (Objects n os) line (Asks e) header h told = absurd h.fits
+run_of Running line (Asks e) header h told = absurd told
 
 -- before `run` the disks are as they were
 pub ready_at : {D M : Type 0} (view : Ghosts M D) (first rack : List D) (lines : List (List ℕ)) (line : List ℕ) (place after : Place) (header : Header) (machine : Option M) (count : ℕ) (journal : List Line)
-    → Taken (built_by view) place line (item.Run header) after → Stage view first rack lines place (hand machine count journal) → view.ready rack
+    → Taken place line (item.Run header) after → Stage view first rack lines place (hand machine count journal) → view.ready rack
 ready_at view first rack lines line place after header None count journal taken s = subst view.ready (sym s.machine_is.1) s.machine_is.5
 ready_at view first rack lines line place after header (Some machine) count journal taken s =
-    let run = run_of (built_by view) place line taken.0 header taken.1 taken.2 in
+    let run = run_of place line taken.0 header taken.1 taken.2 in
     absurd (not_objects run.nodes run.objects (sym run.place_is ∙ s.machine_is.0))
 
 stage_run_at : {D M : Type 0} (view : Ghosts M D) (first rack after_rack : List D) (lines : List (List ℕ)) (line : List ℕ) (n : ℕ) (os : List ObjectLine) (header : Header) (machine after_machine : Option M) (count : ℕ) (journal : List Line)
-    → header.nodes ≡ n → header.objects ≡ os → HasFormOf (built_by view) (Objects n os) line Run → count < 100000 → Started view rack after_rack header after_machine
+    → header.nodes ≡ n → header.objects ≡ os → HasForm (Objects n os) line Run → count < 100000 → Started view rack after_rack header after_machine
     → Stage view first rack lines (Objects n os) (hand machine count journal) → Stage view first after_rack (lines ++ line ∷ []) Running (hand after_machine (count + 1) journal)
 stage_run_at view first rack after_rack lines line n os header (Some machine) after_machine count journal nodes objects has room st s = absurd (not_objects n os s.machine_is.0)
 stage_run_at {D} {M} view first rack after_rack lines line n os header None after_machine count journal nodes objects has room st s =
@@ -160,7 +128,7 @@ stage_run_at {D} {M} view first rack after_rack lines line n os header None afte
     in
     let stands : MachineRuns view first after_rack (s.forms ++ Run ∷ []) Running header journal (Some st.made) = (
       refl,
-      header_then (built_by view) Start s.forms (Run ∷ []) lines (Objects n os) s.read h.2 ∙ (λ i. Some (sym nodes i, sym objects i)),
+      header_then Start s.forms (Run ∷ []) lines (Objects n os) s.read h.2 ∙ (λ i. Some (sym nodes i, sym objects i)),
       ran,
       st.steps ∙ ap length (sym events),
     )
@@ -168,7 +136,7 @@ stage_run_at {D} {M} view first rack after_rack lines line n os header None afte
     record {
       forms = s.forms ++ Run ∷ [];
       header = header;
-      read = have_forms_more (built_by view) Start (Objects n os) lines s.forms line Run s.read has;
+      read = have_forms_more Start (Objects n os) lines s.forms line Run s.read has;
       counted = count_more s.forms Run count s.counted;
       within = omega (arith, room);
       machine_is = subst (λ en. MachineRuns view first after_rack (s.forms ++ Run ∷ []) Running header journal en) (sym st.machine_is) stands;
@@ -176,11 +144,11 @@ stage_run_at {D} {M} view first rack after_rack lines line n os header None afte
 
 -- the line `run`, with which the machine starts
 pub stage_run : {D M : Type 0} (view : Ghosts M D) (first rack after_rack : List D) (lines : List (List ℕ)) (line : List ℕ) (place after : Place) (header : Header) (machine after_machine : Option M) (count : ℕ) (journal : List Line)
-    → Taken (built_by view) place line (item.Run header) after → count < 100000 → Started view rack after_rack header after_machine
+    → Taken place line (item.Run header) after → count < 100000 → Started view rack after_rack header after_machine
     → Stage view first rack lines place (hand machine count journal) → Stage view first after_rack (lines ++ line ∷ []) after (hand after_machine (count + 1) journal)
 stage_run view first rack after_rack lines line place after header machine after_machine count journal taken room st s =
-    let run = run_of (built_by view) place line taken.0 header taken.1 taken.2 in
-    let has : HasFormOf (built_by view) (Objects run.nodes run.objects) line Run = subst (λ p. HasFormOf (built_by view) p line Run) run.place_is (subst (λ f. HasFormOf (built_by view) place line f) run.form_is taken.1) in
+    let run = run_of place line taken.0 header taken.1 taken.2 in
+    let has : HasForm (Objects run.nodes run.objects) line Run = subst (λ p. HasForm p line Run) run.place_is (subst (λ f. HasForm place line f) run.form_is taken.1) in
     let ends : Running ≡ after = sym (taken.3 ∙ (λ i. next_place (run.place_is i) (run.form_is i))) in
     subst (λ p. Stage view first after_rack (lines ++ line ∷ []) p (hand after_machine (count + 1) journal)) ends
     (stage_run_at view first rack after_rack lines line run.nodes run.objects header machine after_machine count journal run.nodes_are run.objects_are has room st
@@ -191,35 +159,35 @@ record IsEvent (place : Place) (form : Form) (told : Event) : Type 0 where
   place_is : place ≡ Running
   form_is : form ≡ Asks told
 
-event_of : (built : Form → Bool) (place : Place) (line : List ℕ) (form : Form) (told : Event) → HasFormOf built place line form → Tells place form (item.Event told) → IsEvent place form told
-event_of built Start line Blank e h told = absurd told
-event_of built (Objects n os) line Blank e h told = absurd told
-event_of built Running line Blank e h told = absurd told
-event_of built Start line (Nodes n) e h told = absurd told
-event_of built (Objects n os) line (Nodes m) e h told = absurd told
-event_of built Running line (Nodes m) e h told = absurd told
-event_of built Start line (Object o) e h told = absurd told
-event_of built (Objects n os) line (Object o) e h told = absurd told
-event_of built Running line (Object o) e h told = absurd told
-event_of built Start line Run e h told = absurd h.has.fits
-event_of built (Objects n os) line Run e h told = absurd told
-event_of built Running line Run e h told = absurd h.has.fits
-event_of built Start line (Asks asked) e h told = absurd h.has.fits
-event_of built (Objects n os) line (Asks asked) e h told = absurd h.has.fits
-event_of built Running line (Asks asked) e h told = record { place_is = refl; form_is = ap Asks (sym told) }
+event_of : (place : Place) (line : List ℕ) (form : Form) (told : Event) → HasForm place line form → Tells place form (item.Event told) → IsEvent place form told
+event_of Start line Blank e h told = absurd told
+event_of (Objects n os) line Blank e h told = absurd told
+event_of Running line Blank e h told = absurd told
+event_of Start line (Nodes n) e h told = absurd told
+event_of (Objects n os) line (Nodes m) e h told = absurd told
+event_of Running line (Nodes m) e h told = absurd told
+event_of Start line (Object o) e h told = absurd told
+event_of (Objects n os) line (Object o) e h told = absurd told
+event_of Running line (Object o) e h told = absurd told
+event_of Start line Run e h told = absurd h.fits
+event_of (Objects n os) line Run e h told = absurd told
+event_of Running line Run e h told = absurd h.fits
+event_of Start line (Asks asked) e h told = absurd h.fits
+event_of (Objects n os) line (Asks asked) e h told = absurd h.fits
+event_of Running line (Asks asked) e h told = record { place_is = refl; form_is = ap Asks (sym told) }
 
 pub some_is : {A : Type 0} (a b : A) → Some a ≡ Some b → a ≡ b
 some_is a b h = cc
 
--- the event that the reader tells of is in form, and taken
-pub event_in_form : (nodes : ℕ → Bool) (events : Event → Bool) (place : Place) (line : List ℕ) (after : Place) (e : Event) → Taken (takes nodes events) place line (item.Event e) after → EventInForm e × (events e ≡ true)
-event_in_form nodes events place line after e taken =
-    let is = event_of (takes nodes events) place line taken.0 e taken.1 taken.2 in
-    let has : HasFormOf (takes nodes events) Running line (Asks e) = subst (λ p. HasFormOf (takes nodes events) p line (Asks e)) is.place_is (subst (λ f. HasFormOf (takes nodes events) place line f) is.form_is taken.1) in
-    (has.has.fits, has.built)
+-- the event that the reader tells of is in form
+pub event_in_form : (place : Place) (line : List ℕ) (after : Place) (e : Event) → Taken place line (item.Event e) after → EventInForm e
+event_in_form place line after e taken =
+    let is = event_of place line taken.0 e taken.1 taken.2 in
+    let has : HasForm Running line (Asks e) = subst (λ p. HasForm p line (Asks e)) is.place_is (subst (λ f. HasForm place line f) is.form_is taken.1) in
+    has.fits
 
 stage_event_at : {D M : Type 0} (view : Ghosts M D) (first rack after_rack : List D) (lines : List (List ℕ)) (line : List ℕ) (e : Event) (machine after_machine : Option M) (count : ℕ) (journal after_journal : List Line)
-    → HasFormOf (built_by view) Running line (Asks e) → count < 100000 → Stepped view (held_by rack machine journal) (held_by after_rack after_machine after_journal) e
+    → HasForm Running line (Asks e) → count < 100000 → Stepped view (held_by rack machine journal) (held_by after_rack after_machine after_journal) e
     → Stage view first rack lines Running (hand machine count journal) → Stage view first after_rack (lines ++ line ∷ []) Running (hand after_machine (count + 1) after_journal)
 stage_event_at view first rack after_rack lines line e None after_machine count journal after_journal has room st s = absurd (s.machine_is.0 refl)
 stage_event_at {D} {M} view first rack after_rack lines line e (Some machine) after_machine count journal after_journal has room st s =
@@ -239,7 +207,7 @@ stage_event_at {D} {M} view first rack after_rack lines line e (Some machine) af
     record {
       forms = s.forms ++ Asks e ∷ [];
       header = s.header;
-      read = have_forms_more (built_by view) Start Running lines s.forms line (Asks e) s.read has;
+      read = have_forms_more Start Running lines s.forms line (Asks e) s.read has;
       counted = count_more s.forms (Asks e) count s.counted;
       within = omega (arith, room);
       machine_is = subst (λ en. MachineRuns view first after_rack (s.forms ++ Asks e ∷ []) Running s.header after_journal en) (sym st.machine_is) stands;
@@ -247,11 +215,11 @@ stage_event_at {D} {M} view first rack after_rack lines line e (Some machine) af
 
 -- an event that the machine ran
 pub stage_event : {D M : Type 0} (view : Ghosts M D) (first rack after_rack : List D) (lines : List (List ℕ)) (line : List ℕ) (place after : Place) (e : Event) (machine after_machine : Option M) (count : ℕ) (journal after_journal : List Line)
-    → Taken (built_by view) place line (item.Event e) after → count < 100000 → Stepped view (held_by rack machine journal) (held_by after_rack after_machine after_journal) e
+    → Taken place line (item.Event e) after → count < 100000 → Stepped view (held_by rack machine journal) (held_by after_rack after_machine after_journal) e
     → Stage view first rack lines place (hand machine count journal) → Stage view first after_rack (lines ++ line ∷ []) after (hand after_machine (count + 1) after_journal)
 stage_event view first rack after_rack lines line place after e machine after_machine count journal after_journal taken room st s =
-    let is = event_of (built_by view) place line taken.0 e taken.1 taken.2 in
-    let has : HasFormOf (built_by view) Running line (Asks e) = subst (λ p. HasFormOf (built_by view) p line (Asks e)) is.place_is (subst (λ f. HasFormOf (built_by view) place line f) is.form_is taken.1) in
+    let is = event_of place line taken.0 e taken.1 taken.2 in
+    let has : HasForm Running line (Asks e) = subst (λ p. HasForm p line (Asks e)) is.place_is (subst (λ f. HasForm place line f) is.form_is taken.1) in
     let ends : Running ≡ after = sym (taken.3 ∙ (λ i. next_place (is.place_is i) (is.form_is i))) in
     subst (λ p. Stage view first after_rack (lines ++ line ∷ []) p (hand after_machine (count + 1) after_journal)) ends
     (stage_event_at view first rack after_rack lines line e machine after_machine count journal after_journal has room st
@@ -259,20 +227,20 @@ stage_event view first rack after_rack lines line place after e machine after_ma
 
 -- behind `run` the machine is there, with room for an event more
 pub standing : {D M : Type 0} (view : Ghosts M D) (first rack : List D) (lines : List (List ℕ)) (line : List ℕ) (place after : Place) (e : Event) (machine : Option M) (count : ℕ) (journal : List Line)
-    → Taken (built_by view) place line (item.Event e) after → Stage view first rack lines place (hand machine count journal) → overflown view machine ≡ false → IsStanding view rack journal machine
-standing view first rack lines line place after e None count journal taken s going = absurd (s.machine_is.0 (event_of (built_by view) place line taken.0 e taken.1 taken.2).place_is)
+    → Taken place line (item.Event e) after → Stage view first rack lines place (hand machine count journal) → overflown view machine ≡ false → IsStanding view rack journal machine
+standing view first rack lines line place after e None count journal taken s going = absurd (s.machine_is.0 (event_of place line taken.0 e taken.1 taken.2).place_is)
 standing view first rack lines line place after e (Some machine) count journal taken s going =
     (omega (arith, s.machine_is.3, events_within s.forms, s.counted, s.within), going, (first, s.header, events_of s.forms, s.machine_is.2))
 
 -- an event that the machine refused for want of labels
 pub stage_labels : {D M : Type 0} (view : Ghosts M D) (first rack after_rack : List D) (lines : List (List ℕ)) (line : List ℕ) (place after : Place) (e : Event) (machine after_machine : Option M) (count : ℕ) (journal after_journal : List Line)
-    → Taken (built_by view) place line (item.Event e) after → after_journal ≡ journal → Refused view (held_by rack machine journal) (held_by after_rack after_machine after_journal) e
+    → Taken place line (item.Event e) after → after_journal ≡ journal → Refused view (held_by rack machine journal) (held_by after_rack after_machine after_journal) e
     → Stage view first rack lines place (hand machine count journal)
     → (now : Stage view first after_rack lines after (hand after_machine count after_journal)) × AsksTooMany view now.header after_rack after_machine after line
 stage_labels view first rack after_rack lines line place after e None after_machine count journal after_journal taken still st s = absurd (let never : None ≡ Some st.before = st.machine_was in cc)
 stage_labels {D} {M} view first rack after_rack lines line place after e (Some machine) after_machine count journal after_journal taken still st s =
-    let is = event_of (built_by view) place line taken.0 e taken.1 taken.2 in
-    let has : HasFormOf (built_by view) Running line (Asks e) = subst (λ p. HasFormOf (built_by view) p line (Asks e)) is.place_is (subst (λ f. HasFormOf (built_by view) place line f) is.form_is taken.1) in
+    let is = event_of place line taken.0 e taken.1 taken.2 in
+    let has : HasForm Running line (Asks e) = subst (λ p. HasForm p line (Asks e)) is.place_is (subst (λ f. HasForm place line f) is.form_is taken.1) in
     let ends : Running ≡ after = sym (taken.3 ∙ (λ i. next_place (is.place_is i) (is.form_is i))) in
     let h = s.machine_is in
     let same : machine ≡ st.before = some_is machine st.before st.machine_was in
@@ -285,12 +253,12 @@ stage_labels {D} {M} view first rack after_rack lines line place after e (Some m
       record {
         forms = s.forms;
         header = s.header;
-        read = subst (λ p. HaveFormsOf (built_by view) Start lines s.forms p) (is.place_is ∙ ends) s.read;
+        read = subst (λ p. HaveForms Start lines s.forms p) (is.place_is ∙ ends) s.read;
         counted = s.counted;
         within = s.within;
         machine_is = at_after;
       },
-      subst (λ en. AsksTooMany view s.header after_rack en after line) (sym st.machine_is) (e, subst (λ p. HasFormOf (built_by view) p line (Asks e)) ends has, full.1),
+      subst (λ en. AsksTooMany view s.header after_rack en after line) (sym st.machine_is) (e, subst (λ p. HasForm p line (Asks e)) ends has, full.1),
     )
 
 pub both_ok : {T E P Q R : Type 0} (r : Result T E) → (P → Q → R) → OnOk r P → OnOk r Q → OnOk r R

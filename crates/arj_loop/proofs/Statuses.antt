@@ -93,30 +93,32 @@ format_before ending.Frames count is = absurd (let never : ending.Frames ≡ end
 
 -- a run whose last line was put
 closed_by : {D M : Type 0} (view : Ghosts M D) (given : Arrived) (first : List D) (before : Option (List ℕ)) (now : Work D M) (end : End) (journal : List Line) → HasEnded view first before given now end → end ≢ ending.Write → end ≢ ending.Memory
-    → journal ≡ now.journal ++ LastOf view end (hand_of now) → EndsSo view given first now.rack end journal
+    → journal ≡ now.journal ++ LastOf view end (hand_of now) → (ends : EndsSo view given first now.rack end journal) × (now.session.runner.machine ≡ (let at = ends.at in at.machine))
 closed_by {D} {M} view given first before now end journal h write memory is =
     ⊎_elim
     (λ stopped.
     let f = h.format stopped in
     let r = h.rose stopped in
     let bare : Hand M = hand None f.0 now.journal in
-    let count = sym (format_before end f.0 stopped) in
-    record {
-      at = bare;
-      mid = first;
-      reached = subst (λ e. Reached view first first (script_of given) bare e) (sym stopped) f.1;
-      racks = inl (stopped, refl, r.0, r.1);
-      journal_is = is ∙ ap (λ ls. now.journal ++ ls) (format_last view end (hand_of now) bare stopped);
-      went_on = subst (λ n. WentOn given n) count f.2;
-      past = subst (λ n. ReadsFewPast given n) count f.3;
-    })
+    let count = sym (format_before end f.0 stopped) in (
+      record {
+        at = bare;
+        mid = first;
+        reached = subst (λ e. Reached view first first (script_of given) bare e) (sym stopped) f.1;
+        racks = inl (stopped, refl, r.0, r.1);
+        journal_is = is ∙ ap (λ ls. now.journal ++ ls) (format_last view end (hand_of now) bare stopped);
+        went_on = subst (λ n. WentOn given n) count f.2;
+        past = subst (λ n. ReadsFewPast given n) count f.3;
+      },
+      h.none stopped,
+    ))
     (λ rest. ⊎_elim
     (λ wanting. absurd (memory wanting))
     (λ more. ⊎_elim
     (λ failed. absurd (write failed))
     (λ other.
     let r = h.reached other.write other.memory other.format in
-    record { at = hand_of now; mid = now.rack; reached = r.0; racks = inr (other.format, refl); journal_is = is; went_on = r.1; past = r.2 })
+    (record { at = hand_of now; mid = now.rack; reached = r.0; racks = inr (other.format, refl); journal_is = is; went_on = r.1; past = r.2 }, refl))
     more)
     rest)
     (end_kinds end)
@@ -125,7 +127,7 @@ pub closes : {D M : Type 0} (view : Ghosts M D) (given : Arrived) (first : List 
     → HasEnded view first before given now end → end ≢ ending.Write
     → (status ≢ 5 → (status ≡ status_of end) × (journal ≡ now.journal ++ LastOf view end (hand_of now)) × (after ≡ now.session.gather.waiting.items ++ text (LastOf view end (hand_of now))))
     → status ≢ 5
-    → EndsSo view given first now.rack end journal × Gathers journal after before now.taken
+    → ((ends : EndsSo view given first now.rack end journal) × (now.session.runner.machine ≡ (let at = ends.at in at.machine))) × Gathers journal after before now.taken
 closes view given first before now end journal after status h write put five =
     let p = put five in
     let memory : end ≢ ending.Memory = λ m. five (p.0 ∙ ap status_of m) in (

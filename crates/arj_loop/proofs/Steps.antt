@@ -1,18 +1,26 @@
 -- One form more: what it adds to the header and the events.
-use Rattle.std.proofs.Common.{◌≡◌, ℕ, ◌≤◌, Bool, List, [], ◌∷◌, ◌++◌, length, Some, None, refl, ap, arith}
+use Rattle.std.proofs.Common.{◌≡◌, ℕ, ◌≤◌, List, [], ◌∷◌, ◌++◌, length, Some, None, refl, sym, ap, subst, arith}
 use Rattle.arj_journal.specs.declared.header.ObjectLine.{ObjectLine}
-use Rattle.arj_script.specs.Grammar.{Form, Blank, Nodes, Object, Run, Asks, Place, Objects, next_place}
+use Rattle.arj_script.specs.Grammar.{Asks, Blank, Form, HasForm, Nodes, Object, Objects, Place, Run, next_place}
 use Rattle.arj_script.specs.Input.{events_of}
-use Rattle.arj_loop.specs.Built.{HaveFormsOf}
+use Rattle.arj_loop.specs.Forms.{HaveForms}
 use Rattle.arj_loop.specs.Input.{header_from}
 
+-- one line more
+pub have_forms_more : (p q : Place) (lines : List (List ℕ)) (forms : List Form) (line : List ℕ) (form : Form) → HaveForms p lines forms q → HasForm q line form
+    → HaveForms p (lines ++ line ∷ []) (forms ++ form ∷ []) (next_place q form)
+have_forms_more p q [] [] line form here has = (subst (λ r. HasForm r line form) (sym here) has, ap (λ r. next_place r form) here)
+have_forms_more p q (l ∷ lines) (f ∷ forms) line form h has = (h.0, have_forms_more (next_place p f) q lines forms line form h.1 has)
+have_forms_more p q [] (f ∷ forms) line form h has = absurd h
+have_forms_more p q (l ∷ lines) [] line form h has = absurd h
+
 -- where no header was ended, one may be ended by the forms behind
-pub header_then : (built : Form → Bool) (p : Place) (forms more : List Form) (lines : List (List ℕ)) (q : Place) → HaveFormsOf built p lines forms q → header_from p forms ≡ None → header_from p (forms ++ more) ≡ header_from q more
-header_then built p [] more [] q here none = ap (λ place. header_from place more) here
-header_then built p [] more (l ∷ lines) q h none = absurd h
-header_then built p (f ∷ forms) more [] q h none = absurd h
-header_then built (Objects n os) (Run ∷ forms) more (l ∷ lines) q h none = absurd (let never : Some (n, os) ≡ None = none in cc)
-header_then built p (f ∷ forms) more (l ∷ lines) q h none = header_then built (next_place p f) forms more lines q h.1 none
+pub header_then : (p : Place) (forms more : List Form) (lines : List (List ℕ)) (q : Place) → HaveForms p lines forms q → header_from p forms ≡ None → header_from p (forms ++ more) ≡ header_from q more
+header_then p [] more [] q here none = ap (λ place. header_from place more) here
+header_then p [] more (l ∷ lines) q h none = absurd h
+header_then p (f ∷ forms) more [] q h none = absurd h
+header_then (Objects n os) (Run ∷ forms) more (l ∷ lines) q h none = absurd (let never : Some (n, os) ≡ None = none in cc)
+header_then p (f ∷ forms) more (l ∷ lines) q h none = header_then (next_place p f) forms more lines q h.1 none
 
 -- a header that was ended stays
 pub header_stays : (p : Place) (forms more : List Form) (found : ℕ × List ObjectLine) → header_from p forms ≡ Some found → header_from p (forms ++ more) ≡ Some found
@@ -29,8 +37,8 @@ events_within (Object o ∷ forms) = omega (arith, events_within forms)
 events_within (Run ∷ forms) = omega (arith, events_within forms)
 
 -- as many lines as forms
-pub forms_length : (built : Form → Bool) (p : Place) (lines : List (List ℕ)) (forms : List Form) (q : Place) → HaveFormsOf built p lines forms q → length forms ≡ length lines
-forms_length built p [] [] q h = refl
-forms_length built p [] (f ∷ forms) q h = absurd h
-forms_length built p (l ∷ lines) [] q h = absurd h
-forms_length built p (l ∷ lines) (f ∷ forms) q h = omega (arith, forms_length built (next_place p f) lines forms q h.1)
+pub forms_length : (p : Place) (lines : List (List ℕ)) (forms : List Form) (q : Place) → HaveForms p lines forms q → length forms ≡ length lines
+forms_length p [] [] q h = refl
+forms_length p [] (f ∷ forms) q h = absurd h
+forms_length p (l ∷ lines) [] q h = absurd h
+forms_length p (l ∷ lines) (f ∷ forms) q h = omega (arith, forms_length (next_place p f) lines forms q h.1)

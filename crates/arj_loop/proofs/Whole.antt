@@ -10,18 +10,18 @@ use Rattle.arj_io.specs.Told.{Takes}
 use Rattle.arj_io.proofs.Told.{takes_more}
 use Rattle.arj_journal.specs.declared.body.Line.{Line}
 use Rattle.arj_journal.specs.LineText.{text, line_text}
-use Rattle.arj_script.specs.Grammar.{Form, Place, Start, Running, next_place}
+use Rattle.arj_script.specs.Grammar.{Form, IsBadLine, Place, Running, Start, next_place}
 use Rattle.arj_script.specs.Input.{Stopped, AtEnd, AtFault, is_too_long}
 use Rattle.arj_loop.specs.Input.{script}
 use Rattle.arj_loop.specs.Replayed.{TookFront}
 use Rattle.arj_loop.specs.declared.machine.Machine.{Ghosts}
-use Rattle.arj_loop.specs.Running.{Stage, StageOf, Reached, Gathers, Fronts, built_by, end_of, hand, overflown}
+use Rattle.arj_loop.specs.Running.{Stage, StageOf, Reached, Gathers, Fronts, end_of, hand, overflown}
 use Rattle.arj_loop.specs.declared.ending.BadLine.{BadLine}
 use Rattle.arj_loop.specs.declared.ending.End.{End}
 use Rattle.arj_loop.specs.declared.ending.End.TheVariants as ending
 use Rattle.arj_loop.specs.declared.run.Runner.{Runner}
 use Rattle.arj_loop.proofs.Stages.{Limited}
-use Rattle.arj_loop.specs.Built.{HaveFormsOf, IsBadOf, IsBadWhy}
+use Rattle.arj_loop.specs.Forms.{HaveForms, IsBadBy}
 
 -- where it begins
 pub stage_first : {D M : Type 0} (view : Ghosts M D) (rack : List D) → view.ready rack → Stage view rack rack [] Start (hand None 0 [])
@@ -85,10 +85,10 @@ behind_as before after added b a same_before same_after is =
     (λ i. before ++ take (length (same_after i) - length (same_before i)) (drop (length (same_before i)) (same_after i))) ∙ behind before after added is
 
 -- lines that were run are short
-pub all_short : (built : Form → Bool) (p : Place) (lines : List (List ℕ)) (forms : List Form) (q : Place) → HaveFormsOf built p lines forms q → list_any is_too_long lines ≡ false
-all_short built p [] forms q h = refl
-all_short built p (l ∷ lines) [] q h = absurd h
-all_short built p (l ∷ lines) (f ∷ forms) q h = or_from (is_too_long l) (list_any is_too_long lines) (le-ltb 200 (length l) h.0.has.short) (all_short built (next_place p f) lines forms q h.1)
+pub all_short : (p : Place) (lines : List (List ℕ)) (forms : List Form) (q : Place) → HaveForms p lines forms q → list_any is_too_long lines ≡ false
+all_short p [] forms q h = refl
+all_short p (l ∷ lines) [] q h = absurd h
+all_short p (l ∷ lines) (f ∷ forms) q h = or_from (is_too_long l) (list_any is_too_long lines) (le-ltb 200 (length l) h.0.short) (all_short (next_place p f) lines forms q h.1)
 
 pub stage_start : {D M : Type 0} (view : Ghosts M D) (rack : List D) (place : Place) (machine : Option M) (count : ℕ) (journal : List Line) → view.ready rack → place ≡ Start → machine ≡ None → count ≡ 0 → journal ≡ [] → Stage view rack rack [] place (hand machine count journal)
 stage_start {D} {M} view rack place machine count journal ready p e n j =
@@ -132,7 +132,7 @@ kept_reached view first rack after_rack stopped lines before after journal after
 -- why the run ends at a line
 pub line_reached : {D M : Type 0} (view : Ghosts M D) (first rack after_rack : List D) (stopped : Stopped) (lines done rest : List (List ℕ)) (line : List ℕ) (tail : List (List ℕ)) (before after : Runner M) (journal after_journal : List Line) (end : End)
     → lines ≡ done ++ rest → rest ≡ line ∷ tail → StageOf view first rack done before journal → after_journal ≡ journal
-    → ((w : BadLine) → IsEnd end (ending.Bad w) → (before.lines < 100000 ⊎ (200 < length line)) × IsBadOf (built_by view) before.reader line × IsBadWhy (built_by view) w before.reader line)
+    → ((w : BadLine) → IsEnd end (ending.Bad w) → (before.lines < 100000 ⊎ (200 < length line)) × IsBadLine before.reader line × IsBadBy w before.reader line)
     → (IsEnd end ending.Lines → (100000 ≤ before.lines) × (length line ≤ 200))
     → (((w : BadLine) × IsEnd end (ending.Bad w)) ⊎ IsEnd end ending.Lines → (after.machine ≡ before.machine) × (after.lines ≡ before.lines) × (after_rack ≡ rack))
     → (IsEnd end ending.Labels → Limited view first after_rack done after.reader after.machine after.lines after_journal line)

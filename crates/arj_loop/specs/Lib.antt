@@ -1,7 +1,6 @@
-pub mod Built
+pub mod Forms
 pub mod Input
 pub mod Limits
 pub mod Replayed
 pub mod Running
-pub mod TextTells
 pub mod Written

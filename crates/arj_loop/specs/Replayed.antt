@@ -22,15 +22,16 @@ pub record Outside (D : Type 0) : Type 0 where
 abbrev pub outside : {D : Type 0} → Option (List ℕ) → ℕ → Option (List ℕ) → List D → Outside D
 outside left faults taken rack = record { left = left; faults = faults; taken = taken; rack = rack }
 
--- What a run answers: its status, why a line is bad, if one is, and the journal that it leaves.
-pub record Answer : Type 0 where
+-- What a run answers: its status, why a line is bad, if one is, the journal that it leaves, and the machine, if one was made.
+pub record Answer (M : Type 0) : Type 0 where
   pub status : ℕ
   pub why : Option BadLine
   pub journal : List Line
+  pub machine : Option M
 
 -- an answer, of these
-abbrev pub answer : ℕ → Option BadLine → List Line → Answer
-answer status why journal = record { status = status; why = why; journal = journal }
+abbrev pub answer : {M : Type 0} → ℕ → Option BadLine → List Line → Option M → Answer M
+answer status why journal machine = record { status = status; why = why; journal = journal; machine = machine }
 
 -- the sink took a front of the journal's text, and at 5 all of it
 abbrev pub TookFront : ℕ → List Line → Option (List ℕ) → Option (List ℕ) → Type 0
@@ -54,15 +55,16 @@ pub record EndsSo {D M : Type 0} (m : Ghosts M D) (given : Arrived) (first after
   pub went_on : WentOn given (lines_before end at.count)
   pub past : ReadsFewPast given (lines_before end at.count)
 
--- A run to a status other than 4 and 5: which bytes came, how the run of them ended, and that the sink took the journal's
--- text and nothing else.
-pub record Closes {D M : Type 0} (m : Ghosts M D) (before after : Outside D) (answer : Answer) : Type 0 where
+-- A run to a status other than 4 and 5: which bytes came, how the run of them ended, and with which machine, and that the sink
+-- took the journal's text and nothing else.
+pub record Closes {D M : Type 0} (m : Ghosts M D) (before after : Outside D) (answer : Answer M) : Type 0 where
   pub given : Arrived
   pub reads : Came (source_view before.left before.faults) (source_view after.left after.faults) given
   pub end : End
   pub status_is : answer.status ≡ status_of end
   pub why_is : answer.why ≡ why_of end
   pub ends : EndsSo m given before.rack after.rack end answer.journal
+  pub machine_is : answer.machine ≡ (let at = ends.at in at.machine)
   pub wrote : Takes before.taken (text answer.journal) after.taken
 
 -- the journal is that of the lines that were run

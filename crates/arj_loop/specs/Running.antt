@@ -8,7 +8,7 @@ use Rattle.arj_journal.specs.declared.body.Line.{Line}
 use Rattle.arj_journal.specs.declared.event.Event.{Event}
 use Rattle.arj_journal.specs.declared.header.Header.{Header}
 use Rattle.arj_journal.specs.LineText.{text}
-use Rattle.arj_script.specs.Grammar.{Form, Run, Asks, Place, Start, Running}
+use Rattle.arj_script.specs.Grammar.{Asks, Form, HasForm, IsBadLine, Place, Run, Running, Start}
 use Rattle.arj_script.specs.Input.{Stopped, AtEnd, AtFault, events_of, ended_lines, rest_line}
 use Rattle.arj_loop.specs.declared.ending.BadLine.{BadLine}
 use Rattle.arj_loop.specs.declared.ending.BadLine.TheVariants as why
@@ -18,14 +18,10 @@ use Rattle.arj_loop.specs.declared.limits.TheConstants.{MOST_EVENTS}
 use Rattle.arj_loop.specs.declared.machine.Machine.{Ghosts}
 use Rattle.arj_loop.specs.declared.run.Runner.{Runner}
 use Rattle.arj_loop.specs.declared.session.Session.{Session}
-use Rattle.arj_loop.specs.Built.{HasFormOf, HaveFormsOf, IsBadOf, IsBadWhy, takes}
+use Rattle.arj_loop.specs.Forms.{HaveForms, IsBadBy}
 use Rattle.arj_loop.specs.Input.{Arrived, Script, WentOn, ReadsFewPast, header_from, script_of}
 use Rattle.arj_loop.specs.Limits.{EndsAtFrames}
 use Rattle.arj_script.specs.declared.limits.TheConstants.{LINE_BYTES, SCRIPT_LINES}
-
--- the forms that a machine takes
-abbrev pub built_by : {D M : Type 0} → Ghosts M D → Form → Bool
-built_by m = takes m.takes_nodes m.takes_event
 
 -- what calls of a machine, one after another, did to the disks
 abbrev pub Chain : {A : Type 0} → (A → A → Type 0) → A → List A → A → Type 0
@@ -57,7 +53,7 @@ hand machine count journal = record { machine = machine; count = count; journal 
 pub record Stage {D M : Type 0} (m : Ghosts M D) (first rack : List D) (lines : List (List ℕ)) (place : Place) (at : Hand M) : Type 0 where
   pub forms : List Form
   pub header : Header
-  pub read : HaveFormsOf (built_by m) Start lines forms place
+  pub read : HaveForms Start lines forms place
   pub counted : at.count ≡ length forms
   pub within : at.count ≤ SCRIPT_LINES
   pub machine_is : MachineRuns m first rack forms place header at.journal at.machine
@@ -114,7 +110,7 @@ IsStanding {D} m rack journal (Some machine) = (m.steps machine < MOST_EVENTS) �
 -- The line asks for an event that would give one label too many.
 abbrev pub AsksTooMany : {D M : Type 0} → Ghosts M D → Header → List D → Option M → Place → List ℕ → Type 0
 AsksTooMany m header rack None place line = ⊥
-AsksTooMany m header rack (Some machine) place line = (e : Event) × HasFormOf (built_by m) place line (Asks e) × m.is_full header e rack machine
+AsksTooMany m header rack (Some machine) place line = (e : Event) × HasForm place line (Asks e) × m.is_full header e rack machine
 
 -- a frame didn't fit, in the last event that was run
 abbrev pub overflown : {D M : Type 0} → Ghosts M D → Option M → Bool
@@ -138,14 +134,14 @@ abbrev pub Why : {D M : Type 0} → Ghosts M D → End → Stopped → List (Lis
 Why m ending.Whole stopped rest place rack at header = (stopped ≡ AtEnd) × (rest ≡ []) × (place ≡ Running)
 Why m ending.Fault stopped rest place rack at header = (stopped ≡ AtFault) × (rest ≡ [])
 Why m (ending.Bad w) stopped rest place rack at header =
-    ((line : List ℕ) × (tail : List (List ℕ)) × (rest ≡ line ∷ tail) × (at.count < SCRIPT_LINES ⊎ (LINE_BYTES < length line)) × IsBadOf (built_by m) place line × IsBadWhy (built_by m) w place line)
+    ((line : List ℕ) × (tail : List (List ℕ)) × (rest ≡ line ∷ tail) × (at.count < SCRIPT_LINES ⊎ (LINE_BYTES < length line)) × IsBadLine place line × IsBadBy w place line)
     ⊎ ((rest ≡ []) × (stopped ≡ AtEnd) × (place ≡ Running → ⊥) × (w ≡ why.Missing))
 Why m ending.Lines stopped rest place rack at header = (line : List ℕ) × (tail : List (List ℕ)) × (rest ≡ line ∷ tail) × (at.count ≡ SCRIPT_LINES) × (length line ≤ LINE_BYTES)
 Why m ending.Labels stopped rest place rack at header =
     (line : List ℕ) × (tail : List (List ℕ)) × (rest ≡ line ∷ tail) × (at.count < SCRIPT_LINES) × AsksTooMany m header rack at.machine place line
 Why m ending.Frames stopped rest place rack at header = IsOverflown m at.machine at.journal
 Why m ending.Format stopped rest place rack at header =
-    (line : List ℕ) × (tail : List (List ℕ)) × (rest ≡ line ∷ tail) × HasFormOf (built_by m) place line Run × (at.count < SCRIPT_LINES) × (at.machine ≡ None)
+    (line : List ℕ) × (tail : List (List ℕ)) × (rest ≡ line ∷ tail) × HasForm place line Run × (at.count < SCRIPT_LINES) × (at.machine ≡ None)
 Why m ending.Write stopped rest place rack at header = ⊥
 Why m ending.Memory stopped rest place rack at header = ⊥
 
@@ -256,7 +252,8 @@ pub record IsAtLine {D M : Type 0} (m : Ghosts M D) (first : List D) (before : O
 pub record HasEnded {D M : Type 0} (m : Ghosts M D) (first : List D) (before : Option (List ℕ)) (given : Arrived) (now : Work D M) (end : End) : Type 0 where
   pub reached : end ≢ ending.Write → end ≢ ending.Memory → end ≢ ending.Format
       → Reached m first now.rack (script_of given) (hand_of now) end × WentOn given (lines_before end now.session.runner.lines) × ReadsFewPast given (lines_before end now.session.runner.lines)
-  -- a disk was stopped while it was formatted: before that no disk had changed
+  -- a disk was stopped while it was formatted: before that no disk had changed, and no machine was made
+  pub none : end ≡ ending.Format → now.session.runner.machine ≡ None
   pub format : end ≡ ending.Format → (count : ℕ) × Reached m first first (script_of given) (hand None count now.journal) ending.Format × WentOn given count × ReadsFewPast given count
   pub rose : end ≡ ending.Format → m.stopped first now.rack × Moved m first now.rack
   pub gathers : end ≢ ending.Write → end ≢ ending.Memory → Gathers now.journal now.session.gather.waiting.items before now.taken

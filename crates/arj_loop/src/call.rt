@@ -17,7 +17,8 @@ use arj_journal::{Body, Line, Lines};
 use std::alloc::{AllocError, Global};
 
 /// Runs the script that comes from the source on a machine over these disks, writes its journal, and answers the status.
-/// The journal is left in `journal` at every status but 4 and 5, and at status 2 why a line is bad in `why`. Each line is
+/// The journal is left in `journal` and the machine, if `run` was read, in `machine` at every status but 4 and 5, and at status 2
+/// why a line is bad in `why`. Each line is
 /// run before more is asked for than the piece in hand, and the text of the lines that were run is written before: the bound on
 /// the source has no other way to read.
 ///
@@ -30,10 +31,11 @@ pub fn replay<S: AskedSource, K: Sink, D: Disk, M: Machine<D>>(
     rack: &mut Rack<D>,
     journal: &mut Lines,
     why: &mut Option<BadLine>,
+    machine: &mut Option<M>,
 ) -> u8
     requires ready { M.ready rack.old }
     requires fresh { journal.old ≡ [] }
-    ensures closes { result ≢ 4 → result ≢ 5 → Closes M.Machine (outside (S.left source.old) (S.faults source.old) (K.taken sink.old) rack.old) (outside (S.left source.new) (S.faults source.new) (K.taken sink.new) rack.new) (answer result why.new journal.new) }
+    ensures closes { result ≢ 4 → result ≢ 5 → Closes M.Machine (outside (S.left source.old) (S.faults source.old) (K.taken sink.old) rack.old) (outside (S.left source.new) (S.faults source.new) (K.taken sink.new) rack.new) (answer result why.new journal.new machine.new) }
     ensures short { (result ≡ 4) ⊎ (result ≡ 5) → StopsShort M.Machine (outside (S.left source.old) (S.faults source.old) (K.taken sink.old) rack.old) (outside (S.left source.new) (S.faults source.new) (K.taken sink.new) rack.new) result }
     ensures moved { Moved M.Machine rack.old rack.new }
     ensures statuses { (result ≤ 7) × (result ≢ 1) }
@@ -41,7 +43,7 @@ pub fn replay<S: AskedSource, K: Sink, D: Disk, M: Machine<D>>(
     ensures no_write_fault { result ≢ 4 → K.faults sink.new ≡ K.faults sink.old }
 {
     match Session::<M>::new(alloc) {
-        Ok(session) => run_through(session, source, sink, rack, journal, why),
+        Ok(session) => run_through(session, source, sink, rack, journal, why, machine),
         Err(_) => 5,
     }
 }
@@ -54,12 +56,13 @@ fn run_through<S: AskedSource, K: Sink, D: Disk, M: Machine<D>>(
     rack: &mut Rack<D>,
     journal: &mut Lines,
     why: &mut Option<BadLine>,
+    machine: &mut Option<M>,
 ) -> u8
     requires runner { (session.runner.reader ≡ Start) × (session.runner.machine ≡ None) × (session.runner.lines ≡ 0) }
     requires nothing { (session.cutter ≡ []) × (session.gather.waiting.items ≡ []) }
     requires ready { M.ready rack.old }
     requires fresh { journal.old ≡ [] }
-    ensures closes { result ≢ 4 → result ≢ 5 → Closes M.Machine (outside (S.left source.old) (S.faults source.old) (K.taken sink.old) rack.old) (outside (S.left source.new) (S.faults source.new) (K.taken sink.new) rack.new) (answer result why.new journal.new) }
+    ensures closes { result ≢ 4 → result ≢ 5 → Closes M.Machine (outside (S.left source.old) (S.faults source.old) (K.taken sink.old) rack.old) (outside (S.left source.new) (S.faults source.new) (K.taken sink.new) rack.new) (answer result why.new journal.new machine.new) }
     ensures short { (result ≡ 4) ⊎ (result ≡ 5) → StopsShort M.Machine (outside (S.left source.old) (S.faults source.old) (K.taken sink.old) rack.old) (outside (S.left source.new) (S.faults source.new) (K.taken sink.new) rack.new) result }
     ensures moved { Moved M.Machine rack.old rack.new }
     ensures statuses { (result ≤ 7) × (result ≢ 1) }
@@ -73,6 +76,7 @@ fn run_through<S: AskedSource, K: Sink, D: Disk, M: Machine<D>>(
         return 4;
     }
     let status = close::<D, M>(&mut session, end, journal);
+    *machine = session.runner.take_machine();
     match session.gather.flush(sink) {
         Ok(()) => status,
         Err(Failed) => 4,
@@ -85,6 +89,7 @@ fn close<D: Disk, M: Machine<D>>(session: &mut Session<M>, end: End, journal: &m
     requires { (why : BadLine) → end ≡ End.Bad why → session.old.runner.lines ≤ SCRIPT_LINES }
     ensures put { result ≢ 5 → (result ≡ status_of end) × (journal.new ≡ journal.old ++ last_lines (last_body end session.old.runner.lines) (events_run M.Machine session.old.runner.machine))
         × (session.new.gather.waiting.items ≡ session.old.gather.waiting.items ++ text (last_lines (last_body end session.old.runner.lines) (events_run M.Machine session.old.runner.machine))) }
+    ensures runner { session.new.runner ≡ session.old.runner }
     ensures memory { result ≡ 5 → session.new.gather.waiting.items ≡ session.old.gather.waiting.items }
 {
     let Some(body) = session.runner.last_body(end) else {
@@ -104,6 +109,7 @@ fn put_last<D: Disk, M: Machine<D>>(
 ) -> Result<(), AllocError>
     ensures put { OnOk result ((journal.new ≡ journal.old ++ last_lines (Some body) (events_run M.Machine session.old.runner.machine))
         × (session.new.gather.waiting.items ≡ session.old.gather.waiting.items ++ text (last_lines (Some body) (events_run M.Machine session.old.runner.machine)))) }
+    ensures runner { session.new.runner ≡ session.old.runner }
     ensures memory { OnErr result (session.new.gather.waiting.items ≡ session.old.gather.waiting.items) }
 {
     let before = journal.as_slice().len();

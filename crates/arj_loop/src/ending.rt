@@ -13,9 +13,6 @@ pub enum BadLine {
     /// No form of the grammar has it at its place.
     #[error("not in the grammar")]
     Unknown,
-    /// It is in the grammar, and forms of its kind don't run yet.
-    #[error("in the grammar, but not built")]
-    NotBuilt,
     /// It isn't there: the input ended before `run`.
     #[error("the input ended before `run`")]
     Missing,

@@ -8,12 +8,12 @@
 #![tactic(auto)]
 
 mod asked;
-mod built;
 mod call;
 mod ending;
 mod gather;
 mod limits;
 mod machine;
+mod reading;
 mod run;
 mod session;
 

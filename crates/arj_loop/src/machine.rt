@@ -1,7 +1,6 @@
 // What runs the events of a script.
-ghost use Rattle.std.specs.Prelude.{◌≡◌, ◌<◌, ◌+◌, ◌∷◌, [], ◌++◌, true, false, ℕ, Bool, List, length, OnOk, OnErr, IfOk, IsErrOf};
+ghost use Rattle.std.specs.Prelude.{◌≡◌, ◌<◌, ◌+◌, ◌∷◌, [], ◌++◌, false, true, ℕ, Bool, List, length, OnOk, OnErr, IfOk, IsErrOf};
 ghost use Rattle.arj_journal.specs.ScriptForm.{EventInForm, HeaderInForm};
-ghost use Rattle.arj_journal.specs.ScriptText.{event_text};
 ghost use Rattle.arj_journal.specs.declared.body.Line.{Line};
 ghost use Rattle.arj_journal.specs.declared.event.Event.{Event as script_event};
 ghost use Rattle.arj_journal.specs.declared.header.Header.{Header as script_header};
@@ -38,12 +37,6 @@ pub enum EventFault {
 
 /// What runs the events of a script over a rack of disks.
 pub trait Machine<D: Disk>: Sized + Drop {
-    /// The counts of nodes that it takes.
-    ghost takes_nodes: { ℕ → Bool };
-
-    /// The events that it takes.
-    ghost takes_event: { script_event → Bool };
-
     /// The disks on which it may start.
     ghost ready: { List D → Type 0 };
 
@@ -65,19 +58,9 @@ pub trait Machine<D: Disk>: Sized + Drop {
     /// Whether a frame didn't fit: no other event may follow.
     ghost over: { Self → Bool };
 
-    /// Whether it takes this count of nodes.
-    fn takes_nodes(count: u8) -> bool
-        ensures { result ≡ takes_nodes count };
-
-    /// Whether it takes this event. The event's text says so.
-    fn takes_event(event: &Event) -> bool
-        ensures takes { result ≡ takes_event event.now }
-        ensures text { (other : script_event) → EventInForm event.now → EventInForm other → event_text event.now ≡ event_text other → takes_event event.now ≡ takes_event other };
-
     /// Formats the disks.
     fn format(alloc: Global, header: Header, rack: &mut Rack<D>) -> Result<Self, StartFault>
         requires form { HeaderInForm header }
-        requires takes { takes_nodes header.nodes ≡ true }
         requires ready { ready rack.old }
         ensures made { IfOk result (λ machine. ran rack.old header [] rack.new [] machine × (steps machine ≡ 0) × (over machine ≡ false)) }
         ensures stopped { IsErrOf result StartFault.Stopped → stopped rack.old rack.new }
@@ -99,7 +82,6 @@ pub trait Machine<D: Disk>: Sized + Drop {
         journal: &mut Lines,
     ) -> Result<(), EventFault>
         requires form { EventInForm event }
-        requires takes { takes_event event ≡ true }
         requires room { steps self.old < MOST_EVENTS }
         requires going { over self.old ≡ false }
         requires ran { (first : List D) × (header : script_header) × (events : List script_event) × ran first header events rack.old journal.old self.old }

@@ -2,16 +2,16 @@
 ghost use Rattle.std.specs.Prelude.{◌≡◌, ◌≢◌, ◌≤◌, ◌<◌, ◌⊎◌, ◌+◌, true, false, ℕ, List, [], ◌∷◌, ◌++◌, length, None, OnOk, IfErr, IsErrOf, MatchBool, Some};
 ghost use Rattle.arj_journal.specs.declared.body.Line.{Line};
 ghost use Rattle.arj_journal.specs.ScriptForm.{EventInForm, HeaderInForm};
-ghost use Rattle.arj_script.specs.Grammar.{Run, Start};
+ghost use Rattle.arj_script.specs.Grammar.{HasForm, IsBadLine, Run, Start};
 ghost use Rattle.arj_loop.specs.declared.ending.BadLine.{BadLine};
-ghost use Rattle.arj_loop.specs.Built.{HasFormOf, IsBadOf, IsBadWhy, takes};
+ghost use Rattle.arj_loop.specs.Forms.{IsBadBy};
 ghost use Rattle.arj_loop.specs.Limits.{EndsAtFrames};
 ghost use Rattle.arj_script.specs.declared.limits.TheConstants.{LINE_BYTES, SCRIPT_LINES};
 ghost use Rattle.arj_loop.specs.Running.{StageOf, Started, Stepped, Refused, IsStanding, AsksTooMany, Moved, end_of, events_run, held_by, last_body, overflown};
 
-use crate::built::read_built;
 use crate::ending::{BadLine, End};
 use crate::machine::{EventFault, Machine, StartFault};
+use crate::reading::read_item;
 use arj_disk::{Disk, Rack};
 use arj_journal::{Body, Event, Header, Lines, Which};
 use arj_script::{Item, LINE_BYTES, Reader, SCRIPT_LINES};
@@ -51,6 +51,13 @@ impl<M> Runner<M> {
             Some(machine) => machine.is_over(),
             None => false,
         }
+    }
+
+    /// Hands the machine out, if `run` was read.
+    pub fn take_machine(&mut self) -> Option<M>
+        ensures { result ≡ self.old.machine }
+    {
+        self.machine.take()
     }
 
     /// How the run ends where the input was read to its end and every line was run.
@@ -128,14 +135,14 @@ impl<M> Runner<M> {
         ensures grown { OnOk result ((added : List Line) × (journal.new ≡ journal.old ++ added)) }
         ensures full { OnOk result (overflown M.Machine self.new.machine ≡ true → EndsAtFrames journal.new) }
         ensures bad { (why : BadLine) → IsErrOf result (End.Bad why) → (self.old.lines < SCRIPT_LINES ⊎ (LINE_BYTES < length line.now))
-            × IsBadOf (takes M.takes_nodes M.takes_event) self.old.reader line.now × IsBadWhy (takes M.takes_nodes M.takes_event) why self.old.reader line.now }
+            × IsBadLine self.old.reader line.now × IsBadBy why self.old.reader line.now }
         ensures many { IsErrOf result End.Lines → (SCRIPT_LINES ≤ self.old.lines) × (length line.now ≤ LINE_BYTES) }
         ensures kept { (((why : BadLine) × IsErrOf result (End.Bad why)) ⊎ IsErrOf result End.Lines) → (self.new.machine ≡ self.old.machine) × (self.new.lines ≡ self.old.lines)
             × (rack.new ≡ rack.old) }
         ensures labels { IsErrOf result End.Labels → (first : List D) (lines : List (List ℕ)) → StageOf M.Machine first rack.old lines self.old journal.old
             → (now : StageOf M.Machine first rack.new lines self.new journal.new) × (self.new.lines < SCRIPT_LINES) × AsksTooMany M.Machine now.header rack.new self.new.machine self.new.reader line.now }
         ensures labels_going { IsErrOf result End.Labels → overflown M.Machine self.new.machine ≡ false }
-        ensures format { IsErrOf result End.Format → HasFormOf (takes M.takes_nodes M.takes_event) self.old.reader line.now Run × (self.old.lines < SCRIPT_LINES) × (self.old.machine ≡ None) × M.stopped rack.old rack.new }
+        ensures format { IsErrOf result End.Format → HasForm self.old.reader line.now Run × (self.old.lines < SCRIPT_LINES) × (self.old.machine ≡ None) × (self.new.machine ≡ None) × M.stopped rack.old rack.new }
         ensures still { IfErr result (λ end. end ≢ End.Memory → journal.new ≡ journal.old) }
         ensures only { IfErr result (λ end. (end ≢ End.Whole) × (end ≢ End.Fault) × (end ≢ End.Write) × (end ≢ End.Frames)) }
         ensures moved { Moved M.Machine rack.old rack.new }
@@ -143,7 +150,7 @@ impl<M> Runner<M> {
         if self.is_full(line) {
             return Err(End::Lines);
         }
-        match read_built::<D, M>(&mut self.reader, line) {
+        match read_item(&mut self.reader, line) {
             Err(end) => Err(end),
             Ok(Item::Blank) => self.pass(),
             Ok(Item::Part) => self.pass(),
@@ -157,12 +164,11 @@ impl<M> Runner<M> {
     where
         M: Machine<D>,
         requires form { HeaderInForm header }
-        requires takes { M.takes_nodes header.nodes ≡ true }
         requires ready { M.ready rack.old }
         requires room { self.old.lines < SCRIPT_LINES }
         ensures started { OnOk result (Started M.Machine rack.old rack.new header self.new.machine) }
         ensures line { OnOk result ((self.new.reader ≡ self.old.reader) × (self.new.lines ≡ self.old.lines + 1)) }
-        ensures format { IsErrOf result End.Format → M.stopped rack.old rack.new }
+        ensures format { IsErrOf result End.Format → (self.new.machine ≡ self.old.machine) × M.stopped rack.old rack.new }
         ensures only { IfErr result (λ end. (end ≡ End.Format) ⊎ (end ≡ End.Memory)) }
         ensures moved { Moved M.Machine rack.old rack.new }
     {
@@ -187,7 +193,6 @@ impl<M> Runner<M> {
     where
         M: Machine<D>,
         requires form { EventInForm event }
-        requires takes { M.takes_event event ≡ true }
         requires step { IsStanding M.Machine rack.old journal.old self.old.machine }
         requires room { self.old.lines < SCRIPT_LINES }
         ensures ran { OnOk result (Stepped M.Machine (held_by rack.old self.old.machine journal.old) (held_by rack.new self.new.machine journal.new) event) }

@@ -1,5 +1,5 @@
 -- what the end of the run shows
-use Rattle.std.proofs.Common.{◌≡◌, refl, subst, sym}
+use Rattle.std.proofs.Common.{◌≡◌, ◌∙◌, ap, refl, subst, sym}
 use Rattle.std.proofs.Math.Logic.{⊎_elim}
 use Rattle.arj_loop.specs.Replayed.{StopsShort, answer, outside}
 use Rattle.arj_loop.specs.Running.{work}
@@ -18,7 +18,8 @@ returns-in-Ok-clause-closes g c four five =
     let e = c.run-end.ensures.ended in
     let put = c.close-status.ensures.put five in
     let made = closes g.M.Machine e.0 c.args.rack.now (g.K.Sink.taken c.args.sink.now) (work c.run-end.new.rack c.run-end.new.self c.run-end.new.journal (g.K.Sink.taken c.run-end.new.sink)) c.run-end.result c.close-status.new.journal c.close-status.new.session.gather.waiting.items c.close-status.result e.2 c.if-is_write.ensures c.close-status.ensures.put five in
-    closes_of g.M.Machine (outside (g.S.AskedSource.left c.args.source.now) (g.S.AskedSource.faults c.args.source.now) (g.K.Sink.taken c.args.sink.now) c.args.rack.now) (outside (g.S.AskedSource.left c.run-end.new.source) (g.S.AskedSource.faults c.run-end.new.source) (g.K.Sink.taken c.flush.new.sink) c.run-end.new.rack) e.0 c.run-end.result (answer c.close-status.result c.why.result c.close-status.new.journal) e.1 put.0 c.why.ensures made.0
+    closes_of g.M.Machine (outside (g.S.AskedSource.left c.args.source.now) (g.S.AskedSource.faults c.args.source.now) (g.K.Sink.taken c.args.sink.now) c.args.rack.now) (outside (g.S.AskedSource.left c.run-end.new.source) (g.S.AskedSource.faults c.run-end.new.source) (g.K.Sink.taken c.flush.new.sink) c.run-end.new.rack) e.0 c.run-end.result (answer c.close-status.result c.why.result c.close-status.new.journal c.take_machine.result) e.1 put.0 c.why.ensures made.0.0
+    (c.take_machine.ensures ∙ ap (λ r. r.machine) c.close-status.ensures.runner ∙ made.0.1)
     (gathers_taken c.close-status.new.journal c.close-status.new.session.gather.waiting.items (g.K.Sink.taken c.args.sink.now) (g.K.Sink.taken c.run-end.new.sink) (g.K.Sink.taken c.flush.new.sink) made.1 c.in-Ok.ensures.wrote)
 
 pub returns-in-Ok-clause-short : goal.returns-in-Ok-clause-short
@@ -38,5 +39,5 @@ returns-clause-short g c _ =
     (wants g.M.Machine e.0 c.args.rack.now (g.K.Sink.taken c.args.sink.now) (work c.run-end.new.rack c.run-end.new.self c.run-end.new.journal (g.K.Sink.taken c.run-end.new.sink)) c.run-end.result c.close-status.new.session.gather.waiting.items e.2 c.if-is_write.ensures (c.close-status.ensures.memory five)) front.1)
     (λ other.
     let made = closes g.M.Machine e.0 c.args.rack.now (g.K.Sink.taken c.args.sink.now) (work c.run-end.new.rack c.run-end.new.self c.run-end.new.journal (g.K.Sink.taken c.run-end.new.sink)) c.run-end.result c.close-status.new.journal c.close-status.new.session.gather.waiting.items c.close-status.result e.2 c.if-is_write.ensures c.close-status.ensures.put other in
-    short_closed g.M.Machine (outside (g.S.AskedSource.left c.args.source.now) (g.S.AskedSource.faults c.args.source.now) (g.K.Sink.taken c.args.sink.now) c.args.rack.now) (outside (g.S.AskedSource.left c.run-end.new.source) (g.S.AskedSource.faults c.run-end.new.source) (g.K.Sink.taken c.flush.new.sink) c.run-end.new.rack) e.0 c.run-end.result c.close-status.new.journal c.close-status.new.session.gather.waiting.items (g.K.Sink.taken c.run-end.new.sink) front.0 e.1 made.0 made.1 front.1)
+    short_closed g.M.Machine (outside (g.S.AskedSource.left c.args.source.now) (g.S.AskedSource.faults c.args.source.now) (g.K.Sink.taken c.args.sink.now) c.args.rack.now) (outside (g.S.AskedSource.left c.run-end.new.source) (g.S.AskedSource.faults c.run-end.new.source) (g.K.Sink.taken c.flush.new.sink) c.run-end.new.rack) e.0 c.run-end.result c.close-status.new.journal c.close-status.new.session.gather.waiting.items (g.K.Sink.taken c.run-end.new.sink) front.0 e.1 made.0.0 made.1 front.1)
     (is_5 c.close-status.result)

@@ -4,94 +4,74 @@ use Rattle.std.proofs.Math.Logic.{⊎_elim}
 use Rattle.std.proofs.lemmas.Bool.{cases_lt}
 use Rattle.arj_script.specs.Grammar.{Start}
 use Rattle.arj_script.specs.Input.{TellsInForm}
-use Rattle.arj_loop.specs.Built.{takes}
 use Rattle.arj_loop.specs.declared.ending.End.TheVariants as ending
 use Rattle.arj_loop.specs.Running.{StageOf}
-use Rattle.arj_loop.proofs.Stages.{Taken, stage_quiet, stage_run, stage_event, stage_labels, standing, place_taken, header_taken, ready_at, event_in_form, both_ok, ok_from, stage_moved, limited_moved, moved_none}
+use Rattle.arj_loop.proofs.Stages.{Taken, stage_quiet, stage_run, stage_event, stage_labels, standing, ready_at, event_in_form, both_ok, ok_from, stage_moved, limited_moved, moved_none}
 use Rattle.arj_loop.proofs.run.Runner.line.Goals as goal
-
--- the header that is being read has a count of nodes that is taken
-pub read_built-requires : goal.read_built-requires
-read_built-requires g c =
-    let r = c.requires.stage in
-    let s = r.2 in
-    place_taken g.M.Machine.takes_nodes g.M.Machine.takes_event Start r.1 s.forms c.args.self.now.reader tt s.read
 
 pub start-requires-clause-form : goal.start-requires-clause-form
 start-requires-clause-form g c = subst TellsInForm c.in-Ok-Run.field-0-is c.in-Ok-Run.ensures.form
 
-pub start-requires-clause-takes : goal.start-requires-clause-takes
-start-requires-clause-takes g c =
-    let r = c.requires.stage in
-    let s = r.2 in
-    let taken = subst (λ i. Taken (takes g.M.Machine.takes_nodes g.M.Machine.takes_event) c.args.self.now.reader c.args.line.now i c.read_built.new.reader) c.in-Ok-Run.field-0-is c.in-Ok-Run.ensures.taken in
-    header_taken g.M.Machine.takes_nodes g.M.Machine.takes_event r.1 c.args.line.now s.forms c.args.self.now.reader c.read_built.new.reader c.in-Ok-Run.header s.read taken
-
 pub start-requires-clause-ready : goal.start-requires-clause-ready
 start-requires-clause-ready g c =
-    let taken = subst (λ i. Taken (takes g.M.Machine.takes_nodes g.M.Machine.takes_event) c.args.self.now.reader c.args.line.now i c.read_built.new.reader) c.in-Ok-Run.field-0-is c.in-Ok-Run.ensures.taken in
+    let taken = subst (λ i. Taken c.args.self.now.reader c.args.line.now i c.read_item.new.reader) c.in-Ok-Run.field-0-is c.in-Ok-Run.ensures.taken in
     let r = c.requires.stage in
-    ready_at g.M.Machine r.0 c.args.rack.now r.1 c.args.line.now c.args.self.now.reader c.read_built.new.reader c.in-Ok-Run.header c.args.self.now.machine c.args.self.now.lines c.args.journal.now taken r.2
+    ready_at g.M.Machine r.0 c.args.rack.now r.1 c.args.line.now c.args.self.now.reader c.read_item.new.reader c.in-Ok-Run.header c.args.self.now.machine c.args.self.now.lines c.args.journal.now taken r.2
 
 pub step-requires-clause-form : goal.step-requires-clause-form
 step-requires-clause-form g c =
-    let taken = subst (λ i. Taken (takes g.M.Machine.takes_nodes g.M.Machine.takes_event) c.args.self.now.reader c.args.line.now i c.read_built.new.reader) c.in-Ok-Event.field-0-is c.in-Ok-Event.ensures.taken in
-    (event_in_form g.M.Machine.takes_nodes g.M.Machine.takes_event c.args.self.now.reader c.args.line.now c.read_built.new.reader c.in-Ok-Event.event taken).0
-
-pub step-requires-clause-takes : goal.step-requires-clause-takes
-step-requires-clause-takes g c =
-    let taken = subst (λ i. Taken (takes g.M.Machine.takes_nodes g.M.Machine.takes_event) c.args.self.now.reader c.args.line.now i c.read_built.new.reader) c.in-Ok-Event.field-0-is c.in-Ok-Event.ensures.taken in
-    (event_in_form g.M.Machine.takes_nodes g.M.Machine.takes_event c.args.self.now.reader c.args.line.now c.read_built.new.reader c.in-Ok-Event.event taken).1
+    let taken = subst (λ i. Taken c.args.self.now.reader c.args.line.now i c.read_item.new.reader) c.in-Ok-Event.field-0-is c.in-Ok-Event.ensures.taken in
+    event_in_form c.args.self.now.reader c.args.line.now c.read_item.new.reader c.in-Ok-Event.event taken
 
 pub step-requires-clause-step : goal.step-requires-clause-step
 step-requires-clause-step g c =
-    let taken = subst (λ i. Taken (takes g.M.Machine.takes_nodes g.M.Machine.takes_event) c.args.self.now.reader c.args.line.now i c.read_built.new.reader) c.in-Ok-Event.field-0-is c.in-Ok-Event.ensures.taken in
+    let taken = subst (λ i. Taken c.args.self.now.reader c.args.line.now i c.read_item.new.reader) c.in-Ok-Event.field-0-is c.in-Ok-Event.ensures.taken in
     let r = c.requires.stage in
-    standing g.M.Machine r.0 c.args.rack.now r.1 c.args.line.now c.args.self.now.reader c.read_built.new.reader c.in-Ok-Event.event c.args.self.now.machine c.args.self.now.lines c.args.journal.now taken r.2 c.requires.going
+    standing g.M.Machine r.0 c.args.rack.now r.1 c.args.line.now c.args.self.now.reader c.read_item.new.reader c.in-Ok-Event.event c.args.self.now.machine c.args.self.now.lines c.args.journal.now taken r.2 c.requires.going
 
 pub returns-in-Ok-Blank-clause-went : goal.returns-in-Ok-Blank-clause-went
 returns-in-Ok-Blank-clause-went g c =
-    let taken = subst (λ i. Taken (takes g.M.Machine.takes_nodes g.M.Machine.takes_event) c.args.self.now.reader c.args.line.now i c.read_built.new.reader) c.in-Ok-Blank.field-0-is c.in-Ok-Blank.ensures.taken in
+    let taken = subst (λ i. Taken c.args.self.now.reader c.args.line.now i c.read_item.new.reader) c.in-Ok-Blank.field-0-is c.in-Ok-Blank.ensures.taken in
     ok_from c.pass.result (λ _ first lines s.
     subst (λ r. StageOf g.M.Machine first c.args.rack.now (lines ++ c.args.line.now ∷ []) r c.args.journal.now) (sym c.pass.ensures.line)
-    (stage_quiet g.M.Machine first c.args.rack.now lines c.args.line.now c.args.self.now.reader c.read_built.new.reader c.args.self.now.machine c.args.self.now.lines c.args.journal.now
-    (taken.0, taken.1, inl taken.2, taken.3) (c.if-is_full.ensures taken.1.has.short) s))
+    (stage_quiet g.M.Machine first c.args.rack.now lines c.args.line.now c.args.self.now.reader c.read_item.new.reader c.args.self.now.machine c.args.self.now.lines c.args.journal.now
+    (taken.0, taken.1, inl taken.2, taken.3) (c.if-is_full.ensures taken.1.short) s))
 
 pub returns-in-Ok-Part-clause-went : goal.returns-in-Ok-Part-clause-went
 returns-in-Ok-Part-clause-went g c =
-    let taken = subst (λ i. Taken (takes g.M.Machine.takes_nodes g.M.Machine.takes_event) c.args.self.now.reader c.args.line.now i c.read_built.new.reader) c.in-Ok-Part.field-0-is c.in-Ok-Part.ensures.taken in
+    let taken = subst (λ i. Taken c.args.self.now.reader c.args.line.now i c.read_item.new.reader) c.in-Ok-Part.field-0-is c.in-Ok-Part.ensures.taken in
     ok_from c.pass-in-Ok-Part.result (λ _ first lines s.
     subst (λ r. StageOf g.M.Machine first c.args.rack.now (lines ++ c.args.line.now ∷ []) r c.args.journal.now) (sym c.pass-in-Ok-Part.ensures.line)
-    (stage_quiet g.M.Machine first c.args.rack.now lines c.args.line.now c.args.self.now.reader c.read_built.new.reader c.args.self.now.machine c.args.self.now.lines c.args.journal.now
-    (taken.0, taken.1, inr taken.2, taken.3) (c.if-is_full.ensures taken.1.has.short) s))
+    (stage_quiet g.M.Machine first c.args.rack.now lines c.args.line.now c.args.self.now.reader c.read_item.new.reader c.args.self.now.machine c.args.self.now.lines c.args.journal.now
+    (taken.0, taken.1, inr taken.2, taken.3) (c.if-is_full.ensures taken.1.short) s))
 
 pub returns-in-Ok-Run-clause-went : goal.returns-in-Ok-Run-clause-went
 returns-in-Ok-Run-clause-went g c =
-    let taken = subst (λ i. Taken (takes g.M.Machine.takes_nodes g.M.Machine.takes_event) c.args.self.now.reader c.args.line.now i c.read_built.new.reader) c.in-Ok-Run.field-0-is c.in-Ok-Run.ensures.taken in
+    let taken = subst (λ i. Taken c.args.self.now.reader c.args.line.now i c.read_item.new.reader) c.in-Ok-Run.field-0-is c.in-Ok-Run.ensures.taken in
     both_ok c.start.result (λ started line first lines s.
-    stage_moved g.M.Machine first c.start.new.rack (lines ++ c.args.line.now ∷ []) c.read_built.new.reader c.start.new.self.reader c.start.new.self.machine (c.args.self.now.lines + 1) c.start.new.self.lines c.args.journal.now line.0 line.1
-    (stage_run g.M.Machine first c.args.rack.now c.start.new.rack lines c.args.line.now c.args.self.now.reader c.read_built.new.reader c.in-Ok-Run.header c.args.self.now.machine c.start.new.self.machine c.args.self.now.lines c.args.journal.now
-    taken (c.if-is_full.ensures taken.1.has.short) started s))
+    stage_moved g.M.Machine first c.start.new.rack (lines ++ c.args.line.now ∷ []) c.read_item.new.reader c.start.new.self.reader c.start.new.self.machine (c.args.self.now.lines + 1) c.start.new.self.lines c.args.journal.now line.0 line.1
+    (stage_run g.M.Machine first c.args.rack.now c.start.new.rack lines c.args.line.now c.args.self.now.reader c.read_item.new.reader c.in-Ok-Run.header c.args.self.now.machine c.start.new.self.machine c.args.self.now.lines c.args.journal.now
+    taken (c.if-is_full.ensures taken.1.short) started s))
     c.start.ensures.started c.start.ensures.line
 
 pub returns-in-Ok-Event-clause-went : goal.returns-in-Ok-Event-clause-went
 returns-in-Ok-Event-clause-went g c =
-    let taken = subst (λ i. Taken (takes g.M.Machine.takes_nodes g.M.Machine.takes_event) c.args.self.now.reader c.args.line.now i c.read_built.new.reader) c.in-Ok-Event.field-0-is c.in-Ok-Event.ensures.taken in
+    let taken = subst (λ i. Taken c.args.self.now.reader c.args.line.now i c.read_item.new.reader) c.in-Ok-Event.field-0-is c.in-Ok-Event.ensures.taken in
     both_ok c.step.result (λ ran line first lines s.
-    stage_moved g.M.Machine first c.step.new.rack (lines ++ c.args.line.now ∷ []) c.read_built.new.reader c.step.new.self.reader c.step.new.self.machine (c.args.self.now.lines + 1) c.step.new.self.lines c.step.new.journal line.0 line.1
-    (stage_event g.M.Machine first c.args.rack.now c.step.new.rack lines c.args.line.now c.args.self.now.reader c.read_built.new.reader c.in-Ok-Event.event c.args.self.now.machine c.step.new.self.machine c.args.self.now.lines c.args.journal.now c.step.new.journal
-    taken (c.if-is_full.ensures taken.1.has.short) ran s))
+    stage_moved g.M.Machine first c.step.new.rack (lines ++ c.args.line.now ∷ []) c.read_item.new.reader c.step.new.self.reader c.step.new.self.machine (c.args.self.now.lines + 1) c.step.new.self.lines c.step.new.journal line.0 line.1
+    (stage_event g.M.Machine first c.args.rack.now c.step.new.rack lines c.args.line.now c.args.self.now.reader c.read_item.new.reader c.in-Ok-Event.event c.args.self.now.machine c.step.new.self.machine c.args.self.now.lines c.args.journal.now c.step.new.journal
+    taken (c.if-is_full.ensures taken.1.short) ran s))
     c.step.ensures.ran c.step.ensures.line
 
 pub returns-in-Ok-Event-clause-labels : goal.returns-in-Ok-Event-clause-labels
 returns-in-Ok-Event-clause-labels g c is first lines s =
-    let taken = subst (λ i. Taken (takes g.M.Machine.takes_nodes g.M.Machine.takes_event) c.args.self.now.reader c.args.line.now i c.read_built.new.reader) c.in-Ok-Event.field-0-is c.in-Ok-Event.ensures.taken in
+    let taken = subst (λ i. Taken c.args.self.now.reader c.args.line.now i c.read_item.new.reader) c.in-Ok-Event.field-0-is c.in-Ok-Event.ensures.taken in
     let kept = c.step.ensures.kept is in
-    let found = stage_labels g.M.Machine first c.args.rack.now c.step.new.rack lines c.args.line.now c.args.self.now.reader c.read_built.new.reader c.in-Ok-Event.event c.args.self.now.machine c.step.new.self.machine c.args.self.now.lines c.args.journal.now c.step.new.journal
+    let found = stage_labels g.M.Machine first c.args.rack.now c.step.new.rack lines c.args.line.now c.args.self.now.reader c.read_item.new.reader c.in-Ok-Event.event c.args.self.now.machine c.step.new.self.machine c.args.self.now.lines c.args.journal.now c.step.new.journal
     taken kept.0 (c.step.ensures.labels is) s
     in
-    limited_moved g.M.Machine first c.step.new.rack lines c.read_built.new.reader c.step.new.self.reader c.step.new.self.machine c.args.self.now.lines c.step.new.self.lines c.step.new.journal c.args.line.now
-    kept.1 kept.2 (found.0, c.if-is_full.ensures taken.1.has.short, found.1)
+    limited_moved g.M.Machine first c.step.new.rack lines c.read_item.new.reader c.step.new.self.reader c.step.new.self.machine c.args.self.now.lines c.step.new.self.lines c.step.new.journal c.args.line.now
+    kept.1 kept.2 (found.0, c.if-is_full.ensures taken.1.short, found.1)
 
 -- a line can be run where it isn't too long
 pub returns-in-Err-clause-bad : goal.returns-in-Err-clause-bad
