@@ -25,11 +25,11 @@ use Rattle.arj_loop.specs.declared.machine.Machine.{Ghosts}
 use Rattle.arj_loop.specs.Forms.{IsBadBy}
 use Rattle.arj_loop.specs.Input.{Arrived, Came, SourceView, WentOn, ReadsFewPast, arrived, script, script_of, source_view}
 use Rattle.arj_loop.specs.Replayed.{Answer, Closes, EndsSo, Outside, StopsShort, answer, outside}
-use Rattle.arj_loop.specs.Running.{Stage, StageOf, Reached, Halfway, Hand, Gathers, Fronts, Work, IsGoing, IsAtLine, HasEnded, IsOverflown, Moved, end_of, hand, hand_of, lines_before, overflown, status_of, why_of, work}
+use Rattle.arj_loop.specs.Running.{Stage, StageOf, Reached, Halfway, Hand, Gathers, Fronts, Work, IsGoing, IsAtLine, HasEnded, IsOverflown, ChangedBy, ChangedSince, end_of, hand, hand_of, header_at, lines_before, overflown, status_of, why_of, work}
 use Rattle.arj_loop.specs.Written.{IsWritten}
 use Rattle.arj_loop.proofs.Bytes.{short_of}
 use Rattle.arj_loop.proofs.Cuts.{fed_none, fed_line, fed_long, lines_line, lines_long, lines_last, lines_none}
-use Rattle.arj_loop.proofs.Stages.{Limited, moved_none}
+use Rattle.arj_loop.proofs.Stages.{Limited, unchanged}
 use Rattle.arj_loop.proofs.Statuses.{Wanted, end_kinds}
 use Rattle.arj_loop.proofs.Steps.{forms_length}
 use Rattle.arj_loop.proofs.Whole.{IsEnd, all_short, end_reached, fault_reached, front_at_4, gathers_empty, gathers_first, gathers_front, gathers_taken, line_reached, stage_first, stage_start, takes_nothing, whole_front}
@@ -59,7 +59,6 @@ ended_reached view first before given now end w m f r went past g = record {
   reached = λ _ _ _. (r, went, past);
   none = λ e. absurd (f e);
   format = λ e. absurd (f e);
-  rose = λ e. absurd (f e);
   gathers = λ _ _. g;
   memory = λ e. absurd (m e);
   write = λ e. absurd (w e);
@@ -67,7 +66,7 @@ ended_reached view first before given now end w m f r went past g = record {
 
 -- memory was wanting at a line
 pub ended_memory : {D M : Type 0} (view : Ghosts M D) (first rack : List D) (before : Option (List ℕ)) (given : Arrived) (done rest : List (List ℕ)) (runner : Runner M) (journal : List Line) (now : Work D M)
-    → (let s = script_of given in s.lines) ≡ done ++ rest → StageOf view first rack done runner journal → Moved view rack now.rack → WentOn given (length done)
+    → (let s = script_of given in s.lines) ≡ done ++ rest → (stage : StageOf view first rack done runner journal) → ChangedSince view stage.header runner.reader rest rack now.rack → WentOn given (length done)
     → Gathers journal now.session.gather.waiting.items before now.taken → HasEnded view first before given now ending.Memory
 ended_memory {D} {M} view first rack before given done rest runner journal now whole s touches went g =
     let at : Hand M = hand runner.machine runner.lines journal in
@@ -76,7 +75,6 @@ ended_memory {D} {M} view first rack before given done rest runner journal now w
       reached = λ _ m. absurd (m refl);
       none = λ e. absurd (let never : ending.Memory ≡ ending.Format = e in cc);
       format = λ e. absurd (let never : ending.Memory ≡ ending.Format = e in cc);
-      rose = λ e. absurd (let never : ending.Memory ≡ ending.Format = e in cc);
       gathers = λ _ m. absurd (m refl);
       memory = λ _. (at, half, g, went_as given (length done) runner.lines (stage_count view first rack done runner journal s) went);
       write = λ e. absurd (let never : ending.Memory ≡ ending.Write = e in cc);
@@ -87,12 +85,11 @@ pub ended_write : {D M : Type 0} (view : Ghosts M D) (first : List D) (before : 
     → (let s = script_of given in s.lines) ≡ done ++ rest → StageOf view first now.rack done now.session.runner now.journal → WentOn given (length done)
     → Fronts now.journal before now.taken → HasEnded view first before given now ending.Write
 ended_write {D} {M} view first before given done rest now whole s went front =
-    let half : Halfway view first now.rack (script_of given) (hand_of now) = record { place = now.session.runner.reader; done = done; rest = rest; whole = whole; mid = now.rack; stage = s; since = moved_none view now.rack } in
+    let half : Halfway view first now.rack (script_of given) (hand_of now) = record { place = now.session.runner.reader; done = done; rest = rest; whole = whole; mid = now.rack; stage = s; since = unchanged view s.header now.session.runner.reader rest now.rack } in
     record {
       reached = λ w. absurd (w refl);
       none = λ e. absurd (let never : ending.Write ≡ ending.Format = e in cc);
       format = λ e. absurd (let never : ending.Write ≡ ending.Format = e in cc);
-      rose = λ e. absurd (let never : ending.Write ≡ ending.Format = e in cc);
       gathers = λ w. absurd (w refl);
       memory = λ e. absurd (let never : ending.Write ≡ ending.Memory = e in cc);
       write = λ _. (hand_of now, half, front, went_as given (length done) now.session.runner.lines (stage_count view first now.rack done now.session.runner now.journal s) went);
@@ -116,7 +113,7 @@ bare_stage {D} {M} view first rack done place count journal s = (s.machine_is.1,
 
 pub ended_format : {D M : Type 0} (view : Ghosts M D) (first rack : List D) (before : Option (List ℕ)) (given : Arrived) (done : List (List ℕ)) (line : List ℕ) (tail : List (List ℕ)) (runner : Runner M) (journal : List Line) (now : Work D M)
     → (let s = script_of given in s.lines) ≡ done ++ line ∷ tail → StageOf view first rack done runner journal → now.journal ≡ journal → runner.machine ≡ None → now.session.runner.machine ≡ None → HasForm runner.reader line Run → runner.lines < 100000
-    → view.stopped rack now.rack → Moved view rack now.rack → WentOn given (length done) → ReadsFewPast given (length done) → Gathers journal now.session.gather.waiting.items before now.taken → HasEnded view first before given now ending.Format
+    → view.stopped rack now.rack → view.moved (header_at runner.reader) [] rack now.rack → WentOn given (length done) → ReadsFewPast given (length done) → Gathers journal now.session.gather.waiting.items before now.taken → HasEnded view first before given now ending.Format
 ended_format {D} {M} view first rack before given done line tail runner journal now whole s still none unmade form room rose moved went past g =
     let count = stage_count view first rack done runner journal s in
     let bare = bare_stage view first rack done runner.reader runner.lines journal (subst (λ en. Stage view first rack done runner.reader (hand en runner.lines journal)) none s) in
@@ -132,8 +129,14 @@ ended_format {D} {M} view first rack before given done line tail runner journal 
     record {
       reached = λ _ _ f. absurd (f refl);
       none = λ _. unmade;
-      format = λ _. (runner.lines, at, went_as given (length done) runner.lines count went, past_as given (length done) runner.lines count past);
-      rose = λ _. (subst (λ r. view.stopped r now.rack) bare.0 rose, subst (λ r. Moved view r now.rack) bare.0 moved);
+      format = λ _. (
+        runner.lines,
+        at,
+        went_as given (length done) runner.lines count went,
+        past_as given (length done) runner.lines count past,
+        subst (λ r. view.stopped r now.rack) bare.0 rose,
+        subst (λ r. view.moved (header_at runner.reader) [] r now.rack) bare.0 moved,
+      );
       gathers = λ _ _. subst (λ js. Gathers js now.session.gather.waiting.items before now.taken) (sym still) g;
       memory = λ e. absurd (let never : ending.Format ≡ ending.Memory = e in cc);
       write = λ e. absurd (let never : ending.Format ≡ ending.Write = e in cc);
@@ -175,10 +178,10 @@ pub record RunnerEnds {D M : Type 0} (view : Ghosts M D) (was : Work D M) (now :
   pub labels : IsEnd end ending.Labels → (first : List D) (lines : List (List ℕ)) → StageOf view first was.rack lines was.session.runner was.journal
       → Limited view first now.rack lines now.session.runner.reader now.session.runner.machine now.session.runner.lines now.journal was.session.cutter
   pub labels_going : IsEnd end ending.Labels → overflown view now.session.runner.machine ≡ false
-  pub format : IsEnd end ending.Format → HasForm was.session.runner.reader was.session.cutter Run × (was.session.runner.lines < 100000) × (was.session.runner.machine ≡ None) × (now.session.runner.machine ≡ None) × view.stopped was.rack now.rack
+  pub format : IsEnd end ending.Format → HasForm was.session.runner.reader was.session.cutter Run × (was.session.runner.lines < 100000) × (was.session.runner.machine ≡ None) × (now.session.runner.machine ≡ None) × view.stopped was.rack now.rack × view.moved (header_at was.session.runner.reader) [] was.rack now.rack
   pub still : (end ≡ ending.Memory → ⊥) → now.journal ≡ was.journal
   pub only : (end ≡ ending.Whole → ⊥) × (end ≡ ending.Fault → ⊥) × (end ≡ ending.Write → ⊥) × (end ≡ ending.Frames → ⊥)
-  pub moved : Moved view was.rack now.rack
+  pub moved : (first : List D) (lines : List (List ℕ)) (stage : StageOf view first was.rack lines was.session.runner was.journal) → ChangedBy view stage.header was.session.runner.reader was.session.cutter was.rack now.rack
   pub waits : now.session.gather.waiting.items ≡ was.session.gather.waiting.items
   pub taken : now.taken ≡ was.taken
 
@@ -189,9 +192,9 @@ ended_line {D} view first before given done was now end r at =
     (λ stopped.
     let f = r.format (ap Err stopped) in
     subst (λ e. HasEnded view first before given now e) (sym stopped) (ended_format view first was.rack before given done was.session.cutter at.tail was.session.runner was.journal now at.cut at.stage
-    (r.still (λ m. (let never : ending.Format ≡ ending.Memory = sym stopped ∙ m in cc))) f.2 f.3 f.0 f.1 f.4 r.moved at.went_on at.past gathers))
+    (r.still (λ m. (let never : ending.Format ≡ ending.Memory = sym stopped ∙ m in cc))) f.2 f.3 f.0 f.1 f.4 f.5 at.went_on at.past gathers))
     (λ rest. ⊎_elim
-    (λ wanting. subst (λ e. HasEnded view first before given now e) (sym wanting) (ended_memory view first was.rack before given done (was.session.cutter ∷ at.tail) was.session.runner was.journal now at.cut at.stage r.moved at.went_on gathers))
+    (λ wanting. subst (λ e. HasEnded view first before given now e) (sym wanting) (ended_memory view first was.rack before given done (was.session.cutter ∷ at.tail) was.session.runner was.journal now at.cut at.stage (r.moved first done at.stage) at.went_on gathers))
     (λ more. ⊎_elim
     (λ failed. absurd (r.only.2 failed))
     (λ other.
@@ -512,7 +515,7 @@ pub short_first : {D M : Type 0} (view : Ghosts M D) (left : Option (List ℕ)) 
 short_first {D} {M} view left faults taken rack ready =
     let at : Hand M = hand None 0 [] in
     let half : Halfway view rack rack (script AtRunEnd (lines_of AtRunEnd [])) at =
-    record { place = Start; done = []; rest = lines_of AtRunEnd []; whole = refl; mid = rack; stage = stage_first view rack ready; since = moved_none view rack }
+    record { place = Start; done = []; rest = lines_of AtRunEnd []; whole = refl; mid = rack; stage = stage_first view rack ready; since = unchanged view (let s = stage_first view rack ready in s.header) Start (lines_of AtRunEnd []) rack }
     in
     record {
       given = arrived [] [] AtRunEnd;

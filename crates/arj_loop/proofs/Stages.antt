@@ -1,5 +1,5 @@
 -- One line more of a run.
-use Rattle.std.proofs.Common.{◌≡◌, ℕ, ◌+◌, ◌<◌, ◌⊎◌, List, [], ◌∷◌, ◌++◌, length, length-append, Bool, true, false, Option, Some, None, Result, Ok, Err, OnOk, IsOk, refl, sym, ◌∙◌, ap, subst, arith}
+use Rattle.std.proofs.Common.{◌≡◌, inl, inr, ℕ, ◌+◌, ◌<◌, ◌⊎◌, List, [], ◌∷◌, ◌++◌, length, length-append, Bool, true, false, Option, Some, None, Result, Ok, Err, OnOk, IsOk, refl, sym, ◌∙◌, ap, subst, arith}
 use Rattle.std.proofs.Math.Logic.{⊎_elim}
 use Rattle.std.proofs.lemmas.List.{append-nil}
 use Rattle.arj_journal.specs.ScriptForm.{EventInForm}
@@ -15,7 +15,7 @@ use Rattle.arj_script.proofs.Lines.{events_of-append}
 use Rattle.arj_loop.specs.declared.machine.Machine.{Ghosts}
 use Rattle.arj_loop.specs.Forms.{HaveForms}
 use Rattle.arj_loop.specs.Input.{header_from}
-use Rattle.arj_loop.specs.Running.{MachineRuns, Stage, Started, Stepped, Refused, IsStanding, AsksTooMany, Moved, Chain, hand, held_by, overflown}
+use Rattle.arj_loop.specs.Running.{MachineRuns, Stage, Started, Stepped, Refused, IsStanding, AsksTooMany, AskedOf, ChangedBy, ChangedSince, HasRun, hand, header_at, held_by, overflown}
 use Rattle.arj_loop.proofs.Steps.{events_within, have_forms_more, header_stays, header_then}
 
 -- the reader's answer
@@ -112,6 +112,14 @@ pub ready_at : {D M : Type 0} (view : Ghosts M D) (first rack : List D) (lines :
     → Taken place line (item.Run header) after → Stage view first rack lines place (hand machine count journal) → view.ready rack
 ready_at view first rack lines line place after header None count journal taken s = subst view.ready (sym s.machine_is.1) s.machine_is.5
 ready_at view first rack lines line place after header (Some machine) count journal taken s =
+    let run = run_of place line taken.0 header taken.1 taken.2 in
+    absurd (not_objects run.nodes run.objects (sym run.place_is ∙ s.machine_is.0))
+
+-- nor is a machine made
+pub bare_at : {D M : Type 0} (view : Ghosts M D) (first rack : List D) (lines : List (List ℕ)) (line : List ℕ) (place after : Place) (header : Header) (machine : Option M) (count : ℕ) (journal : List Line)
+    → Taken place line (item.Run header) after → Stage view first rack lines place (hand machine count journal) → machine ≡ None
+bare_at view first rack lines line place after header None count journal taken s = refl
+bare_at view first rack lines line place after header (Some machine) count journal taken s =
     let run = run_of place line taken.0 header taken.1 taken.2 in
     absurd (not_objects run.nodes run.objects (sym run.place_is ∙ s.machine_is.0))
 
@@ -285,16 +293,41 @@ limited_moved view first rack lines p q machine m n journal line place count h =
     subst (λ k. Limited view first rack lines q machine k journal line) (sym count)
     (subst (λ r. Limited view first rack lines r machine m journal line) (sym place) h)
 
--- what calls did to the disks
-pub moved_none : {D M : Type 0} (view : Ghosts M D) (rack : List D) → Moved view rack rack
-moved_none view rack = ([], refl)
+-- ---- what a line did to the disks
 
-pub moved_once : {D M : Type 0} (view : Ghosts M D) (a b : List D) → view.moved a b → Moved view a b
-moved_once view a b h = (b ∷ [], (h, refl))
+-- they have stayed
+pub unchanged : {D M : Type 0} (view : Ghosts M D) (header : Header) (place : Place) (lines : List (List ℕ)) (rack : List D) → ChangedSince view header place lines rack rack
+unchanged view header place [] rack = refl
+unchanged view header place (line ∷ lines) rack = inl refl
 
-chain_more : {A : Type 0} (R : A → A → Type 0) (a : A) (bs : List A) (c : A) (ds : List A) (e : A) → Chain R a bs c → Chain R c ds e → Chain R a (bs ++ ds) e
-chain_more R a [] c ds e first more = subst (λ x. Chain R x ds e) (sym first) more
-chain_more R a (b ∷ bs) c ds e first more = (first.0, chain_more R b bs c ds e first.1 more)
+-- they were formatted
+pub format_since : {D M : Type 0} (view : Ghosts M D) (header : Header) (place : Place) (line : List ℕ) (rest tail : List (List ℕ)) (before after : List D) → rest ≡ line ∷ tail → HasForm place line Run → view.moved (header_at place) [] before after
+    → ChangedSince view header place rest before after
+format_since view header place line rest tail before after is form moved = subst (λ lines. ChangedSince view header place lines before after) (sym is) (inr (Run, form, moved))
 
-pub moved_more : {D M : Type 0} (view : Ghosts M D) (a b c : List D) → Moved view a b → Moved view b c → Moved view a c
-moved_more view a b c first more = (first.0 ++ more.0, chain_more view.moved a first.0 b more.0 c first.1 more.1)
+-- `run` ends the header of its place
+header_is : (place : Place) (header : Header) (n : ℕ) (os : List ObjectLine) → place ≡ Objects n os → header.nodes ≡ n → header.objects ≡ os → header ≡ header_at place
+header_is place header n os is nodes objects = (λ i. record { nodes = nodes i; objects = objects i }) ∙ ap header_at (sym is)
+
+pub formatted_by : {D M : Type 0} (view : Ghosts M D) (before after : List D) (place : Place) (line : List ℕ) (next : Place) (header : Header)
+    → Taken place line (item.Run header) next → view.moved header [] before after → HasForm place line Run × view.moved (header_at place) [] before after
+formatted_by view before after place line next header taken moved =
+    let run = run_of place line taken.0 header taken.1 taken.2 in (
+      subst (λ f. HasForm place line f) run.form_is taken.1,
+      subst (λ h. view.moved h [] before after) (header_is place header run.nodes run.objects run.place_is run.nodes_are run.objects_are) moved,
+    )
+
+-- `run` formats the disks
+pub changed_run : {D M : Type 0} (view : Ghosts M D) (given : Header) (before after : List D) (place : Place) (line : List ℕ) (next : Place) (header : Header)
+    → Taken place line (item.Run header) next → view.moved header [] before after → ChangedBy view given place line before after
+changed_run view given before after place line next header taken moved = let f = formatted_by view before after place line next header taken moved in inr (Run, f.0, f.1)
+
+-- an event is run under the header of the lines before it
+pub changed_event : {D M : Type 0} (view : Ghosts M D) (first rack after : List D) (lines : List (List ℕ)) (line : List ℕ) (place next : Place) (e : Event) (machine : Option M) (count : ℕ) (journal : List Line)
+    → Taken place line (item.Event e) next → (stage : Stage view first rack lines place (hand machine count journal))
+    → ((first : List D) (header : Header) (events : List Event) → HasRun view first header events (held_by rack machine journal) → view.moved header (e ∷ []) rack after)
+    → ChangedBy view stage.header place line rack after
+changed_event view first rack after lines line place next e None count journal taken s moved = absurd (s.machine_is.0 (event_of place line taken.0 e taken.1 taken.2).place_is)
+changed_event view first rack after lines line place next e (Some machine) count journal taken s moved =
+    let is = event_of place line taken.0 e taken.1 taken.2 in
+    inr (Asks e, subst (λ f. HasForm place line f) is.form_is taken.1, moved first s.header (events_of s.forms) s.machine_is.2)

@@ -10,7 +10,7 @@ use Rattle.arj_loop.specs.declared.machine.Machine.{Ghosts}
 use Rattle.arj_loop.specs.Input.{Arrived, WentOn, ReadsFewPast, script_of}
 use Rattle.arj_loop.specs.Replayed.{EndsSo}
 use Rattle.arj_loop.specs.Running.{Hand, HasEnded, Halfway, Reached, Gathers, Work, hand, hand_of, last_body, last_lines, lines_before, status_of, events_run}
-use Rattle.arj_loop.proofs.Stages.{moved_none}
+use Rattle.arj_loop.proofs.Stages.{format_since, unchanged}
 use Rattle.arj_loop.proofs.Whole.{gathers_more}
 
 pub status_fits : (end : End) → (status_of end ≤ 7) × (status_of end ≢ 1)
@@ -98,14 +98,13 @@ closed_by {D} {M} view given first before now end journal h write memory is =
     ⊎_elim
     (λ stopped.
     let f = h.format stopped in
-    let r = h.rose stopped in
     let bare : Hand M = hand None f.0 now.journal in
     let count = sym (format_before end f.0 stopped) in (
       record {
         at = bare;
         mid = first;
         reached = subst (λ e. Reached view first first (script_of given) bare e) (sym stopped) f.1;
-        racks = inl (stopped, refl, r.0, r.1);
+        racks = inl (stopped, f.4, f.5);
         journal_is = is ∙ ap (λ ls. now.journal ++ ls) (format_last view end (hand_of now) bare stopped);
         went_on = subst (λ n. WentOn given n) count f.2;
         past = subst (λ n. ReadsFewPast given n) count f.3;
@@ -161,10 +160,10 @@ wants {D} {M} view given first before now end after h write same =
     (λ stopped.
     let f = h.format stopped in
     let r = f.1 in
-    let rose = h.rose stopped in
+    let why = r.why in
     record {
       at = hand None f.0 now.journal;
-      half = record { place = r.place; done = r.done; rest = r.rest; whole = r.whole; mid = first; stage = r.stage; since = rose.1 };
+      half = record { place = r.place; done = r.done; rest = r.rest; whole = r.whole; mid = first; stage = r.stage; since = format_since view (let s = r.stage in s.header) r.place why.0 r.rest why.1 first now.rack why.2 why.3 f.5 };
       went_on = f.2;
       gathers = subst (λ w. Gathers now.journal w before now.taken) (sym same) (h.gathers write (λ m. (let never : ending.Format ≡ ending.Memory = sym stopped ∙ m in cc)));
     })
@@ -179,7 +178,7 @@ wants {D} {M} view given first before now end after h write same =
     let r = found.0 in
     record {
       at = hand_of now;
-      half = record { place = r.place; done = r.done; rest = r.rest; whole = r.whole; mid = now.rack; stage = r.stage; since = moved_none view now.rack };
+      half = record { place = r.place; done = r.done; rest = r.rest; whole = r.whole; mid = now.rack; stage = r.stage; since = unchanged view (let s = r.stage in s.header) r.place r.rest now.rack };
       went_on = fewer given end now.session.runner.lines found.1;
       gathers = subst (λ w. Gathers now.journal w before now.taken) (sym same) (h.gathers other.write other.memory);
     })

@@ -1,5 +1,5 @@
 -- What a run leaves: how it ended, or how far it came.
-use Rattle.std.specs.Prelude.{◌≡◌, ◌≢◌, ◌⊎◌, ℕ, List, ◌++◌, length, take, Option, None}
+use Rattle.std.specs.Prelude.{◌≡◌, ◌≢◌, ◌⊎◌, ℕ, List, [], ◌++◌, length, take, Option, None}
 use Rattle.arj_io.specs.Told.{Takes}
 use Rattle.arj_journal.specs.declared.body.Line.{Line}
 use Rattle.arj_journal.specs.LineText.{text}
@@ -7,8 +7,9 @@ use Rattle.arj_loop.specs.declared.ending.BadLine.{BadLine}
 use Rattle.arj_loop.specs.declared.ending.End.{End}
 use Rattle.arj_loop.specs.declared.ending.End.TheVariants as ending
 use Rattle.arj_loop.specs.declared.machine.Machine.{Ghosts}
+use Rattle.arj_script.specs.Grammar.{Place}
 use Rattle.arj_loop.specs.Input.{Arrived, Came, WentOn, ReadsFewPast, script_of, source_view}
-use Rattle.arj_loop.specs.Running.{Hand, Halfway, Moved, Reached, events_run, last_body, last_lines, lines_before, status_of, why_of}
+use Rattle.arj_loop.specs.Running.{Hand, Halfway, Reached, events_run, header_at, last_body, last_lines, lines_before, status_of, why_of}
 
 -- What a run finds and leaves outside of it. The bytes that are left in the source, where it tells them, and its count of
 -- failed reads; the bytes that the sink has taken, where it tells them; and the disks.
@@ -38,8 +39,8 @@ abbrev pub TookFront : ℕ → List Line → Option (List ℕ) → Option (List 
 TookFront status journal before after = (count : ℕ) × Takes before (take count (text journal)) after × (status ≡ 5 → count ≡ length (text journal))
 
 -- the disks that the run left are those of its last event, or a disk was stopped while it was formatted
-abbrev pub LeavesRack : {D M : Type 0} → Ghosts M D → End → Hand M → List D → List D → List D → Type 0
-LeavesRack m end at first mid after = ((end ≡ ending.Format) × (at.machine ≡ None) × m.stopped first after × Moved m mid after) ⊎ ((end ≢ ending.Format) × (after ≡ mid))
+abbrev pub LeavesRack : {D M : Type 0} → Ghosts M D → End → Place → List D → List D → List D → Type 0
+LeavesRack m end place first mid after = ((end ≡ ending.Format) × m.stopped first after × m.moved (header_at place) [] mid after) ⊎ ((end ≢ ending.Format) × (after ≡ mid))
 
 -- the journal, with the line outside events that the end writes
 abbrev pub whole_journal : {D M : Type 0} → Ghosts M D → End → Hand M → List Line
@@ -50,7 +51,7 @@ pub record EndsSo {D M : Type 0} (m : Ghosts M D) (given : Arrived) (first after
   pub at : Hand M
   pub mid : List D
   pub reached : Reached m first mid (script_of given) at end
-  pub racks : LeavesRack m end at first mid after
+  pub racks : LeavesRack m end reached.place first mid after
   pub journal_is : journal ≡ whole_journal m end at
   pub went_on : WentOn given (lines_before end at.count)
   pub past : ReadsFewPast given (lines_before end at.count)

@@ -1,5 +1,5 @@
 -- What holds while a script is run, line by line, and where the run ends.
-use Rattle.std.specs.Prelude.{◌≡◌, ◌≢◌, ◌⊎◌, ◌≤◌, ◌<◌, ℕ, ◌+◌, ◌-◌, List, [], ◌∷◌, ◌++◌, length, take, Bool, true, false, Option, Some, None}
+use Rattle.std.specs.Prelude.{◌≡◌, ◌≢◌, ◌⊎◌, ◌≤◌, ◌<◌, ℕ, ◌+◌, ◌-◌, List, [], ◌∷◌, ◌++◌, length, take, Bool, true, false, MatchOption, Option, Some, None}
 use Rattle.arj_io.specs.Told.{Takes}
 use Rattle.arj_journal.specs.declared.body.Body.{Body}
 use Rattle.arj_journal.specs.declared.body.Body.TheVariants as body
@@ -8,7 +8,7 @@ use Rattle.arj_journal.specs.declared.body.Line.{Line}
 use Rattle.arj_journal.specs.declared.event.Event.{Event}
 use Rattle.arj_journal.specs.declared.header.Header.{Header}
 use Rattle.arj_journal.specs.LineText.{text}
-use Rattle.arj_script.specs.Grammar.{Asks, Form, HasForm, IsBadLine, Place, Run, Running, Start}
+use Rattle.arj_script.specs.Grammar.{Asks, Form, HasForm, IsBadLine, Objects, Place, Run, Running, Start}
 use Rattle.arj_script.specs.Input.{Stopped, AtEnd, AtFault, events_of, ended_lines, rest_line}
 use Rattle.arj_loop.specs.declared.ending.BadLine.{BadLine}
 use Rattle.arj_loop.specs.declared.ending.BadLine.TheVariants as why
@@ -23,14 +23,40 @@ use Rattle.arj_loop.specs.Input.{Arrived, Script, WentOn, ReadsFewPast, header_f
 use Rattle.arj_loop.specs.Limits.{EndsAtFrames}
 use Rattle.arj_script.specs.declared.limits.TheConstants.{LINE_BYTES, SCRIPT_LINES}
 
--- what calls of a machine, one after another, did to the disks
-abbrev pub Chain : {A : Type 0} → (A → A → Type 0) → A → List A → A → Type 0
-Chain R a [] c = a ≡ c
-Chain R a (b ∷ bs) c = R a b × Chain R b bs c
+-- the header that `run` ends at a place
+abbrev pub header_at : Place → Header
+header_at (Objects n os) = record { nodes = n; objects = os }
+header_at _ = record { nodes = 0; objects = [] }
 
--- there were such calls
-abbrev pub Moved : {D M : Type 0} → Ghosts M D → List D → List D → Type 0
-Moved {D} m before after = (via : List (List D)) × Chain m.moved before via after
+-- what a line of this form asks of the disks at its place, under this header: `run` that they are formatted, an event that it
+-- is run, any other form nothing
+abbrev pub AskedOf : {D M : Type 0} → Ghosts M D → Header → Place → Form → List D → List D → Type 0
+AskedOf m header place Run before after = m.moved (header_at place) [] before after
+AskedOf m header place (Asks e) before after = m.moved header (e ∷ []) before after
+AskedOf m header place _ before after = after ≡ before
+
+-- the disks are as before, or as the line's form asked
+abbrev pub ChangedBy : {D M : Type 0} → Ghosts M D → Header → Place → List ℕ → List D → List D → Type 0
+ChangedBy m header place line before after = (after ≡ before) ⊎ ((form : Form) × HasForm place line form × AskedOf m header place form before after)
+
+-- the same of the first of these lines, if there is one
+abbrev pub ChangedSince : {D M : Type 0} → Ghosts M D → Header → Place → List (List ℕ) → List D → List D → Type 0
+ChangedSince m header place [] before after = after ≡ before
+ChangedSince m header place (line ∷ lines) before after = ChangedBy m header place line before after
+
+-- The disks, the machine and the journal at one moment of a run.
+pub record Held (D M : Type 0) : Type 0 where
+  pub rack : List D
+  pub machine : Option M
+  pub journal : List Line
+
+-- one moment of a run, of these
+abbrev pub held_by : {D M : Type 0} → List D → Option M → List Line → Held D M
+held_by rack machine journal = record { rack = rack; machine = machine; journal = journal }
+
+-- a machine, if there is one, has run these events
+abbrev pub HasRun : {D M : Type 0} → Ghosts M D → List D → Header → List Event → Held D M → Type 0
+HasRun m first header events held = MatchOption held.machine ⊥ (λ machine. m.ran first header events held.rack held.journal machine)
 
 -- Before `run` no disk has changed and no event was run; behind it the machine has run the events.
 abbrev pub MachineRuns : {D M : Type 0} → Ghosts M D → List D → List D → List Form → Place → Header → List Line → Option M → Type 0
@@ -69,16 +95,6 @@ pub record Started {D M : Type 0} (m : Ghosts M D) (before after : List D) (head
   pub ran : m.ran before header [] after [] made
   pub steps : m.steps made ≡ 0
   pub going : m.over made ≡ false
-
--- The disks, the machine and the journal at one moment of a run.
-pub record Held (D M : Type 0) : Type 0 where
-  pub rack : List D
-  pub machine : Option M
-  pub journal : List Line
-
--- one moment of a run, of these
-abbrev pub held_by : {D M : Type 0} → List D → Option M → List Line → Held D M
-held_by rack machine journal = record { rack = rack; machine = machine; journal = journal }
 
 -- The machine ran an event.
 pub record Stepped {D M : Type 0} (m : Ghosts M D) (from to : Held D M) (e : Event) : Type 0 where
@@ -161,7 +177,8 @@ pub record Reached {D M : Type 0} (m : Ghosts M D) (first rack : List D) (given 
   -- no frame was too many, but where that ended the run
   pub going : end ≢ ending.Frames → overflown m at.machine ≡ false
 
--- The run of these lines has come so far that this journal is that of their events. The disks may have changed since.
+-- The run of these lines has come so far that this journal is that of their events. The disks may have changed since, by what the
+-- next line asks.
 pub record Halfway {D M : Type 0} (m : Ghosts M D) (first rack : List D) (given : Script) (at : Hand M) : Type 0 where
   pub place : Place
   pub done : List (List ℕ)
@@ -169,7 +186,7 @@ pub record Halfway {D M : Type 0} (m : Ghosts M D) (first rack : List D) (given 
   pub whole : given.lines ≡ done ++ rest
   pub mid : List D
   pub stage : Stage m first mid done place at
-  pub since : Moved m mid rack
+  pub since : ChangedSince m stage.header place rest mid rack
 
 -- how the run ends where the input was read to its end and every line was run
 abbrev pub end_of : {M : Type 0} → Option M → End
@@ -254,8 +271,8 @@ pub record HasEnded {D M : Type 0} (m : Ghosts M D) (first : List D) (before : O
       → Reached m first now.rack (script_of given) (hand_of now) end × WentOn given (lines_before end now.session.runner.lines) × ReadsFewPast given (lines_before end now.session.runner.lines)
   -- a disk was stopped while it was formatted: before that no disk had changed, and no machine was made
   pub none : end ≡ ending.Format → now.session.runner.machine ≡ None
-  pub format : end ≡ ending.Format → (count : ℕ) × Reached m first first (script_of given) (hand None count now.journal) ending.Format × WentOn given count × ReadsFewPast given count
-  pub rose : end ≡ ending.Format → m.stopped first now.rack × Moved m first now.rack
+  pub format : end ≡ ending.Format → (count : ℕ) × (r : Reached m first first (script_of given) (hand None count now.journal) ending.Format) × WentOn given count × ReadsFewPast given count
+      × m.stopped first now.rack × m.moved (header_at r.place) [] first now.rack
   pub gathers : end ≢ ending.Write → end ≢ ending.Memory → Gathers now.journal now.session.gather.waiting.items before now.taken
   -- memory was wanting: the lines before the one in hand were run, and the text of theirs gathers
   pub memory : end ≡ ending.Memory → (at : Hand M) × Halfway m first now.rack (script_of given) at × Gathers at.journal now.session.gather.waiting.items before now.taken × WentOn given at.count

@@ -3,7 +3,7 @@ ghost use Rattle.std.specs.Prelude.{◌≡◌, ◌≢◌, ◌≤◌, ◌⊎◌, 
 ghost use Rattle.arj_base.specs.Count.{Rose};
 ghost use Rattle.arj_journal.specs.LineText.{text};
 ghost use Rattle.arj_loop.specs.Replayed.{Closes, StopsShort, answer, outside};
-ghost use Rattle.arj_loop.specs.Running.{Moved, last_body, last_lines, events_run, status_of};
+ghost use Rattle.arj_loop.specs.Running.{last_body, last_lines, events_run, status_of};
 ghost use Rattle.arj_script.specs.Grammar.{Start};
 ghost use Rattle.arj_script.specs.declared.limits.TheConstants.{SCRIPT_LINES};
 
@@ -37,7 +37,6 @@ pub fn replay<S: AskedSource, K: Sink, D: Disk, M: Machine<D>>(
     requires fresh { journal.old ≡ [] }
     ensures closes { result ≢ 4 → result ≢ 5 → Closes M.Machine (outside (S.left source.old) (S.faults source.old) (K.taken sink.old) rack.old) (outside (S.left source.new) (S.faults source.new) (K.taken sink.new) rack.new) (answer result why.new journal.new machine.new) }
     ensures short { (result ≡ 4) ⊎ (result ≡ 5) → StopsShort M.Machine (outside (S.left source.old) (S.faults source.old) (K.taken sink.old) rack.old) (outside (S.left source.new) (S.faults source.new) (K.taken sink.new) rack.new) result }
-    ensures moved { Moved M.Machine rack.old rack.new }
     ensures statuses { (result ≤ 7) × (result ≢ 1) }
     ensures write_fault { result ≡ 4 → Rose (K.faults sink.old) (K.faults sink.new) }
     ensures no_write_fault { result ≢ 4 → K.faults sink.new ≡ K.faults sink.old }
@@ -64,7 +63,6 @@ fn run_through<S: AskedSource, K: Sink, D: Disk, M: Machine<D>>(
     requires fresh { journal.old ≡ [] }
     ensures closes { result ≢ 4 → result ≢ 5 → Closes M.Machine (outside (S.left source.old) (S.faults source.old) (K.taken sink.old) rack.old) (outside (S.left source.new) (S.faults source.new) (K.taken sink.new) rack.new) (answer result why.new journal.new machine.new) }
     ensures short { (result ≡ 4) ⊎ (result ≡ 5) → StopsShort M.Machine (outside (S.left source.old) (S.faults source.old) (K.taken sink.old) rack.old) (outside (S.left source.new) (S.faults source.new) (K.taken sink.new) rack.new) result }
-    ensures moved { Moved M.Machine rack.old rack.new }
     ensures statuses { (result ≤ 7) × (result ≢ 1) }
     ensures write_fault { result ≡ 4 → Rose (K.faults sink.old) (K.faults sink.new) }
     ensures no_write_fault { result ≢ 4 → K.faults sink.new ≡ K.faults sink.old }

@@ -49,8 +49,8 @@ pub trait Machine<D: Disk>: Sized + Drop {
     /// Where the event would give one label too many, under this header and with these disks.
     ghost is_full: { script_header → script_event → List D → Self → Type 0 };
 
-    /// What a call may do to the disks.
-    ghost moved: { List D → List D → Type 0 };
+    /// What a call that runs these events under this header may do to the disks.
+    ghost moved: { script_header → List script_event → List D → List D → Type 0 };
 
     /// What it did to them where a disk was stopped while it was formatted.
     ghost stopped: { List D → List D → Type 0 };
@@ -64,7 +64,7 @@ pub trait Machine<D: Disk>: Sized + Drop {
         requires ready { ready rack.old }
         ensures made { IfOk result (λ machine. ran rack.old header [] rack.new [] machine × (steps machine ≡ 0) × (over machine ≡ false)) }
         ensures stopped { IsErrOf result StartFault.Stopped → stopped rack.old rack.new }
-        ensures moved { moved rack.old rack.new };
+        ensures moved { moved header [] rack.old rack.new };
 
     /// How many events were run.
     fn stepped(&self) -> u32
@@ -95,5 +95,5 @@ pub trait Machine<D: Disk>: Sized + Drop {
         ensures frames { IsErrOf result EventFault.Frames → (first : List D) (header : script_header) (events : List script_event) → ran first header events rack.old journal.old self.old
             → ran first header (events ++ event ∷ []) rack.new journal.new self.new }
         ensures overflown { IsErrOf result EventFault.Frames → (over self.new ≡ true) × (steps self.new ≡ steps self.old + 1) × ((lines : List Line) × (journal.new ≡ journal.old ++ lines)) × EndsAtFrames journal.new }
-        ensures moved { moved rack.old rack.new };
+        ensures moved { (first : List D) (header : script_header) (events : List script_event) → ran first header events rack.old journal.old self.old → moved header (event ∷ []) rack.old rack.new };
 }

@@ -2,12 +2,14 @@
 ghost use Rattle.std.specs.Prelude.{◌≡◌, ◌≢◌, ◌≤◌, ◌<◌, ◌⊎◌, ◌+◌, true, false, ℕ, List, [], ◌∷◌, ◌++◌, length, None, OnOk, IfErr, IsErrOf, MatchBool, Some};
 ghost use Rattle.arj_journal.specs.declared.body.Line.{Line};
 ghost use Rattle.arj_journal.specs.ScriptForm.{EventInForm, HeaderInForm};
+ghost use Rattle.arj_journal.specs.declared.event.Event.{Event as script_event};
+ghost use Rattle.arj_journal.specs.declared.header.Header.{Header as script_header};
 ghost use Rattle.arj_script.specs.Grammar.{HasForm, IsBadLine, Run, Start};
 ghost use Rattle.arj_loop.specs.declared.ending.BadLine.{BadLine};
 ghost use Rattle.arj_loop.specs.Forms.{IsBadBy};
 ghost use Rattle.arj_loop.specs.Limits.{EndsAtFrames};
 ghost use Rattle.arj_script.specs.declared.limits.TheConstants.{LINE_BYTES, SCRIPT_LINES};
-ghost use Rattle.arj_loop.specs.Running.{StageOf, Started, Stepped, Refused, IsStanding, AsksTooMany, Moved, end_of, events_run, held_by, last_body, overflown};
+ghost use Rattle.arj_loop.specs.Running.{StageOf, Started, Stepped, Refused, IsStanding, AsksTooMany, ChangedBy, HasRun, end_of, events_run, header_at, held_by, last_body, overflown};
 
 use crate::ending::{BadLine, End};
 use crate::machine::{EventFault, Machine, StartFault};
@@ -142,10 +144,10 @@ impl<M> Runner<M> {
         ensures labels { IsErrOf result End.Labels → (first : List D) (lines : List (List ℕ)) → StageOf M.Machine first rack.old lines self.old journal.old
             → (now : StageOf M.Machine first rack.new lines self.new journal.new) × (self.new.lines < SCRIPT_LINES) × AsksTooMany M.Machine now.header rack.new self.new.machine self.new.reader line.now }
         ensures labels_going { IsErrOf result End.Labels → overflown M.Machine self.new.machine ≡ false }
-        ensures format { IsErrOf result End.Format → HasForm self.old.reader line.now Run × (self.old.lines < SCRIPT_LINES) × (self.old.machine ≡ None) × (self.new.machine ≡ None) × M.stopped rack.old rack.new }
+        ensures format { IsErrOf result End.Format → HasForm self.old.reader line.now Run × (self.old.lines < SCRIPT_LINES) × (self.old.machine ≡ None) × (self.new.machine ≡ None) × M.stopped rack.old rack.new × M.moved (header_at self.old.reader) [] rack.old rack.new }
         ensures still { IfErr result (λ end. end ≢ End.Memory → journal.new ≡ journal.old) }
         ensures only { IfErr result (λ end. (end ≢ End.Whole) × (end ≢ End.Fault) × (end ≢ End.Write) × (end ≢ End.Frames)) }
-        ensures moved { Moved M.Machine rack.old rack.new }
+        ensures moved { (first : List D) (lines : List (List ℕ)) → (stage : StageOf M.Machine first rack.old lines self.old journal.old) → ChangedBy M.Machine stage.header self.old.reader line.now rack.old rack.new }
     {
         if self.is_full(line) {
             return Err(End::Lines);
@@ -170,7 +172,7 @@ impl<M> Runner<M> {
         ensures line { OnOk result ((self.new.reader ≡ self.old.reader) × (self.new.lines ≡ self.old.lines + 1)) }
         ensures format { IsErrOf result End.Format → (self.new.machine ≡ self.old.machine) × M.stopped rack.old rack.new }
         ensures only { IfErr result (λ end. (end ≡ End.Format) ⊎ (end ≡ End.Memory)) }
-        ensures moved { Moved M.Machine rack.old rack.new }
+        ensures moved { M.moved header [] rack.old rack.new }
     {
         match M::format(self.alloc, header, rack) {
             Ok(machine) => {
@@ -201,7 +203,7 @@ impl<M> Runner<M> {
         ensures labels { IsErrOf result End.Labels → Refused M.Machine (held_by rack.old self.old.machine journal.old) (held_by rack.new self.new.machine journal.new) event }
         ensures kept { IsErrOf result End.Labels → (journal.new ≡ journal.old) × (self.new.reader ≡ self.old.reader) × (self.new.lines ≡ self.old.lines) }
         ensures only { IfErr result (λ end. (end ≡ End.Labels) ⊎ (end ≡ End.Memory)) }
-        ensures moved { Moved M.Machine rack.old rack.new }
+        ensures moved { (first : List D) (header : script_header) (events : List script_event) → HasRun M.Machine first header events (held_by rack.old self.old.machine journal.old) → M.moved header (event ∷ []) rack.old rack.new }
     {
         let Some(machine) = &mut self.machine else {
             unreachable!()

@@ -5,7 +5,7 @@ ghost use Rattle.arj_script.specs.Grammar.{Start};
 ghost use Rattle.arj_script.specs.Input.{AtEnd, AtRunEnd, ended_lines};
 ghost use Rattle.arj_loop.specs.declared.limits.TheConstants.{READ_BYTES};
 ghost use Rattle.arj_loop.specs.Input.{Arrived, Came, arrived, source_view};
-ghost use Rattle.arj_loop.specs.Running.{StageOf, Gathers, Goes, IsGoing, IsAtLine, HasEnded, Moved, overflown, work};
+ghost use Rattle.arj_loop.specs.Running.{StageOf, Gathers, Goes, IsGoing, IsAtLine, HasEnded, overflown, work};
 
 use crate::asked::AskedSource;
 use crate::ending::{BadLine, End};
@@ -61,7 +61,6 @@ impl<M> Session<M> {
         ensures fault { result ≡ End.Write → Rose (K.faults sink.old) (K.faults sink.new) }
         ensures steady { result ≢ End.Write → K.faults sink.new ≡ K.faults sink.old }
         ensures later { K.faults sink.old ≤ K.faults sink.new }
-        ensures moved { Moved M.Machine rack.old rack.new }
     {
         let mut came: usize = 0;
         loop {
@@ -103,7 +102,6 @@ impl<M> Session<M> {
         ensures steady { OnOk result (K.faults sink.new ≡ K.faults sink.old) }
         ensures no_fault { IfErr result (λ end. end ≢ End.Write → K.faults sink.new ≡ K.faults sink.old) }
         ensures later { K.faults sink.old ≤ K.faults sink.new }
-        ensures moved { Moved M.Machine rack.old rack.new }
     {
         let mut rest = piece;
         while !rest.is_empty() {
@@ -137,7 +135,6 @@ impl<M> Session<M> {
         ensures steady { OnOk result (K.faults sink.new ≡ K.faults sink.old) }
         ensures no_fault { IfErr result (λ end. end ≢ End.Write → K.faults sink.new ≡ K.faults sink.old) }
         ensures later { K.faults sink.old ≤ K.faults sink.new }
-        ensures moved { Moved M.Machine rack.old rack.new }
     {
         let fed = self.cutter.feed(bytes);
         match fed.full {
@@ -168,7 +165,6 @@ impl<M> Session<M> {
         ensures fault { result ≡ End.Write → Rose (K.faults sink.old) (K.faults sink.new) }
         ensures steady { result ≢ End.Write → K.faults sink.new ≡ K.faults sink.old }
         ensures later { K.faults sink.old ≤ K.faults sink.new }
-        ensures moved { Moved M.Machine rack.old rack.new }
     {
         if self.cutter.line().is_empty() {
             return self.runner.at_end();
@@ -201,7 +197,6 @@ impl<M> Session<M> {
         ensures steady { OnOk result (K.faults sink.new ≡ K.faults sink.old) }
         ensures no_fault { IfErr result (λ end. end ≢ End.Write → K.faults sink.new ≡ K.faults sink.old) }
         ensures later { K.faults sink.old ≤ K.faults sink.new }
-        ensures moved { Moved M.Machine rack.old rack.new }
     {
         let before = journal.as_slice().len();
         match self.runner.line(self.cutter.line(), rack, journal) {

@@ -1,12 +1,12 @@
 -- one line more of the run
-use Rattle.std.proofs.Common.{◌≡◌, Err, inl, inr, ap, sym, subst, ◌+◌, [], ◌∷◌, ◌++◌, length}
+use Rattle.std.proofs.Common.{◌≡◌, Err, inl, inr, ap, refl, sym, subst, ◌∙◌, ◌+◌, [], ◌∷◌, ◌++◌, length}
 use Rattle.std.proofs.Math.Logic.{⊎_elim}
 use Rattle.std.proofs.lemmas.Bool.{cases_lt}
 use Rattle.arj_script.specs.Grammar.{Start}
 use Rattle.arj_script.specs.Input.{TellsInForm}
 use Rattle.arj_loop.specs.declared.ending.End.TheVariants as ending
 use Rattle.arj_loop.specs.Running.{StageOf}
-use Rattle.arj_loop.proofs.Stages.{Taken, stage_quiet, stage_run, stage_event, stage_labels, standing, ready_at, event_in_form, both_ok, ok_from, stage_moved, limited_moved, moved_none}
+use Rattle.arj_loop.proofs.Stages.{Taken, stage_quiet, stage_run, stage_event, stage_labels, standing, ready_at, bare_at, event_in_form, both_ok, ok_from, stage_moved, limited_moved, changed_event, changed_run, formatted_by}
 use Rattle.arj_loop.proofs.run.Runner.line.Goals as goal
 
 pub start-requires-clause-form : goal.start-requires-clause-form
@@ -80,14 +80,35 @@ returns-in-Err-clause-bad g c w is =
     let found = c.in-Err.ensures.bad w (ap Err same) in
     (⊎_elim (λ long. inr long) (λ short. inl (c.if-is_full.ensures short)) (cases_lt 200 (length c.args.line.now)), found.0, found.1)
 
+-- ---- what the line did to the disks
+
 pub returns-then-is_full-clause-moved : goal.returns-then-is_full-clause-moved
-returns-then-is_full-clause-moved g c = moved_none g.M.Machine c.args.rack.now
+returns-then-is_full-clause-moved g c first lines stage = inl refl
 
 pub returns-in-Err-clause-moved : goal.returns-in-Err-clause-moved
-returns-in-Err-clause-moved g c = moved_none g.M.Machine c.args.rack.now
+returns-in-Err-clause-moved g c first lines stage = inl refl
 
 pub returns-in-Ok-Blank-clause-moved : goal.returns-in-Ok-Blank-clause-moved
-returns-in-Ok-Blank-clause-moved g c = moved_none g.M.Machine c.args.rack.now
+returns-in-Ok-Blank-clause-moved g c first lines stage = inl refl
 
 pub returns-in-Ok-Part-clause-moved : goal.returns-in-Ok-Part-clause-moved
-returns-in-Ok-Part-clause-moved g c = moved_none g.M.Machine c.args.rack.now
+returns-in-Ok-Part-clause-moved g c first lines stage = inl refl
+
+pub returns-in-Ok-Run-clause-moved : goal.returns-in-Ok-Run-clause-moved
+returns-in-Ok-Run-clause-moved g c first lines stage =
+    let taken = subst (λ i. Taken c.args.self.now.reader c.args.line.now i c.read_item.new.reader) c.in-Ok-Run.field-0-is c.in-Ok-Run.ensures.taken in
+    changed_run g.M.Machine stage.header c.args.rack.now c.start.new.rack c.args.self.now.reader c.args.line.now c.read_item.new.reader c.in-Ok-Run.header taken c.start.ensures.moved
+
+pub returns-in-Ok-Event-clause-moved : goal.returns-in-Ok-Event-clause-moved
+returns-in-Ok-Event-clause-moved g c first lines stage =
+    let taken = subst (λ i. Taken c.args.self.now.reader c.args.line.now i c.read_item.new.reader) c.in-Ok-Event.field-0-is c.in-Ok-Event.ensures.taken in
+    changed_event g.M.Machine first c.args.rack.now c.step.new.rack lines c.args.line.now c.args.self.now.reader c.read_item.new.reader c.in-Ok-Event.event c.args.self.now.machine c.args.self.now.lines c.args.journal.now taken stage c.step.ensures.moved
+
+pub returns-in-Ok-Run-clause-format : goal.returns-in-Ok-Run-clause-format
+returns-in-Ok-Run-clause-format g c is =
+    let taken = subst (λ i. Taken c.args.self.now.reader c.args.line.now i c.read_item.new.reader) c.in-Ok-Run.field-0-is c.in-Ok-Run.ensures.taken in
+    let f = formatted_by g.M.Machine c.args.rack.now c.start.new.rack c.args.self.now.reader c.args.line.now c.read_item.new.reader c.in-Ok-Run.header taken c.start.ensures.moved in
+    let stopped = c.start.ensures.format is in
+    let r = c.requires.stage in
+    let bare = bare_at g.M.Machine r.0 c.args.rack.now r.1 c.args.line.now c.args.self.now.reader c.read_item.new.reader c.in-Ok-Run.header c.args.self.now.machine c.args.self.now.lines c.args.journal.now taken r.2 in
+    (f.0, c.if-is_full.ensures taken.1.short, bare, stopped.0 ∙ bare, stopped.1, f.1)

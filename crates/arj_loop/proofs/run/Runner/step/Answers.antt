@@ -1,6 +1,5 @@
 -- what the machine did
 use Rattle.std.proofs.Common.{refl, ap, Err}
-use Rattle.arj_loop.proofs.Stages.{moved_once}
 use Rattle.arj_loop.proofs.run.Runner.step.Goals as goal
 
 pub returns-in-Ok-clause-ran : goal.returns-in-Ok-clause-ran
@@ -26,13 +25,13 @@ returns-in-Err-Labels-clause-labels g c _ =
     record { before = c.in-Some.machine; after = c.step.new.self; machine_was = c.in-Some.is; machine_is = refl; full = c.in-Err-Labels.ensures.labels is; steps = kept.0; going = kept.1 }
 
 pub returns-in-Ok-clause-moved : goal.returns-in-Ok-clause-moved
-returns-in-Ok-clause-moved g c = moved_once g.M.Machine c.args.rack.now c.step.new.rack c.step.ensures.moved
+returns-in-Ok-clause-moved g c first header events ran = c.step.ensures.moved first header events (rw c.in-Some.is at ran)
 
 pub returns-in-Err-Frames-clause-moved : goal.returns-in-Err-Frames-clause-moved
-returns-in-Err-Frames-clause-moved g c = moved_once g.M.Machine c.args.rack.now c.step.new.rack c.step.ensures.moved
+returns-in-Err-Frames-clause-moved g c first header events ran = c.step.ensures.moved first header events (rw c.in-Some.is at ran)
 
 pub returns-in-Err-Labels-clause-moved : goal.returns-in-Err-Labels-clause-moved
-returns-in-Err-Labels-clause-moved g c = moved_once g.M.Machine c.args.rack.now c.step.new.rack c.step.ensures.moved
+returns-in-Err-Labels-clause-moved g c first header events ran = c.step.ensures.moved first header events (rw c.in-Some.is at ran)
 
 pub returns-in-Err-Memory-clause-moved : goal.returns-in-Err-Memory-clause-moved
-returns-in-Err-Memory-clause-moved g c = moved_once g.M.Machine c.args.rack.now c.step.new.rack c.step.ensures.moved
+returns-in-Err-Memory-clause-moved g c first header events ran = c.step.ensures.moved first header events (rw c.in-Some.is at ran)

@@ -5,7 +5,6 @@ use Rattle.arj_script.specs.Input.{AtRunEnd}
 use Rattle.arj_loop.specs.Input.{arrived}
 use Rattle.arj_loop.specs.Running.{HasEnded, IsGoing, work}
 use Rattle.arj_loop.proofs.Sessions.{ended_lines_more, piece_more, piece_whole}
-use Rattle.arj_loop.proofs.Stages.{moved_more}
 use Rattle.arj_loop.proofs.session.Session.piece.Goals as goal
 
 pub feed-requires-clause-going : goal.feed-requires-clause-going
@@ -26,7 +25,6 @@ loop-rest-preserved g c =
             (c.in-Ok.ensures.went first before (used ++ i.0) (i.2 first before used going)),
       );
       steady = c.in-Ok.ensures.steady ∙ c.loop-rest.invariant.steady;
-      moved = moved_more g.M.Machine c.args.rack.now c.loop-rest.rack c.feed.new.rack c.loop-rest.invariant.moved c.feed.ensures.moved;
     }
 
 pub returns-in-Err-clause-ended : goal.returns-in-Err-clause-ended
@@ -35,9 +33,6 @@ returns-in-Err-clause-ended g c first before used earlier going few no_more =
     let rest = c.loop-rest.rest.now in
     subst (λ bs. HasEnded g.M.Machine first before (arrived bs earlier AtRunEnd) (work c.feed.new.rack c.feed.new.self c.feed.new.journal (g.K.Sink.taken c.feed.new.sink)) c.in-Err.end) (append_assoc used i.0 rest ∙ ap (λ bs. used ++ bs) (sym i.1))
     (c.in-Err.ensures.ended first before (used ++ i.0) earlier (i.2 first before used going) (omega (arith, few, ap length i.1, length-append i.0 rest)) (omega (arith, no_more, ended_lines_more used i.0)))
-
-pub returns-in-Err-clause-moved : goal.returns-in-Err-clause-moved
-returns-in-Err-clause-moved g c = moved_more g.M.Machine c.args.rack.now c.loop-rest.rack c.feed.new.rack c.loop-rest.invariant.moved c.feed.ensures.moved
 
 pub returns-clause-went : goal.returns-clause-went
 returns-clause-went g c first before used going =

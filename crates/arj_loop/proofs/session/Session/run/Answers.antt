@@ -7,7 +7,6 @@ use Rattle.arj_loop.specs.Input.{arrived, source_view}
 use Rattle.arj_loop.specs.Running.{work}
 use Rattle.arj_loop.proofs.Bytes.{few_bytes}
 use Rattle.arj_loop.proofs.Sessions.{all_written, came_end, came_fault, came_run, ended_fault, ended_flush, gives_nothing, going_first, going_flushed, going_short, no_more}
-use Rattle.arj_loop.proofs.Stages.{moved_more, moved_none}
 use Rattle.arj_loop.proofs.session.Session.run.Goals as goal
 
 pub loop-buffer-init : goal.loop-buffer-init
@@ -18,7 +17,6 @@ loop-buffer-init g c =
       used = ([], [], [], going_first g.M.Machine (work c.args.rack.now c.args.self.now c.args.journal.now (g.K.Sink.taken c.args.sink.now)) c.requires.ready r.0 r.1 r.2 n.0 n.1 c.requires.fresh, gives_nothing (g.S.AskedSource.left c.args.source.now), refl, omega arith, refl, refl);
       no_fault = refl;
       steady = refl;
-      moved = moved_none g.M.Machine c.args.rack.now;
     }
 
 pub returns-in-Err-clause-ended : goal.returns-in-Err-clause-ended
@@ -88,7 +86,6 @@ loop-buffer-preserved g c =
       );
       no_fault = r.steady ∙ c.loop-buffer.invariant.no_fault;
       steady = c.in-Ok-piece.ensures.steady ∙ (c.in-Ok.ensures.steady ∙ c.loop-buffer.invariant.steady);
-      moved = moved_more g.M.Machine c.args.rack.now c.loop-buffer.rack c.piece.new.rack c.loop-buffer.invariant.moved c.piece.ensures.moved;
     }
 
 pub returns-in-Err-piece-clause-ended : goal.returns-in-Err-piece-clause-ended
@@ -101,12 +98,6 @@ returns-in-Err-piece-clause-ended g c =
       came_run (source_view (g.S.AskedSource.left c.args.source.now) (g.S.AskedSource.faults c.args.source.now)) (source_view (g.S.AskedSource.left c.ask.new.self) (g.S.AskedSource.faults c.ask.new.self)) (i.0 ++ piece) i.0 piece (gives_more _ _ _ i.0 piece i.4 r.moved) (r.steady ∙ c.loop-buffer.invariant.no_fault) refl few (going_short g.M.Machine c.args.rack.now (g.K.Sink.taken c.args.sink.now) i.0 (work c.loop-buffer.rack c.loop-buffer.self c.loop-buffer.journal (g.K.Sink.taken c.loop-buffer.sink)) i.3),
       c.in-Err-piece.ensures.ended c.args.rack.now (g.K.Sink.taken c.args.sink.now) i.0 i.0 (going_flushed g.M.Machine c.args.rack.now (g.K.Sink.taken c.args.sink.now) i.0 (work c.loop-buffer.rack c.loop-buffer.self c.loop-buffer.journal (g.K.Sink.taken c.loop-buffer.sink)) c.flush.new.self (g.K.Sink.taken c.flush.new.sink) i.3 c.in-Ok.ensures.empty c.in-Ok.ensures.wrote) few (omega arith),
     )
-
-pub returns-then-count-eq0-clause-moved : goal.returns-then-count-eq0-clause-moved
-returns-then-count-eq0-clause-moved g c = moved_more g.M.Machine c.args.rack.now c.loop-buffer.rack c.last.new.rack c.loop-buffer.invariant.moved c.last.ensures.moved
-
-pub returns-in-Err-piece-clause-moved : goal.returns-in-Err-piece-clause-moved
-returns-in-Err-piece-clause-moved g c = moved_more g.M.Machine c.args.rack.now c.loop-buffer.rack c.piece.new.rack c.loop-buffer.invariant.moved c.piece.ensures.moved
 
 pub ask-requires-clause-written : goal.ask-requires-clause-written
 ask-requires-clause-written g c =

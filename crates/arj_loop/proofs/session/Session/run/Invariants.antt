@@ -2,7 +2,7 @@
 use Rattle.std.proofs.Common.{◌≡◌, ℕ, List, ◌++◌, ◌-◌, ◌≤◌, length, false}
 use Rattle.arj_io.specs.Told.{Gives}
 use Rattle.arj_script.specs.Input.{is_enough}
-use Rattle.arj_loop.specs.Running.{IsGoing, Moved, work}
+use Rattle.arj_loop.specs.Running.{IsGoing, work}
 use Rattle.arj_loop.proofs.session.Session.run.Given as goal
 
 abbrev pub invariant-loop-buffer : goal.invariant-loop-buffer
@@ -13,7 +13,6 @@ invariant-loop-buffer g l = record {
       × (l.came ≡ length bytes);
   no_fault : g.S.AskedSource.faults l.source ≡ g.S.AskedSource.faults l.initial.source;
   steady : g.K.Sink.faults l.sink ≡ g.K.Sink.faults l.initial.sink;
-  moved : Moved g.M.Machine l.initial.rack l.rack;
 }
 
 abbrev pub decreases-loop-buffer : goal.decreases-loop-buffer
