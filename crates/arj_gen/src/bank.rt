@@ -12,7 +12,10 @@ use arj_class::{Account, Value};
 use arj_journal::{Event, Events, Header, ObjectLine, ObjectLines};
 use std::alloc::{AllocError, Global};
 
-/// How many accounts the bank has.
+/// How many nodes the bank has.
+pub const NODES: u8 = 5;
+
+/// How many accounts it has.
 pub const ACCOUNTS: u16 = 20;
 
 /// How many events its script has.
@@ -42,7 +45,10 @@ fn header(alloc: Global) -> Result<Header, AllocError>
     ensures form { IfOk result (λ header. HeaderInForm header) }
 {
     let objects = accounts_of(alloc)?;
-    Ok(Header { nodes: 5, objects })
+    Ok(Header {
+        nodes: NODES,
+        objects,
+    })
 }
 
 // The accounts, by their numbers.

@@ -9,7 +9,7 @@ mod bank;
 mod draws;
 mod transfer;
 
-pub use bank::{ACCOUNTS, EVENTS, Script, generate};
+pub use bank::{ACCOUNTS, EVENTS, NODES, Script, generate};
 
 #[cfg(test)]
 mod tests;

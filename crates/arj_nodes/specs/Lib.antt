@@ -1,4 +1,2 @@
-pub mod Built
 pub mod AllNodes
 pub mod AsMachine
-pub mod Command

@@ -1,6 +1,5 @@
 // All nodes as the machine of a script.
 ghost use Rattle.std.specs.Prelude.{◌≡◌};
-ghost use Rattle.arj_nodes.specs.Built.{is_built_event};
 
 use arj_core::Core;
 use arj_disk::{Disk, Rack};
@@ -16,22 +15,19 @@ pub struct AllNodes<C> {
     over: bool,
 }
 
-// Whether the kind of event is built.
-fn is_built(event: &Event) -> bool
-    ensures { result ≡ is_built_event event.now }
-{
-    !matches!(event, Event::Junk { .. })
+impl<C> AllNodes<C> {
+    /// The nodes with their frames and labels.
+    pub fn into_world(self) -> World<C>
+        ensures { result ≡ self.world }
+    {
+        self.world
+    }
 }
 
 impl<C: Core + Drop, D: Disk> Machine<D> for AllNodes<C> {
     ghost use Rattle.arj_nodes.specs.AllNodes.{AreFresh, LacksLabels, RanAll, task};
-    ghost use Rattle.arj_nodes.specs.Built.{any_count, is_built_event};
     ghost use Rattle.arj_world.specs.Disks.{HasStopped, HaveMoved};
     ghost use Rattle.arj_world.specs.Stands.{hand};
-
-    ghost takes_nodes = { any_count };
-
-    ghost takes_event = { is_built_event };
 
     ghost ready = { AreFresh D.Disk };
 
@@ -43,17 +39,9 @@ impl<C: Core + Drop, D: Disk> Machine<D> for AllNodes<C> {
 
     ghost is_full = { λ header e rack nodes. LacksLabels C.Core nodes.world e };
 
-    ghost moved = { HaveMoved D.Disk 1 };
+    ghost moved = { λ header events old new. HaveMoved D.Disk header.nodes events old new };
 
     ghost stopped = { HasStopped D.Disk };
-
-    fn takes_nodes(_count: u8) -> bool {
-        true
-    }
-
-    fn takes_event(event: &Event) -> bool {
-        is_built(event)
-    }
 
     fn format(alloc: Global, header: Header, rack: &mut Rack<D>) -> Result<Self, StartFault> {
         match World::<C>::format(alloc, header, rack) {

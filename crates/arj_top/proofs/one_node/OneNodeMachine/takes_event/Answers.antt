@@ -1,6 +1,0 @@
--- an event's text tells whether it is built
-use Rattle.arj_top.proofs.Forms.{text_tells}
-use Rattle.arj_top.proofs.one_node.OneNodeMachine.takes_event.Goals as goal
-
-pub returns-clause-text : goal.returns-clause-text
-returns-clause-text g c other form other_form same = text_tells c.args.event.now other form other_form same

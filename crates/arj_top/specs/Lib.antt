@@ -1,6 +1,0 @@
-pub mod Built
-pub mod Command
-pub mod Facts
-pub mod OneNode
-pub mod Outcome
-pub mod Outside
