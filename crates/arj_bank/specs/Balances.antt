@@ -13,6 +13,7 @@ use Rattle.arj_disk.specs.FileMap.{FileMap}
 use Rattle.arj_disk.specs.declared.slot.Slot.TheVariants.{Committed}
 use Rattle.arj_entry.specs.Entry.{EntryInForm, entry_payload}
 use Rattle.arj_entry.specs.declared.entry.Entry.{Entry}
+use Rattle.arj_gen.specs.declared.bank.TheConstants.{NODES}
 use Rattle.arj_text.specs.Fields.{IsRead}
 
 -- ---- files
@@ -26,11 +27,11 @@ abbrev pub files_in : {D : Type 0} → (D → FileMap) → Option D → FileMap
 files_in file None = no_files
 files_in file (Some disk) = file disk
 
--- nodes are numbered from 1 to 16
+-- the bank's nodes are numbered from 1 on
 abbrev pub is_number : ℕ → Bool
-is_number node = nat_le 1 node && nat_le node 16
+is_number node = nat_le 1 node && nat_le node NODES
 
--- the files of the disk of a node, the first of which is node 1's; none for a number that is no node's
+-- the files of the disk of a node, the first of which is node 1's; none for a number that is no node of the bank
 abbrev pub files_at : {D : Type 0} → (D → FileMap) → List D → ℕ → FileMap
 files_at file rack node = if is_number node then files_in file (slice_get rack (node - 1)) else no_files
 

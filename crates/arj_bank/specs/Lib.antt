@@ -1,5 +1,4 @@
 pub mod Balances
 pub mod Bank
-pub mod Command
 pub mod Summary
 pub mod Underway

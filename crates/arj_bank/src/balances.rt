@@ -1,9 +1,10 @@
 // What the disks hold of the bank.
-ghost use Rattle.std.specs.Prelude.{◌≡◌, ◌+◌, Some, IfOk, IsErrOf, OnOk};
+ghost use Rattle.std.specs.Prelude.{◌≡◌, ◌+◌, [], Some, IfOk, IsErrOf, OnOk};
 ghost use Rattle.arj_base.specs.State.{StateInForm, state_bytes};
 ghost use Rattle.arj_bank.specs.Balances.{AddUpTo, HasBalance, Holds, IsBalance, ListsFirst, capped, files_at, first_node, is_number, number_in};
 ghost use Rattle.arj_disk.specs.Counted.{counts};
 ghost use Rattle.arj_disk.specs.Disk.{CountsCall, Same};
+ghost use Rattle.arj_gen.specs.declared.bank.TheConstants.{NODES};
 ghost use Rattle.arj_text.specs.Fields.{IsRead};
 ghost use Rattle.arj_world.specs.Disks.{HasStopped, HaveMoved, HaveNotStopped};
 
@@ -11,8 +12,7 @@ use arj_base::{ObjectState, StateFault, Uid, entry_uid, object_uid, unpack};
 use arj_class::{ClassFault, Value};
 use arj_disk::{Disk, DiskFault, Rack, Slot};
 use arj_entry::Entry;
-use arj_gen::ACCOUNTS;
-use arj_journal::NODES;
+use arj_gen::{ACCOUNTS, NODES};
 use std::alloc::{AllocError, Global};
 
 // The state that bytes pack, if they pack one.
@@ -43,14 +43,14 @@ fn committed<D: Disk>(
     Ok(state)
 }
 
-// Whether a number is that of a node.
+// Whether a number is that of a node of the bank.
 fn is_number(node: u8) -> bool
     ensures { result ≡ is_number node }
 {
-    1 <= node && u64::from(node) <= NODES
+    1 <= node && node <= NODES
 }
 
-// The same of a node's disk. There is none for a number that is no node's.
+// The same of a node's disk. There is none for a number that is no node of the bank.
 #[tactic(auto, using(arj_world::proofs::Disks::moved_call, arj_world::proofs::Disks::moved_none, arj_world::proofs::Disks::stopped_at, arj_world::proofs::Disks::unstopped_none))]
 fn committed_at<D: Disk>(
     alloc: Global,
@@ -60,7 +60,7 @@ fn committed_at<D: Disk>(
 ) -> Result<Option<ObjectState>, DiskFault>
     ensures holds { IfOk result (λ state. Holds (files_at D.file rack.old node) uid state) }
     ensures files { files_at D.file rack.new ≡ files_at D.file rack.old }
-    ensures moved { HaveMoved D.Disk 0 rack.old rack.new }
+    ensures moved { HaveMoved D.Disk NODES [] rack.old rack.new }
     ensures stopped { IsErrOf result DiskFault.Stopped → HasStopped D.Disk rack.old rack.new }
     ensures unstopped { OnOk result (HaveNotStopped D.Disk rack.old rack.new) }
 {
@@ -122,7 +122,7 @@ fn balance_of(alloc: Global, state: Option<ObjectState>) -> Result<u64, AllocErr
 fn balance<D: Disk>(alloc: Global, rack: &mut Rack<D>, x: u16) -> Result<u64, DiskFault>
     ensures balance { IfOk result (λ balance. IsBalance (files_at D.file rack.old) x balance) }
     ensures files { files_at D.file rack.new ≡ files_at D.file rack.old }
-    ensures moved { HaveMoved D.Disk 0 rack.old rack.new }
+    ensures moved { HaveMoved D.Disk NODES [] rack.old rack.new }
     ensures stopped { IsErrOf result DiskFault.Stopped → HasStopped D.Disk rack.old rack.new }
     ensures unstopped { OnOk result (HaveNotStopped D.Disk rack.old rack.new) }
 {
@@ -149,7 +149,7 @@ fn added(sum: u64, balance: u64) -> u64
 pub fn sum<D: Disk>(alloc: Global, rack: &mut Rack<D>) -> Result<u64, DiskFault>
     ensures sum { IfOk result (λ sum. AddUpTo (files_at D.file rack.old) ACCOUNTS sum) }
     ensures files { files_at D.file rack.new ≡ files_at D.file rack.old }
-    ensures moved { HaveMoved D.Disk 0 rack.old rack.new }
+    ensures moved { HaveMoved D.Disk NODES [] rack.old rack.new }
     ensures stopped { IsErrOf result DiskFault.Stopped → HasStopped D.Disk rack.old rack.new }
     ensures unstopped { OnOk result (HaveNotStopped D.Disk rack.old rack.new) }
 {

@@ -1,8 +1,9 @@
 // The generated bank, run and summed up.
-ghost use Rattle.std.specs.Prelude.{◌≡◌, ◌≢◌, ◌≤◌, ℕ, List, [], take, IfOk, IsErrOf, OnOk};
+ghost use Rattle.std.specs.Prelude.{◌≡◌, ◌≢◌, ◌≤◌, ℕ, List, [], take, IfOk, IsErrOf, None, OnOk};
 ghost use Rattle.arj_base.specs.Count.{Rose};
 ghost use Rattle.arj_bank.specs.Balances.{files_at};
-ghost use Rattle.arj_bank.specs.Bank.{EndsAtLimit, IsSummary, MovesBank, StopsBank, SumsUp, TakesBank, left};
+ghost use Rattle.arj_bank.specs.Bank.{EndsAtLimit, IsSummary, StopsBank, SumsUp, WantsMemory, left};
+ghost use Rattle.arj_gen.specs.declared.bank.TheConstants.{NODES};
 ghost use Rattle.arj_io.specs.Told.{Takes};
 ghost use Rattle.arj_world.specs.Disks.{HasStopped, HaveMoved, HaveNotStopped};
 
@@ -29,7 +30,7 @@ fn sum_up<D: Disk>(
     ensures stopped { IsErrOf result Stop.Disk → HasStopped D.Disk rack.old rack.new }
     ensures unstopped { OnOk result (HaveNotStopped D.Disk rack.old rack.new) }
     ensures limit { IsErrOf result Stop.Limit → ⊥ }
-    ensures moved { HaveMoved D.Disk 0 rack.old rack.new }
+    ensures moved { HaveMoved D.Disk NODES [] rack.old rack.new }
 {
     match sum(alloc, rack) {
         Ok(sum) => {
@@ -47,23 +48,24 @@ fn summary<D: Disk, M: Machine<D>>(
     n: u32,
     rack: &mut Rack<D>,
     journal: &mut Lines,
+    machine: &mut Option<M>,
 ) -> Result<Bytes, Stop>
     requires ready { M.ready rack.old }
     requires fresh { journal.old ≡ [] }
-    requires takes { TakesBank M.Machine n }
-    ensures text { IfOk result (λ text. IsSummary M.Machine D.Disk n rack.old (left rack.new journal.new) text) }
-    ensures limit { IsErrOf result Stop.Limit → EndsAtLimit M.Machine n rack.old (left rack.new journal.new) }
-    ensures stopped { IsErrOf result Stop.Disk → StopsBank M.Machine D.Disk n rack.old (left rack.new journal.new) }
-    ensures moved { MovesBank M.Machine D.Disk rack.old rack.new }
+    requires none { machine.old ≡ None }
+    ensures text { IfOk result (λ text. IsSummary M.Machine D.Disk n rack.old (left rack.new journal.new machine.new) text) }
+    ensures limit { IsErrOf result Stop.Limit → EndsAtLimit M.Machine n rack.old (left rack.new journal.new machine.new) }
+    ensures stopped { IsErrOf result Stop.Disk → StopsBank M.Machine D.Disk n rack.old (left rack.new journal.new machine.new) }
+    ensures memory { IsErrOf result Stop.Memory → WantsMemory M.Machine D.Disk n rack.old rack.new }
 {
-    match run_bank::<D, M>(alloc, n, rack, journal) {
+    match run_bank::<D, M>(alloc, n, rack, journal, machine) {
         Ok(events) => sum_up(alloc, events, rack, journal),
         Err(stop) => Err(stop),
     }
 }
 
 /// Runs the bank of a number on a machine over these disks, writes its summary, and answers the status. The journal is left in
-/// `journal`.
+/// `journal`, and the machine, once the disks were formatted, in `machine`, at every status but 5.
 ///
 /// 0: the bank was run, and the sink took its summary. 4: a write failed. 5: memory was wanting. 6: a limit was met. 7: a disk
 /// was stopped while it was formatted, or while the sum was read.
@@ -73,21 +75,22 @@ pub fn generated<K: Sink, D: Disk, M: Machine<D>>(
     sink: &mut K,
     rack: &mut Rack<D>,
     journal: &mut Lines,
+    machine: &mut Option<M>,
 ) -> u8
     requires ready { M.ready rack.old }
     requires fresh { journal.old ≡ [] }
-    requires takes { TakesBank M.Machine n }
-    ensures summed { result ≡ 0 → (text : List ℕ) × IsSummary M.Machine D.Disk n rack.old (left rack.new journal.new) text × Takes (K.taken sink.old) text (K.taken sink.new) }
-    ensures front { result ≡ 4 → (text : List ℕ) × (count : ℕ) × IsSummary M.Machine D.Disk n rack.old (left rack.new journal.new) text × Takes (K.taken sink.old) (take count text) (K.taken sink.new) }
-    ensures limit { result ≡ 6 → EndsAtLimit M.Machine n rack.old (left rack.new journal.new) }
-    ensures stopped { result ≡ 7 → StopsBank M.Machine D.Disk n rack.old (left rack.new journal.new) }
+    requires none { machine.old ≡ None }
+    ensures summed { result ≡ 0 → (text : List ℕ) × IsSummary M.Machine D.Disk n rack.old (left rack.new journal.new machine.new) text × Takes (K.taken sink.old) text (K.taken sink.new) }
+    ensures front { result ≡ 4 → (text : List ℕ) × (count : ℕ) × IsSummary M.Machine D.Disk n rack.old (left rack.new journal.new machine.new) text × Takes (K.taken sink.old) (take count text) (K.taken sink.new) }
+    ensures limit { result ≡ 6 → EndsAtLimit M.Machine n rack.old (left rack.new journal.new machine.new) }
+    ensures stopped { result ≡ 7 → StopsBank M.Machine D.Disk n rack.old (left rack.new journal.new machine.new) }
     ensures statuses { (result ≤ 7) × (result ≢ 1) × (result ≢ 2) × (result ≢ 3) }
     ensures unwritten { result ≢ 0 → result ≢ 4 → sink.new ≡ sink.old }
     ensures write_fault { result ≡ 4 → Rose (K.faults sink.old) (K.faults sink.new) }
     ensures no_write_fault { result ≢ 4 → K.faults sink.new ≡ K.faults sink.old }
-    ensures moved { MovesBank M.Machine D.Disk rack.old rack.new }
+    ensures memory { result ≡ 5 → WantsMemory M.Machine D.Disk n rack.old rack.new }
 {
-    match summary::<D, M>(alloc, n, rack, journal) {
+    match summary::<D, M>(alloc, n, rack, journal, machine) {
         Ok(text) => match write_all(sink, text.as_slice()) {
             Ok(()) => 0,
             Err(Failed) => 4,

@@ -1,13 +1,12 @@
 // The bank's script on a machine.
-ghost use Rattle.std.specs.Prelude.{◌≡◌, ◌≤◌, ◌+◌, ◌++◌, ◌∷◌, [], ℕ, List, length, false, OnOk, IfOk, IsErrOf};
+ghost use Rattle.std.specs.Prelude.{◌≡◌, ◌≤◌, ◌+◌, ◌++◌, ◌∷◌, [], ℕ, List, length, false, None, Some, OnOk, IfOk, IsErrOf};
 ghost use Rattle.std.specs.List.{AllByRecursion};
-ghost use Rattle.arj_bank.specs.Bank.{EndsAtLimit, RanBank, RanWhole, TakesAll, TakesBank, left};
-ghost use Rattle.arj_bank.specs.Underway.{Ends, Goes, HasRun, Moment, Underway, moment};
+ghost use Rattle.arj_bank.specs.Bank.{ComesSoFar, EndsAtLimit, RanBank, RanWhole, StopsAtFormat, left};
+ghost use Rattle.arj_bank.specs.Underway.{Ends, Goes, HasRun, Moment, Underway, Wants, moment};
 ghost use Rattle.arj_gen.specs.Bank.{event_lines};
 ghost use Rattle.arj_journal.specs.ScriptForm.{EventInForm};
 ghost use Rattle.arj_journal.specs.declared.event.Event.{Event as script_event};
 ghost use Rattle.arj_journal.specs.declared.header.Header.{Header as script_header};
-ghost use Rattle.arj_loop.specs.Running.{Moved};
 ghost use Rattle.arj_loop.specs.declared.limits.TheConstants.{MOST_EVENTS};
 ghost use Rattle.arj_nodes.specs.AllNodes.{task};
 
@@ -37,9 +36,9 @@ fn run_one<D: Disk, M: Machine<D>>(
 ) -> Result<(), Stop>
     requires { Goes M.Machine event (moment rack.old machine.old journal.old) }
     ensures next { OnOk result ((given rest : List script_event) (old : Moment D M) → Underway M.Machine given (event ∷ rest) old (moment rack.old machine.old journal.old) → Underway M.Machine given rest old (moment rack.new machine.new journal.new)) }
-    ensures limit { IsErrOf result Stop.Limit → (given rest : List script_event) (old : Moment D M) → Underway M.Machine given (event ∷ rest) old (moment rack.old machine.old journal.old) → Ends M.Machine given old (left rack.new journal.new) }
+    ensures limit { IsErrOf result Stop.Limit → (given rest : List script_event) (old : Moment D M) → Underway M.Machine given (event ∷ rest) old (moment rack.old machine.old journal.old) → Ends M.Machine given old (left rack.new journal.new (Some machine.new)) }
+    ensures memory { IsErrOf result Stop.Memory → (given rest : List script_event) (old : Moment D M) → Underway M.Machine given (event ∷ rest) old (moment rack.old machine.old journal.old) → Wants M.Machine given old rack.new }
     ensures live { IsErrOf result Stop.Disk → ⊥ }
-    ensures moved { M.moved rack.old rack.new }
 {
     match machine.step(event, rack, journal) {
         Ok(()) => Ok(()),
@@ -55,26 +54,24 @@ fn run_one<D: Disk, M: Machine<D>>(
 // Runs events on a machine that has run none, one after another, and answers how many they are. Limit: a limit was met, and the
 // journal's last line says which.
 fn run_events<D: Disk, M: Machine<D>>(
-    machine: M,
+    machine: &mut M,
     events: Events,
     rack: &mut Rack<D>,
     journal: &mut Lines,
 ) -> Result<u32, Stop>
     requires form { AllByRecursion EventInForm events }
-    requires takes { TakesAll M.Machine events }
-    requires first { M.steps machine ≡ 0 }
+    requires first { M.steps machine.old ≡ 0 }
     requires room { length events ≤ MOST_EVENTS }
-    requires going { M.over machine ≡ false }
-    requires ran { HasRun M.Machine (moment rack.old machine journal.old) }
-    ensures ran { OnOk result ((first : List D) (header : script_header) → M.ran first header [] rack.old journal.old machine → RanWhole M.Machine (task first header events) (left rack.new journal.new)) }
+    requires going { M.over machine.old ≡ false }
+    requires ran { HasRun M.Machine (moment rack.old machine.old journal.old) }
+    ensures ran { OnOk result ((first : List D) (header : script_header) → M.ran first header [] rack.old journal.old machine.old → RanWhole M.Machine (task first header events) (left rack.new journal.new (Some machine.new))) }
     ensures count { IfOk result (λ count. count ≡ length events) }
-    ensures limit { IsErrOf result Stop.Limit → Ends M.Machine events (moment rack.old machine journal.old) (left rack.new journal.new) }
+    ensures limit { IsErrOf result Stop.Limit → Ends M.Machine events (moment rack.old machine.old journal.old) (left rack.new journal.new (Some machine.new)) }
+    ensures memory { IsErrOf result Stop.Memory → Wants M.Machine events (moment rack.old machine.old journal.old) rack.new }
     ensures live { IsErrOf result Stop.Disk → ⊥ }
-    ensures moved { Moved M.Machine rack.old rack.new }
 {
-    let mut machine = machine;
     for event in events.into_vec() {
-        match run_one(&mut machine, event, rack, journal) {
+        match run_one(machine, event, rack, journal) {
             Ok(()) => {}
             Err(stop) => return Err(stop),
         }
@@ -82,27 +79,33 @@ fn run_events<D: Disk, M: Machine<D>>(
     Ok(machine.stepped())
 }
 
-/// Runs the bank of a number on a machine over these disks, and answers how many events it has. Disk: a disk was stopped while
-/// it was formatted. Limit: a limit was met, and the journal's last line says which.
+/// Runs the bank of a number on a machine over these disks, hands the machine out, and answers how many events it has. Disk: a
+/// disk was stopped while it was formatted. Limit: a limit was met, and the journal's last line says which.
 pub fn run_bank<D: Disk, M: Machine<D>>(
     alloc: Global,
     n: u32,
     rack: &mut Rack<D>,
     journal: &mut Lines,
+    machine: &mut Option<M>,
 ) -> Result<u32, Stop>
     requires ready { M.ready rack.old }
     requires fresh { journal.old ≡ [] }
-    requires takes { TakesBank M.Machine n }
-    ensures ran { OnOk result (RanBank M.Machine n rack.old (left rack.new journal.new)) }
+    requires none { machine.old ≡ None }
+    ensures ran { OnOk result (RanBank M.Machine n rack.old (left rack.new journal.new machine.new)) }
     ensures count { IfOk result (λ count. count ≡ length (event_lines n)) }
-    ensures limit { IsErrOf result Stop.Limit → EndsAtLimit M.Machine n rack.old (left rack.new journal.new) }
-    ensures stopped { IsErrOf result Stop.Disk → (journal.new ≡ []) × M.stopped rack.old rack.new }
-    ensures moved { Moved M.Machine rack.old rack.new }
+    ensures limit { IsErrOf result Stop.Limit → EndsAtLimit M.Machine n rack.old (left rack.new journal.new machine.new) }
+    ensures stopped { IsErrOf result Stop.Disk → StopsAtFormat M.Machine rack.old (left rack.new journal.new machine.new) }
+    ensures memory { IsErrOf result Stop.Memory → ComesSoFar M.Machine n rack.old rack.new }
 {
     let script = generate(alloc, n)?;
     let Script { header, events } = script;
     match M::format(alloc, header, rack) {
-        Ok(machine) => run_events(machine, events, rack, journal),
+        Ok(made) => {
+            let mut made = made;
+            let ran = run_events(&mut made, events, rack, journal);
+            *machine = Some(made);
+            ran
+        }
         Err(StartFault::Stopped) => Err(Stop::Disk),
         Err(StartFault::Memory) => Err(Stop::Memory),
     }

@@ -3,19 +3,20 @@ use Rattle.std.proofs.Common.{Err, ap, refl, ◌∙◌}
 use Rattle.arj_bank.specs.Balances.{files_at}
 use Rattle.arj_bank.proofs.Reading.{add_more}
 use Rattle.arj_disk.specs.declared.disk.DiskFault.TheVariants.{Stopped}
+use Rattle.arj_gen.specs.declared.bank.TheConstants.{NODES}
 use Rattle.arj_world.proofs.Disks.{moved_on, same_fault, stopped_later, unstopped_on}
 use Rattle.arj_bank.proofs.balances.sum.Goals as goal
 
 pub returns-in-Err-clause-moved : goal.returns-in-Err-clause-moved
-returns-in-Err-clause-moved g c = moved_on g.D.Disk c.args.rack.now c.loop-k.rack c.balance.new.rack c.loop-k.invariant.moved c.balance.ensures.moved
+returns-in-Err-clause-moved g c = moved_on g.D.Disk NODES NODES c.args.rack.now c.loop-k.rack c.balance.new.rack refl c.loop-k.invariant.moved c.balance.ensures.moved
 
 pub returns-in-Err-clause-stopped : goal.returns-in-Err-clause-stopped
-returns-in-Err-clause-stopped g c is = stopped_later g.D.Disk c.args.rack.now c.loop-k.rack c.balance.new.rack c.loop-k.invariant.moved c.balance.ensures.moved (c.in-Err.ensures.stopped (ap Err (same_fault (Err c.in-Err.fault) c.in-Err.fault Stopped refl is)))
+returns-in-Err-clause-stopped g c is = stopped_later g.D.Disk NODES c.args.rack.now c.loop-k.rack c.balance.new.rack c.loop-k.invariant.moved c.balance.ensures.moved (c.in-Err.ensures.stopped (ap Err (same_fault (Err c.in-Err.fault) c.in-Err.fault Stopped refl is)))
 
 pub loop-k-preserved : goal.loop-k-preserved
 loop-k-preserved g c = record {
   adds = add_more (files_at g.D.Disk.file c.args.rack.now) (files_at g.D.Disk.file c.loop-k.rack) c.loop-k.k c.loop-k.sum c.in-Ok.balance c.added-sum.result c.loop-k.invariant.files c.loop-k.invariant.adds c.in-Ok.ensures.balance c.added-sum.ensures;
   files = c.balance.ensures.files ∙ c.loop-k.invariant.files;
-  moved = moved_on g.D.Disk c.args.rack.now c.loop-k.rack c.balance.new.rack c.loop-k.invariant.moved c.balance.ensures.moved;
+  moved = moved_on g.D.Disk NODES NODES c.args.rack.now c.loop-k.rack c.balance.new.rack refl c.loop-k.invariant.moved c.balance.ensures.moved;
   unstopped = unstopped_on g.D.Disk c.args.rack.now c.loop-k.rack c.balance.new.rack c.loop-k.invariant.unstopped c.in-Ok.ensures.unstopped;
 }

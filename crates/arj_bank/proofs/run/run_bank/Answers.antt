@@ -1,23 +1,16 @@
 -- the bank on a machine that was just made
-use Rattle.std.proofs.Common.{◌≡◌, Err, ap, arith, length, subst, sym, true}
+use Rattle.std.proofs.Common.{◌≡◌, Err, Some, [], inl, inr, ap, arith, length, refl, subst}
 use Rattle.std.proofs.lemmas.Result.{IfOk-weaker, on_ok_weaker}
 use Rattle.arj_bank.specs.Bank.{left}
 use Rattle.arj_gen.specs.Bank.{bank_header, event_lines}
 use Rattle.arj_bank.proofs.Running.{bank_count, bank_first, bank_limit, bank_ran}
-use Rattle.arj_loop.proofs.Stages.{moved_more, moved_none, moved_once}
 use Rattle.arj_bank.proofs.run.run_bank.Goals as goal
 
 pub format-requires-clause-form : goal.format-requires-clause-form
 format-requires-clause-form g c = let header = c.in_ok-script.ensures.header in header.1
 
-pub format-requires-clause-takes : goal.format-requires-clause-takes
-format-requires-clause-takes g c = let header = c.in_ok-script.ensures.header in subst (λ h. g.M.Machine.takes_nodes h.nodes ≡ true) (sym header.0) c.requires.takes.nodes
-
 pub run_events-requires-clause-form : goal.run_events-requires-clause-form
 run_events-requires-clause-form g c = let events = c.in_ok-script.ensures.events in events.1
-
-pub run_events-requires-clause-takes : goal.run_events-requires-clause-takes
-run_events-requires-clause-takes g c = let events = c.in_ok-script.ensures.events in c.requires.takes.events c.in_ok-script.script.events events.0
 
 pub run_events-requires-clause-room : goal.run_events-requires-clause-room
 run_events-requires-clause-room g c = omega (arith, c.in_ok-script.ensures.count)
@@ -40,7 +33,7 @@ returns-in-Ok-clause-ran g c =
     let header = c.in_ok-script.ensures.header in
     let events = c.in_ok-script.ensures.events in
     on_ok_weaker c.run_events.result
-    (λ ran. bank_ran g.M.Machine c.args.n c.args.rack.now c.in_ok-script.script.events (left c.run_events.new.rack c.run_events.new.journal) events.0 events.1
+    (λ ran. bank_ran g.M.Machine c.args.n c.args.rack.now c.in_ok-script.script.events (left c.run_events.new.rack c.run_events.new.journal (Some c.run_events.new.machine)) events.0 events.1
     (ran c.args.rack.now bank_header (bank_first g.M.Machine c.args.rack.now c.format.new.rack c.in-Ok.machine c.in_ok-script.script.header c.args.journal.now header.0 c.requires.fresh made.0)))
     c.run_events.ensures.ran
 
@@ -54,23 +47,33 @@ returns-in-Ok-clause-limit g c is =
     let made = c.in-Ok.ensures.made in
     let header = c.in_ok-script.ensures.header in
     let events = c.in_ok-script.ensures.events in
-    bank_limit g.M.Machine c.args.n c.args.rack.now c.in_ok-script.script.events (left c.run_events.new.rack c.run_events.new.journal) events.0 events.1
+    bank_limit g.M.Machine c.args.n c.args.rack.now c.in_ok-script.script.events (left c.run_events.new.rack c.run_events.new.journal (Some c.run_events.new.machine)) events.0 events.1
     (c.run_events.ensures.limit is c.args.rack.now bank_header (bank_first g.M.Machine c.args.rack.now c.format.new.rack c.in-Ok.machine c.in_ok-script.script.header c.args.journal.now header.0 c.requires.fresh made.0))
 
 pub returns-in-Ok-clause-stopped : goal.returns-in-Ok-clause-stopped
 returns-in-Ok-clause-stopped g c is = absurd (c.run_events.ensures.live is)
 
-pub returns-in-Ok-clause-moved : goal.returns-in-Ok-clause-moved
-returns-in-Ok-clause-moved g c = moved_more g.M.Machine c.args.rack.now c.format.new.rack c.run_events.new.rack (moved_once g.M.Machine c.args.rack.now c.format.new.rack c.format.ensures.moved) c.run_events.ensures.moved
-
-pub returns-in-Err-Stopped-clause-moved : goal.returns-in-Err-Stopped-clause-moved
-returns-in-Err-Stopped-clause-moved g c = moved_once g.M.Machine c.args.rack.now c.format.new.rack c.format.ensures.moved
-
-pub returns-clause-moved : goal.returns-clause-moved
-returns-clause-moved g c = moved_once g.M.Machine c.args.rack.now c.format.new.rack c.format.ensures.moved
-
-pub returns-in_err-script-clause-moved : goal.returns-in_err-script-clause-moved
-returns-in_err-script-clause-moved g c = moved_none g.M.Machine c.args.rack.now
+pub returns-in-Ok-clause-memory : goal.returns-in-Ok-clause-memory
+returns-in-Ok-clause-memory g c is =
+    let made = c.in-Ok.ensures.made in
+    let header = c.in_ok-script.ensures.header in
+    let events = c.in_ok-script.ensures.events in
+    inr (inr (
+      c.in_ok-script.script.events,
+      record { texts = events.0; form = events.1 },
+      c.run_events-ran.ensures.memory is c.args.rack.now bank_header (bank_first g.M.Machine c.args.rack.now c.format.new.rack c.in-Ok.made c.in_ok-script.script.header c.args.journal.now header.0 c.requires.fresh made.0),
+    ))
 
 pub returns-in-Err-Stopped-clause-stopped : goal.returns-in-Err-Stopped-clause-stopped
-returns-in-Err-Stopped-clause-stopped g c _ = (c.requires.fresh, c.in-Err-Stopped.ensures.stopped (ap Err c.in-Err-Stopped.field-0-is))
+returns-in-Err-Stopped-clause-stopped g c _ = record {
+  journal = c.requires.fresh;
+  machine = c.requires.none;
+  stopped = c.in-Err-Stopped.ensures.stopped (ap Err c.in-Err-Stopped.field-0-is);
+  moved = let header = c.in_ok-script.ensures.header in subst (λ h. g.M.Machine.moved h [] c.args.rack.now c.format.new.rack) header.0 c.format.ensures.moved;
+}
+
+pub returns-in-Err-Memory-clause-memory : goal.returns-in-Err-Memory-clause-memory
+returns-in-Err-Memory-clause-memory g c _ = let header = c.in_ok-script.ensures.header in inr (inl (subst (λ h. g.M.Machine.moved h [] c.args.rack.now c.format.new.rack) header.0 c.format.ensures.moved))
+
+pub returns-in_err-script-clause-memory : goal.returns-in_err-script-clause-memory
+returns-in_err-script-clause-memory g c _ = inl refl
