@@ -1,25 +1,34 @@
 // The top call.
-ghost use Rattle.std.specs.Prelude.{◌≡◌, ◌≢◌, ◌≤◌, ◌⊎◌, [], All, None, Some, slice_get};
+ghost use Rattle.std.specs.Prelude.{◌≡◌, ◌≢◌, ◌≤◌, ◌⊎◌, ℕ, [], None};
 ghost use Rattle.arj_base.specs.Count.{Rose};
-ghost use Rattle.arj_disk.specs.declared.slot.Slot.{Slot};
-ghost use Rattle.arj_loop.specs.Replayed.{answer, outside};
-ghost use Rattle.arj_top.specs.Command.{IsReplay};
-ghost use Rattle.arj_top.specs.Outcome.{Headline, Shown};
-ghost use Rattle.arj_top.specs.Outside.{TouchesFirstAlone, told_by};
+ghost use Rattle.arj_command.specs.Command.{IsCommand, IsGenerate, IsReplay};
+ghost use Rattle.arj_command.specs.Outcome.{BankHeadline, Headline, Shown, said};
+ghost use Rattle.arj_loop.specs.Replayed.{outside};
+ghost use Rattle.arj_nodes.specs.AllNodes.{AreFresh};
+ghost use Rattle.arj_nodes_law.specs.Readings.{reading_of};
 
-use crate::one_node::OneNode;
+use arj_command::run_on;
+use arj_core::Core;
 use arj_disk::{Disk, Rack};
 use arj_io::{Sink, Source};
 use arj_journal::Lines;
-use arj_loop::{BadLine, replay};
+use arj_loop::BadLine;
+use arj_node::NodeCore;
+use arj_parts::NodeParts;
+use arj_store::{ObjectStore, ShadowStore};
+use arj_world::World;
 use std::alloc::Global;
 
-/// Runs the command that the words say, over this source and sink and these disks, and answers its status. The
-/// journal is left in `journal` at every status but 4 and 5, and at status 2 why a line is bad in `why`.
+/// A node of the program: its parts over a shadow store.
+pub type Node = NodeCore<NodeParts<ShadowStore>>;
+
+/// Runs the command that the words say, over this source and sink and these disks, and answers its status. The journal is left
+/// in `journal`, and the world of the nodes, once the disks were formatted, in `world`, at every status but 4 and 5, and at status 2
+/// why a line is bad in `why`.
 ///
-/// 0: the input was read to its end and every line was run. 1: the words aren't a command line. 2: a line isn't in
-/// the grammar. 3: a read failed. 4: a write failed. 5: memory was wanting. 6: a limit was met. 7: a disk stopped while
-/// it was formatted.
+/// 0: the input was read to its end and every line was run, or the bank was run and its summary written. 1: the words aren't a
+/// command line. 2: a line isn't in the grammar. 3: a read failed. 4: a write failed. 5: memory was wanting. 6: a limit was
+/// met. 7: a disk stopped while it was formatted, or while the bank's balances were read.
 pub fn arjuna<S: Source, K: Sink, D: Disk>(
     alloc: Global,
     words: &[String],
@@ -28,33 +37,11 @@ pub fn arjuna<S: Source, K: Sink, D: Disk>(
     rack: &mut Rack<D>,
     journal: &mut Lines,
     why: &mut Option<BadLine>,
+    world: &mut Option<World<Node>>,
 ) -> u8
-    requires empty { All (λ disk. (slot : Slot) → D.file disk slot ≡ None) rack.old }
+    requires ready { AreFresh D.Disk rack.old }
     requires fresh { journal.old ≡ [] }
-
-    // The headline, for every script.
-    ensures headline { result ≢ 1 → result ≢ 4 → result ≢ 5 → Headline (told_by D.file D.stops D.arms D.last_arm) (outside (S.left source.old) (S.faults source.old) (K.taken sink.old) rack.old) (outside (S.left source.new) (S.faults source.new) (K.taken sink.new) rack.new) (answer result why.new journal.new) }
-    // What still holds after a write that failed, or where memory was wanting.
-    ensures shown { (result ≡ 4) ⊎ (result ≡ 5) → Shown (told_by D.file D.stops D.arms D.last_arm) (outside (S.left source.old) (S.faults source.old) (K.taken sink.old) rack.old) (outside (S.left source.new) (S.faults source.new) (K.taken sink.new) rack.new) result }
-    // At every status: no disk but the first is touched, and none is armed.
-    ensures others { TouchesFirstAlone (told_by D.file D.stops D.arms D.last_arm) rack.old rack.new }
-
-    // Which status, where no field above says it: 5 alone is free.
-    ensures statuses { result ≤ 7 }
-    ensures command { result ≡ 1 → IsReplay words.now → ⊥ }
-    ensures no_command { (IsReplay words.now → ⊥) → result ≡ 1 }
-    ensures usage { result ≡ 1 → (journal.new ≡ []) × (source.new ≡ source.old) × (sink.new ≡ sink.old) × (rack.new ≡ rack.old) }
-    ensures read_fault { result ≡ 3 → Rose (S.faults source.old) (S.faults source.new) }
-    ensures write_fault { result ≡ 4 → Rose (K.faults sink.old) (K.faults sink.new) }
-    ensures no_write_fault { result ≢ 4 → K.faults sink.new ≡ K.faults sink.old }
-    ensures format_stop { result ≡ 7 → (journal.new ≡ []) × ((old new : D) → slice_get rack.old 0 ≡ Some old → slice_get rack.new 0 ≡ Some new
-        → Rose (D.stops old) (D.stops new)) }
+    requires none { world.old ≡ None }
 {
-    let [word] = words else {
-        return 1;
-    };
-    if word.as_str() != "replay" {
-        return 1;
-    }
-    replay::<S, K, D, OneNode>(alloc, source, sink, rack, journal, why)
+    run_on::<S, K, D, Node>(alloc, words, source, sink, rack, journal, why, world)
 }

@@ -36,6 +36,7 @@ fn run(rt: &HostRuntime, journal: &mut Lines, why: &mut Option<BadLine>) -> io::
     let mut source = StdSource::new(BufReader::new(alloc, rt.reader())?);
     let mut sink = StdSink::new(io::writer(rt));
     let mut rack = empty_rack(alloc)?;
+    let mut world = None;
     Ok(arjuna(
         alloc,
         words.as_slice(),
@@ -44,5 +45,6 @@ fn run(rt: &HostRuntime, journal: &mut Lines, why: &mut Option<BadLine>) -> io::
         &mut rack,
         journal,
         why,
+        &mut world,
     ))
 }

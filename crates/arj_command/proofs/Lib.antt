@@ -1,0 +1,4 @@
+pub mod Asked
+pub mod Banks
+pub mod Numbers
+pub mod Shows

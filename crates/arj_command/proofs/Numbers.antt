@@ -1,0 +1,49 @@
+-- Numbers as they are printed, and as they are read.
+use Rattle.std.proofs.Common.{◌≡◌, inl, inr, ℕ, zero, suc, ◌+◌, ◌<◌, ◌≤◌, List, [], ◌∷◌, length, refl, sym, ◌∙◌, ap, subst, arith}
+use Rattle.std.specs.Prelude.{Result, Ok, Err, get_or}
+use Rattle.std.specs.Fmt.{decimal}
+use Rattle.std.specs.Str.Parse.{AllDigits, ParsesUnsigned, digits_value}
+use Rattle.std.proofs.lemmas.Fmt.{decimal-digits_value, decimal_digit, decimal_injective, decimal_nonempty, first_decimal, parse-decimal}
+use Rattle.std.proofs.lemmas.Str.Parse.{IsNumeralModel, numerals_by_value, parse_plain, tells_digits}
+use Rattle.std.specs.declared.alloc.Global.{Global}
+use Rattle.std.specs.Prelude.{String}
+use Rattle.arj_command.specs.Command.{IsGenerate, IsPlain, IsReplay, NamesBank, most_banks}
+
+own : IsNumeralModel (AllDigits 10) (digits_value 10)
+own = numerals_by_value (AllDigits 10) tells_digits
+
+-- a number is printed plainly
+pub plain_decimal : (n : ℕ) → n < most_banks → IsPlain (decimal n)
+plain_decimal zero small = subst IsPlain (sym (decimal_digit 0 (omega arith))) (omega arith, λ e. absurd (omega (arith, e)), λ e. refl)
+plain_decimal (suc k) small =
+    let first = first_decimal (suc k) (omega arith) (omega (arith, small)) in
+    (decimal_nonempty (suc k) (omega (arith, small)), λ e. absurd (omega (arith, e, first)), λ e. absurd (omega (arith, e, first)))
+
+-- and where a plain text was read as a number, it is that number's
+pub read_plain : {E : Type 0} (bytes : List ℕ) (r : Result ℕ E) (n : ℕ) → IsPlain bytes → ParsesUnsigned 32 10 bytes r → r ≡ Ok n → bytes ≡ decimal n
+read_plain {E} bytes (Ok m) n plain parses is =
+    let p = parse_plain own {E = E} 32 bytes (Ok m) parses plain.1 in
+    let same : m ≡ n = cc is in
+    sym (decimal-digits_value own bytes p.0.0 plain.0 plain.2 (omega (arith, p.0.2))) ∙ ap decimal (sym p.1 ∙ same)
+read_plain bytes (Err e) n plain parses is = absurd (cc is)
+
+-- one that is printed was read
+pub not_read : {E : Type 0} (bytes : List ℕ) (r : Result ℕ E) (fault : E) (n : ℕ) → n < most_banks → bytes ≡ decimal n → ParsesUnsigned 32 10 bytes r → r ≡ Err fault → ⊥
+not_read bytes r fault n small is parses failed = let found = parse-decimal 32 n bytes r (omega (arith, small)) (omega (arith, small)) is parses in absurd (cc (sym failed ∙ found))
+
+-- words name one text
+one_text : (words : List (String Global)) (a b : List ℕ) → NamesBank words a → NamesBank words b → a ≡ b
+one_text [] a b first second = absurd first
+one_text (word ∷ []) a b first second = absurd first
+one_text (word ∷ number ∷ []) a b first second = sym first.1 ∙ second.1
+one_text (word ∷ number ∷ more ∷ words) a b first second = absurd first
+
+pub one_number : (words : List (String Global)) (m n : ℕ) → IsGenerate words m → IsGenerate words n → m ≡ n
+one_number words m n first second = decimal_injective m n (omega (arith, first.0)) (omega (arith, second.0)) (one_text words (decimal m) (decimal n) first.1 second.1)
+
+-- `replay` is one word
+pub not_both : (words : List (String Global)) (text : List ℕ) → NamesBank words text → IsReplay words → ⊥
+not_both [] text names is = names
+not_both (word ∷ []) text names is = names
+not_both (word ∷ number ∷ []) text names is = is
+not_both (word ∷ number ∷ more ∷ words) text names is = names

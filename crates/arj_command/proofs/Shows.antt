@@ -1,0 +1,148 @@
+-- What a run of a script shows.
+use Rattle.std.proofs.Common.{◌≡◌, ◌≢◌, ◌⊎◌, inl, inr, ℕ, List, [], ◌∷◌, ◌++◌, Option, Some, None, refl, sym, ◌∙◌, ap, subst}
+use Rattle.std.proofs.Math.Logic.{⊎_elim}
+use Rattle.std.proofs.lemmas.List.{append-nil}
+use Rattle.arj_command.specs.Facts.{AreAsAsked, Facts, behind}
+use Rattle.arj_command.specs.Outcome.{CameSoFar, Headline, Said, Shown, world_of}
+use Rattle.arj_command.proofs.Asked.{asked_end, asked_half}
+use Rattle.arj_core.specs.declared.node.Core as core
+use Rattle.arj_disk.specs.declared.disk.Disk as disk
+use Rattle.arj_journal.specs.declared.body.Line.{Line}
+use Rattle.arj_loop.specs.Input.{Arrived, script_of}
+use Rattle.arj_loop.specs.Replayed.{Answer, Closes, EndsSo, Outside, StopsShort, answer}
+use Rattle.arj_loop.specs.Running.{Hand, Halfway, MachineRuns, Stage, Why, last_body, last_lines}
+use Rattle.arj_loop.specs.declared.ending.End.{End}
+use Rattle.arj_loop.specs.declared.ending.End.TheVariants as ending
+use Rattle.arj_nodes.specs.AllNodes.{RanAll, Task, task}
+use Rattle.arj_nodes.specs.AsMachine.{all_nodes}
+use Rattle.arj_nodes.specs.declared.all_nodes.AllNodes.{AllNodes}
+use Rattle.arj_nodes_law.specs.Last.{EndsBehind, IsLast}
+use Rattle.arj_nodes_law.specs.Promised.{ShowsThePromise}
+use Rattle.arj_nodes_law.specs.Readings.{Reads}
+use Rattle.arj_nodes_law.specs.Turns.{Came, CloseShows, SoFarShows, StopShows}
+use Rattle.arj_script.specs.Grammar.{Place}
+use Rattle.arj_script.specs.Input.{events_of}
+use Rattle.arj_world.specs.Stands.{hand}
+
+-- an end puts no line but one outside of events
+is_last : (end : End) (count event : ℕ) → IsLast (last_lines (last_body end count) event)
+is_last ending.Whole count event = tt
+is_last (ending.Bad w) count event = refl
+is_last ending.Fault count event = tt
+is_last ending.Write count event = tt
+is_last ending.Memory count event = tt
+is_last ending.Lines count event = refl
+is_last ending.Labels count event = refl
+is_last ending.Frames count event = tt
+is_last ending.Format count event = tt
+
+module _ {C D : Type 0} (c : core.Ghosts C) (d : disk.Ghosts D) where
+  -- nothing stands behind the lines of events
+  pub behind_none : (lines : List Line) → EndsBehind lines lines
+  behind_none lines = ([], tt, sym (append-nil lines))
+
+  -- what a run's end puts behind them
+  behind_end : (given : Arrived) (first after : List D) (end : End) (journal : List Line) → (e : EndsSo (all_nodes c d) given first after end journal) → EndsBehind (let at = e.at in at.journal) journal
+  behind_end given first after end journal e = (_, is_last end (let at = e.at in at.count) _, e.journal_is)
+
+  -- where nodes were formatted, they ran the events
+  ran_at : (first mid : List D) (done : List (List ℕ)) (place : Place) (at : Hand (AllNodes C)) (s : Stage (all_nodes c d) first mid done place at) (all : AllNodes C) → at.machine ≡ Some all
+      → RanAll c d (task first s.header (events_of s.forms)) all.over (hand all.world mid at.journal)
+  ran_at first mid done place at s all is = let runs = subst (λ machine. MachineRuns (all_nodes c d) first mid s.forms place s.header at.journal machine) is s.machine_is in runs.2
+
+  -- else there is no line of an event
+  bare_at : (first mid : List D) (done : List (List ℕ)) (place : Place) (at : Hand (AllNodes C)) (s : Stage (all_nodes c d) first mid done place at) → at.machine ≡ None → at.journal ≡ []
+  bare_at first mid done place at s is = let runs = subst (λ machine. MachineRuns (all_nodes c d) first mid s.forms place s.header at.journal machine) is s.machine_is in runs.4
+
+  only_last : (lines journal : List Line) → lines ≡ [] → EndsBehind lines journal → IsLast journal
+  only_last lines journal none b = subst IsLast (sym (b.2 ∙ ap (λ ls. ls ++ b.0) none)) b.1
+
+  -- the disks at the end are those of the last event
+  end_rack : (given : Arrived) (first after : List D) (end : End) (journal : List Line) (e : EndsSo (all_nodes c d) given first after end journal) (all : AllNodes C) → (let at = e.at in at.machine) ≡ Some all → after ≡ e.mid
+  end_rack given first after end journal e all is = ⊎_elim (λ stopped. absurd (no_format end stopped.0 (let r = e.reached in r.why))) (λ other. other.1) e.racks
+    where
+      no_format : (end : End) → end ≡ ending.Format → (let r = e.reached in let s = r.stage in let g = script_of given in Why (all_nodes c d) end g.stopped r.rest r.place e.mid e.at s.header) → ⊥
+      no_format end stopped why =
+          let w = subst (λ x. (let r = e.reached in let s = r.stage in let g = script_of given in Why (all_nodes c d) x g.stopped r.rest r.place e.mid e.at s.header)) stopped why in
+          let never : None ≡ Some all = sym w.5 ∙ is in
+          cc never
+
+  module _ (read : Reads) where
+    pub facts_of : (t : Task D) (all : AllNodes C) (rack : List D) (core journal : List Line) → EndsBehind core journal → RanAll c d t all.over (hand all.world rack core) → ShowsThePromise d read t all.over journal rack
+        → Facts c d read t (behind all rack journal)
+    facts_of t all rack core journal outside ran promise = record {
+      core = core;
+      outside = outside;
+      ran = ran;
+      promise = promise;
+      halts = halts_of c d t all.over (hand all.world rack core) journal ran outside;
+      armed = arms_of c d t all.over (hand all.world rack core) journal ran outside;
+    }
+
+    -- ---- a run that came to its end
+
+    ended : (given : Arrived) (first after : List D) (end : End) (journal : List Line) (e : EndsSo (all_nodes c d) given first after end journal) (all : AllNodes C) → (let at = e.at in at.machine) ≡ Some all
+        → (let r = e.reached in let s = r.stage in ShowsThePromise d read (task first s.header (events_of s.forms)) all.over journal after)
+        → (let r = e.reached in let s = r.stage in Facts c d read (task first s.header (events_of s.forms)) (behind all after journal))
+    ended given first after end journal e all is promise =
+        let r = e.reached in
+        let s = r.stage in
+        facts_of (task first s.header (events_of s.forms)) all after (let at = e.at in at.journal) journal (behind_end given first after end journal e)
+        (subst (λ rack. RanAll c d (task first s.header (events_of s.forms)) all.over (hand all.world rack (let at = e.at in at.journal))) (sym (end_rack given first after end journal e all is)) (ran_at first e.mid r.done r.place e.at s all is))
+        promise
+
+    pub headline : (before after : Outside D) (says : Said C) (nodes : Option (AllNodes C)) (run : Closes (all_nodes c d) before after (answer says.status says.why says.journal nodes))
+        → CloseShows c d read before after (answer says.status says.why says.journal nodes) run → says.world ≡ world_of nodes → Headline c d read before after says
+    headline before after says nodes run shows world = record {
+      nodes = nodes;
+      run = run;
+      world_is = world;
+      facts = λ all is. let at = sym run.machine_is ∙ is in ended run.given before.rack after.rack run.end says.journal run.ends all at (shows all at);
+      nothing = λ none.
+          let e = run.ends in
+          let r = e.reached in
+          only_last (let at = e.at in at.journal) says.journal (bare_at before.rack e.mid r.done r.place e.at r.stage (sym run.machine_is ∙ none)) (behind_end run.given before.rack after.rack run.end says.journal e);
+      disks = asked_end c d run.given before.rack after.rack run.end says.journal run.ends;
+    }
+
+    -- ---- a run that stopped short
+
+    so_far : (given : Arrived) (first after : List D) (status : ℕ) (journal : List Line) (run : Came c d given first after status journal) → SoFarShows c d read given first after status journal run
+        → IsLast journal ⊎ CameSoFar c d read first journal
+    so_far given first after status journal (inl (at, half, is, went)) shows = by at.machine refl
+      where
+        by : (machine : Option (AllNodes C)) → at.machine ≡ machine → IsLast journal ⊎ CameSoFar c d read first journal
+        by None none = inl (only_last at.journal journal (bare_at first half.mid half.done half.place at half.stage none) (subst (λ ls. EndsBehind at.journal ls) (sym is) (behind_none at.journal)))
+        by (Some all) some = let s = half.stage in
+            inr (record {
+              header = s.header;
+              events = events_of s.forms;
+              all = all;
+              rack = half.mid;
+              facts = facts_of (task first s.header (events_of s.forms)) all half.mid at.journal journal (subst (λ ls. EndsBehind at.journal ls) (sym is) (behind_none at.journal)) (ran_at first half.mid half.done half.place at s all some) (shows all some);
+            })
+    so_far given first after status journal (inr (four, end, e)) shows = by (let at = e.at in at.machine) refl
+      where
+        r = e.reached
+
+        by : (machine : Option (AllNodes C)) → (let at = e.at in at.machine) ≡ machine → IsLast journal ⊎ CameSoFar c d read first journal
+        by None none = inl (only_last (let at = e.at in at.journal) journal (bare_at first e.mid r.done r.place e.at r.stage none) (behind_end given first after end journal e))
+        by (Some all) some = let s = r.stage in
+            inr (record {
+              header = s.header;
+              events = events_of s.forms;
+              all = all;
+              rack = after;
+              facts = ended given first after end journal e all some (shows all some);
+            })
+
+    asked_so_far : (given : Arrived) (first after : List D) (status : ℕ) (journal : List Line) → Came c d given first after status journal → (let s = script_of given in AreAsAsked d s.lines first after)
+    asked_so_far given first after status journal (inl (at, half, is, went)) = asked_half c d first after given at half
+    asked_so_far given first after status journal (inr (four, end, e)) = asked_end c d given first after end journal e
+
+    pub shown : (before after : Outside D) (status : ℕ) (run : StopsShort (all_nodes c d) before after status) → StopShows c d read before after status run → Shown c d read before after status
+    shown before after status run shows = record {
+      run = run;
+      facts = so_far run.given before.rack after.rack status run.journal run.run shows;
+      disks = asked_so_far run.given before.rack after.rack status run.journal run.run;
+    }

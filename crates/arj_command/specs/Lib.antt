@@ -1,0 +1,3 @@
+pub mod Command
+pub mod Facts
+pub mod Outcome

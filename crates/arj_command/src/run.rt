@@ -1,0 +1,102 @@
+// The run of a command over any cores.
+ghost use Rattle.std.specs.Prelude.{◌≡◌, ◌≢◌, ◌≤◌, ◌⊎◌, ℕ, [], None};
+ghost use Rattle.arj_bank.specs.Bank.{Generates};
+ghost use Rattle.arj_base.specs.Count.{Rose};
+ghost use Rattle.arj_command.specs.Command.{IsCommand, IsGenerate, IsReplay};
+ghost use Rattle.arj_command.specs.Outcome.{BankHeadline, Headline, Shown, said, world_of};
+ghost use Rattle.arj_loop.specs.Replayed.{Closes, StopsShort, answer, outside};
+ghost use Rattle.arj_nodes.specs.AllNodes.{AreFresh};
+ghost use Rattle.arj_nodes.specs.AsMachine.{all_nodes};
+ghost use Rattle.arj_nodes_law.specs.Cores.{SaysReadings};
+ghost use Rattle.arj_nodes_law.specs.Readings.{Reads};
+
+use crate::words::{Command, asked_for};
+use arj_bank::generated;
+use arj_core::Core;
+use arj_disk::{Disk, Rack};
+use arj_io::{Sink, Source};
+use arj_journal::Lines;
+use arj_loop::{BadLine, replay};
+use arj_nodes::AllNodes;
+use arj_nodes_law::{banks_show_what_is_promised, nodes_show_what_is_promised};
+use arj_world::World;
+use std::alloc::Global;
+
+// The world of nodes, if they are there.
+fn world_of<C>(nodes: Option<AllNodes<C>>) -> Option<World<C>>
+    ensures { result ≡ world_of nodes }
+{
+    match nodes {
+        Some(nodes) => Some(nodes.into_world()),
+        None => None,
+    }
+}
+
+// Runs the command that the words say, hands the nodes out, and answers the status.
+fn run_command<S: Source, K: Sink, D: Disk, C: Core + Drop>(
+    alloc: Global,
+    words: &[String],
+    source: &mut S,
+    sink: &mut K,
+    rack: &mut Rack<D>,
+    journal: &mut Lines,
+    why: &mut Option<BadLine>,
+    nodes: &mut Option<AllNodes<C>>,
+) -> u8
+    requires ready { AreFresh D.Disk rack.old }
+    requires fresh { journal.old ≡ [] }
+    requires none { nodes.old ≡ None }
+    ensures closes { IsReplay words.now → result ≢ 4 → result ≢ 5 → Closes (all_nodes C.Core D.Disk) (outside (S.left source.old) (S.faults source.old) (K.taken sink.old) rack.old) (outside (S.left source.new) (S.faults source.new) (K.taken sink.new) rack.new) (answer result why.new journal.new nodes.new) }
+    ensures short { IsReplay words.now → (result ≡ 4) ⊎ (result ≡ 5) → StopsShort (all_nodes C.Core D.Disk) (outside (S.left source.old) (S.faults source.old) (K.taken sink.old) rack.old) (outside (S.left source.new) (S.faults source.new) (K.taken sink.new) rack.new) result }
+    ensures generates { (n : ℕ) → IsGenerate words.now n → Generates (all_nodes C.Core D.Disk) D.Disk n (outside (S.left source.old) (S.faults source.old) (K.taken sink.old) rack.old) (outside (S.left source.new) (S.faults source.new) (K.taken sink.new) rack.new) (answer result why.new journal.new nodes.new) }
+    ensures statuses { result ≤ 7 }
+    ensures command { result ≡ 1 → IsCommand words.now → ⊥ }
+    ensures no_command { (IsCommand words.now → ⊥) → result ≡ 1 }
+    ensures usage { result ≡ 1 → (source.new ≡ source.old) × (sink.new ≡ sink.old) × (rack.new ≡ rack.old) × (journal.new ≡ journal.old) × (why.new ≡ why.old) × (nodes.new ≡ nodes.old) }
+    ensures write_fault { result ≡ 4 → Rose (K.faults sink.old) (K.faults sink.new) }
+    ensures no_write_fault { result ≢ 4 → K.faults sink.new ≡ K.faults sink.old }
+{
+    match asked_for(words) {
+        Command::Replay => replay::<S, K, D, AllNodes<C>>(
+            alloc, source, sink, rack, journal, why, nodes,
+        ),
+        Command::Bank(n) => generated::<K, D, AllNodes<C>>(alloc, n, sink, rack, journal, nodes),
+        Command::None => 1,
+    }
+}
+
+/// Runs the command that the words say on cores of this type, over this source and sink and these disks, and answers its
+/// status. It says of any cores what `arjuna` says of the program's own.
+pub fn run_on<S: Source, K: Sink, D: Disk, C: Core + Drop>(
+    alloc: Global,
+    words: &[String],
+    source: &mut S,
+    sink: &mut K,
+    rack: &mut Rack<D>,
+    journal: &mut Lines,
+    why: &mut Option<BadLine>,
+    world: &mut Option<World<C>>,
+) -> u8
+    requires ready { AreFresh D.Disk rack.old }
+    requires fresh { journal.old ≡ [] }
+    requires none { world.old ≡ None }
+    ensures headline { (read : Reads) → SaysReadings C.Core read → IsReplay words.now → result ≢ 4 → result ≢ 5 → Headline C.Core D.Disk read (outside (S.left source.old) (S.faults source.old) (K.taken sink.old) rack.old) (outside (S.left source.new) (S.faults source.new) (K.taken sink.new) rack.new) (said result why.new journal.new world.new) }
+    ensures shown { (read : Reads) → SaysReadings C.Core read → IsReplay words.now → (result ≡ 4) ⊎ (result ≡ 5) → Shown C.Core D.Disk read (outside (S.left source.old) (S.faults source.old) (K.taken sink.old) rack.old) (outside (S.left source.new) (S.faults source.new) (K.taken sink.new) rack.new) result }
+    ensures bank { (read : Reads) → SaysReadings C.Core read → (n : ℕ) → IsGenerate words.now n → BankHeadline C.Core D.Disk read n (outside (S.left source.old) (S.faults source.old) (K.taken sink.old) rack.old) (outside (S.left source.new) (S.faults source.new) (K.taken sink.new) rack.new) (said result why.new journal.new world.new) }
+    ensures statuses { result ≤ 7 }
+    ensures command { result ≡ 1 → IsCommand words.now → ⊥ }
+    ensures no_command { (IsCommand words.now → ⊥) → result ≡ 1 }
+    ensures usage { result ≡ 1 → (source.new ≡ source.old) × (sink.new ≡ sink.old) × (rack.new ≡ rack.old) × (journal.new ≡ journal.old) × (why.new ≡ why.old) × (world.new ≡ world.old) }
+    ensures read_fault { result ≡ 3 → Rose (S.faults source.old) (S.faults source.new) }
+    ensures write_fault { result ≡ 4 → Rose (K.faults sink.old) (K.faults sink.new) }
+    ensures no_write_fault { result ≢ 4 → K.faults sink.new ≡ K.faults sink.old }
+{
+    nodes_show_what_is_promised::<C, D>();
+    banks_show_what_is_promised::<C, D>();
+    let mut nodes = None;
+    let status = run_command::<S, K, D, C>(
+        alloc, words, source, sink, rack, journal, why, &mut nodes,
+    );
+    *world = world_of(nodes);
+    status
+}
