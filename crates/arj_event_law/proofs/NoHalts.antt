@@ -1,15 +1,15 @@
--- No step but a crash says that a node halted.
+-- No step but a crash says that a node halted, and none says that a disk was armed.
 use Rattle.std.proofs.Common.{◌≡◌, ◌∙◌, ◌==◌, ◌&&◌, ℕ, zero, suc, Bool, true, false, cond, List, [], ◌∷◌, ◌++◌, ◌+◌, map, filter, refl, sym, Option, Some, None, arith}
 use Rattle.std.specs.Prelude.{option_map}
 use Rattle.std.specs.List.{list_all}
 use Rattle.std.proofs.lemmas.Bool.{and_parts}
-use Rattle.arj_event_law.specs.Halts.{is_crash, is_no_halt, says_no_halt, says_own_halt}
+use Rattle.arj_event_law.specs.Halts.{is_crash, is_no_arm, is_no_halt, says_no_arm, says_no_halt, says_own_halt}
 use Rattle.arj_protocol.proofs.CoordSays.{acked_own, acts_own, again_own, heard_own, query_own, tolds_again_own}
 use Rattle.arj_protocol.proofs.PartSays.{activate_own, all_both, all_flat, bind_own, confirm_own, ends_own, invoke_own, note_own, told_own, vote_own}
 use Rattle.arj_protocol.specs.Ask.{Reply, actor, answers, asked_by, last_end, response}
 use Rattle.arj_protocol.specs.Asking.{again_all, heard}
 use Rattle.arj_protocol.specs.Confirm.{back_lines, confirm}
-use Rattle.arj_protocol.specs.Effect.{Disk, Effect, Pair, Say, Send, Do, Look, PutInc, Served, Prep, Ready, Already, Old, InDoubt, held_at, holder_of, is_prepared, prepare_answer, worked}
+use Rattle.arj_protocol.specs.Effect.{Disk, Effect, Pair, Work, Say, Send, Do, Look, PutInc, Served, Prep, Ready, Already, Old, InDoubt, held_at, holder_of, is_prepared, prepare_answer, worked}
 use Rattle.arj_protocol.specs.Ending.{acked, answer_query}
 use Rattle.arj_protocol.specs.Named.{Named}
 use Rattle.arj_protocol.specs.Naming as naming
@@ -28,69 +28,77 @@ use Rattle.arj_protocol.specs.Words.ending
 use Rattle.arj_protocol.specs.Words.message
 use Rattle.arj_protocol.specs.Words.prepared
 
+-- a line says neither
+abbrev is_no_stop : Body → Bool
+is_no_stop b = is_no_halt b && is_no_arm b
+
+abbrev says_no_stop : Effect → Bool
+says_no_stop (Say b) = is_no_stop b
+says_no_stop _ = true
+
 abbrev Good : List Effect → Type 0
-Good outs = AreAll says_no_halt outs
+Good outs = AreAll says_no_stop outs
 
 abbrev outs_of : Handled → List Effect
 outs_of (Void outs) = outs
 outs_of (Took t outs) = outs
 
--- a line of a kind to which a halt doesn't belong is none
-other_line : (test : Body → Bool) → ((n : ℕ) → test (body.Halted n) ≡ false) → (b : Body) → test b ≡ true → is_no_halt b ≡ true
-other_line test none (body.Began a b c d) is = refl
-other_line test none (body.Ok a b c d) is = refl
-other_line test none (body.Includes a b c) is = refl
-other_line test none (body.Conflict a b c d) is = refl
-other_line test none (body.Lost a b) is = refl
-other_line test none (body.Changed a b c) is = refl
-other_line test none (body.Committing a) is = refl
-other_line test none (body.Committed a) is = refl
-other_line test none (body.Ended a) is = refl
-other_line test none (body.Aborted a b) is = refl
-other_line test none (body.GaveUp a b) is = refl
-other_line test none (body.Excluded a b c) is = refl
-other_line test none (body.Granted a b c d) is = refl
-other_line test none (body.Lowered a b c) is = refl
-other_line test none (body.Bound a b c) is = refl
-other_line test none (body.Active a b c) is = refl
-other_line test none (body.Told a b c d) is = refl
-other_line test none (body.Prepared a b c) is = refl
-other_line test none (body.Done a b c d) is = refl
-other_line test none (body.Sent a b c d) is = refl
-other_line test none (body.Got a) is = refl
-other_line test none (body.Void a) is = refl
-other_line test none (body.Dropped a) is = refl
-other_line test none (body.Halted a) is = absurd (cc (sym is ∙ none a))
-other_line test none (body.Up a b) is = refl
-other_line test none (body.Armed a) is = refl
-other_line test none (body.Recovered a b) is = refl
-other_line test none (body.Refused a) is = refl
-other_line test none (body.Entry a b c d) is = refl
-other_line test none (body.Copy a b c d e) is = refl
-other_line test none (body.Quiet a) is = refl
-other_line test none (body.Bad a) is = refl
-other_line test none (body.Limit a) is = refl
+-- a line of a kind to which neither belongs is none
+other_line : (test : Body → Bool) → ((n : ℕ) → test (body.Halted n) ≡ false) → ((n : ℕ) → test (body.Armed n) ≡ false) → (b : Body) → test b ≡ true → is_no_stop b ≡ true
+other_line test none unarmed (body.Began a b c d) is = refl
+other_line test none unarmed (body.Ok a b c d) is = refl
+other_line test none unarmed (body.Includes a b c) is = refl
+other_line test none unarmed (body.Conflict a b c d) is = refl
+other_line test none unarmed (body.Lost a b) is = refl
+other_line test none unarmed (body.Changed a b c) is = refl
+other_line test none unarmed (body.Committing a) is = refl
+other_line test none unarmed (body.Committed a) is = refl
+other_line test none unarmed (body.Ended a) is = refl
+other_line test none unarmed (body.Aborted a b) is = refl
+other_line test none unarmed (body.GaveUp a b) is = refl
+other_line test none unarmed (body.Excluded a b c) is = refl
+other_line test none unarmed (body.Granted a b c d) is = refl
+other_line test none unarmed (body.Lowered a b c) is = refl
+other_line test none unarmed (body.Bound a b c) is = refl
+other_line test none unarmed (body.Active a b c) is = refl
+other_line test none unarmed (body.Told a b c d) is = refl
+other_line test none unarmed (body.Prepared a b c) is = refl
+other_line test none unarmed (body.Done a b c d) is = refl
+other_line test none unarmed (body.Sent a b c d) is = refl
+other_line test none unarmed (body.Got a) is = refl
+other_line test none unarmed (body.Void a) is = refl
+other_line test none unarmed (body.Dropped a) is = refl
+other_line test none unarmed (body.Halted a) is = absurd (cc (sym is ∙ none a))
+other_line test none unarmed (body.Up a b) is = refl
+other_line test none unarmed (body.Armed a) is = absurd (cc (sym is ∙ unarmed a))
+other_line test none unarmed (body.Recovered a b) is = refl
+other_line test none unarmed (body.Refused a) is = refl
+other_line test none unarmed (body.Entry a b c d) is = refl
+other_line test none unarmed (body.Copy a b c d e) is = refl
+other_line test none unarmed (body.Quiet a) is = refl
+other_line test none unarmed (body.Bad a) is = refl
+other_line test none unarmed (body.Limit a) is = refl
 
--- effects of a kind to which a halt doesn't belong
-good_all : (test : Effect → Bool) (line : Body → Bool) → ((b : Body) → test (Say b) ≡ line b) → ((n : ℕ) → line (body.Halted n) ≡ false) → (es : List Effect) → AreAll test es → Good es
-good_all test line same none [] all = refl
-good_all test line same none (Say b ∷ es) all =
+-- effects of a kind to which neither belongs
+good_all : (test : Effect → Bool) (line : Body → Bool) → ((b : Body) → test (Say b) ≡ line b) → ((n : ℕ) → line (body.Halted n) ≡ false) → ((n : ℕ) → line (body.Armed n) ≡ false) → (es : List Effect) → AreAll test es → Good es
+good_all test line same none unarmed [] all = refl
+good_all test line same none unarmed (Say b ∷ es) all =
     let own = and_parts (test (Say b)) (list_all test es) all in
-    let good = other_line line none b (sym (same b) ∙ own.0) in
-    λ i. good i && good_all test line same none es own.1 i
-good_all test line same none (Send to m ∷ es) all = good_all test line same none es (and_parts (test (Send to m)) (list_all test es) all).1
-good_all test line same none (Do w ∷ es) all = good_all test line same none es (and_parts (test (Do w)) (list_all test es) all).1
+    let good = other_line line none unarmed b (sym (same b) ∙ own.0) in
+    λ i. good i && good_all test line same none unarmed es own.1 i
+good_all test line same none unarmed (Send to m ∷ es) all = good_all test line same none unarmed es (and_parts (test (Send to m)) (list_all test es) all).1
+good_all test line same none unarmed (Do w ∷ es) all = good_all test line same none unarmed es (and_parts (test (Do w)) (list_all test es) all).1
 
 server_good : (n : ℕ) (es : List Effect) → AreAll (is_server_effect n) es → Good es
-server_good n = good_all (is_server_effect n) (is_server_line n) (λ b. refl) (λ m. refl)
+server_good n = good_all (is_server_effect n) (is_server_line n) (λ b. refl) (λ m. refl) (λ m. refl)
 
 naming_good : (es : List Effect) → AreAll is_naming_effect es → Good es
-naming_good = good_all is_naming_effect is_naming_line (λ b. refl) (λ m. refl)
+naming_good = good_all is_naming_effect is_naming_line (λ b. refl) (λ m. refl) (λ m. refl)
 
 coord_good : (es : List Effect) → AreAll is_coord_effect es → Good es
-coord_good = good_all is_coord_effect is_coord_line (λ b. refl) (λ m. refl)
+coord_good = good_all is_coord_effect is_coord_line (λ b. refl) (λ m. refl) (λ m. refl)
 
-map_good : {A : Type 0} (f : A → Effect) (items : List A) → ((a : A) → says_no_halt (f a) ≡ true) → Good (map f items)
+map_good : {A : Type 0} (f : A → Effect) (items : List A) → ((a : A) → says_no_stop (f a) ≡ true) → Good (map f items)
 map_good f [] each = refl
 map_good f (a ∷ rest) each = λ i. each a i && map_good f rest each i
 
@@ -99,7 +107,7 @@ map_good f (a ∷ rest) each = λ i. each a i && map_good f rest each i
 module _ (from : ℕ) (h : Head) where
   answer_good : (t : Parts) (outs : List Effect) (r : Option Reply) → Good outs → Good (outs_of (sends_answer from h t outs r))
   answer_good t outs None all = refl
-  answer_good t outs (Some r) all = all_both says_no_halt outs (Send from (response (asked_by h) r) ∷ []) all refl
+  answer_good t outs (Some r) all = all_both says_no_stop outs (Send from (response (asked_by h) r) ∷ []) all refl
 
   served_good : {S R : Type 0} (put : S → Parts) (say : R → Reply) (r : Served S R) → Good r.outs → Good (outs_of (served from h put say r))
   served_good put say r all = answer_good (put r.part) r.outs (option_map say r.reply) all
@@ -141,9 +149,9 @@ module _ (from : ℕ) (h : Head) where
 
 told_good : (n : ℕ) (d : Disk) (t : Parts) (from : ℕ) (ack : Bool) (ends : List (Uid × End)) (u : Uid) (e : End) → Good (outs_of (handle_told n d t from ack ends u e))
 told_good n d t from ack ends u e =
-    all_both says_no_halt (store_told n u e d.store ++ (naming_told u e d.names t.naming).outs ++ (server.told n ends t.server).outs) (ack_told from u ack)
-    (all_both says_no_halt (store_told n u e d.store ++ (naming_told u e d.names t.naming).outs) (server.told n ends t.server).outs
-    (all_both says_no_halt (store_told n u e d.store) (naming_told u e d.names t.naming).outs (store (is_prepared u d.store) e) (names t.naming))
+    all_both says_no_stop (store_told n u e d.store ++ (naming_told u e d.names t.naming).outs ++ (server.told n ends t.server).outs) (ack_told from u ack)
+    (all_both says_no_stop (store_told n u e d.store ++ (naming_told u e d.names t.naming).outs) (server.told n ends t.server).outs
+    (all_both says_no_stop (store_told n u e d.store) (naming_told u e d.names t.naming).outs (store (is_prepared u d.store) e) (names t.naming))
     (server_good n (server.told n ends t.server).outs (ends_own n ends t.server)))
     (acks ack)
   where
@@ -209,7 +217,7 @@ taken_good n d t from m = by (is_meant t m)
 
 ran_good : (n : ℕ) (t : Parts) (es : List Effect) (d : Disk) → Good es → Good (ran n t es d).outs
 ran_good n t [] d all = refl
-ran_good n t (Say b ∷ es) d all = let own = and_parts (is_no_halt b) (list_all says_no_halt es) all in λ i. own.0 i && ran_good n t es d own.1 i
+ran_good n t (Say b ∷ es) d all = let own = and_parts (is_no_stop b) (list_all says_no_stop es) all in λ i. own.0 i && ran_good n t es d own.1 i
 ran_good n t (Do w ∷ es) d all = ran_good n t es (worked w d) all
 ran_good n t (Send to m ∷ es) d all = by (to == n) (ran_good n t es d all)
   where
@@ -225,11 +233,11 @@ all_good : (n : ℕ) (ms : List Message) (h : Here) → Good (handle_all n ms h)
 all_good n [] h = refl
 all_good n (m ∷ ms) h =
     let r = ran_handled n h (taken n h.disk h.parts n m) in
-    all_both says_no_halt r.outs (handle_all n ms r.here).outs (handled_good n h (taken n h.disk h.parts n m) (taken_good n h.disk h.parts n m)) (all_good n ms r.here)
+    all_both says_no_stop r.outs (handle_all n ms r.here).outs (handled_good n h (taken n h.disk h.parts n m) (taken_good n h.disk h.parts n m)) (all_good n ms r.here)
 
 rounds_good : (n k : ℕ) (r : Ran) → Good r.outs → Good (rounds n k r).outs
 rounds_good n zero r all = all
-rounds_good n (suc k) r all = by r.queue (rounds_good n k (next_round n r) (all_both says_no_halt r.outs (handle_all n r.queue r.here).outs all (all_good n r.queue r.here)))
+rounds_good n (suc k) r all = by r.queue (rounds_good n k (next_round n r) (all_both says_no_stop r.outs (handle_all n r.queue r.here).outs all (all_good n r.queue r.here)))
   where
     after : List Message → Ran
     after q = elim q [ [] ↦ r | m ∷ ms ↦ rounds n k (next_round n r) ]
@@ -239,7 +247,7 @@ rounds_good n (suc k) r all = by r.queue (rounds_good n k (next_round n r) (all_
     by (m ∷ ms) more = more
 
 did_good : (n : Node) (before : List Effect) (t : Parts) (outs : List Effect) → Good before → Good outs → Good (node_did n before t outs).outs
-did_good n before t outs first all = all_both says_no_halt before (whole n.number t outs n.disk).outs first (rounds_good n.number most_rounds (ran n.number t outs n.disk) (ran_good n.number t outs n.disk all))
+did_good n before t outs first all = all_both says_no_stop before (whole n.number t outs n.disk).outs first (rounds_good n.number most_rounds (ran n.number t outs n.disk) (ran_good n.number t outs n.disk all))
 
 -- both of a step
 abbrev Both : Step → Type 0
@@ -249,7 +257,7 @@ did_both : (n : Node) (before : List Effect) (t : Parts) (outs : List Effect) �
 did_both n before t outs first all = (did_good n before t outs first all, did_good n before t outs first all)
 
 void_both : (k : ℕ) (n : Node) (outs : List Effect) → Good outs → Both (void_step k n outs)
-void_both k n outs all = (all_both says_no_halt outs (Say (body.Void k) ∷ []) all refl, all)
+void_both k n outs all = (all_both says_no_stop outs (Say (body.Void k) ∷ []) all refl, all)
 
 frame_both : (k from : ℕ) (n : Node) (t : Parts) (m : Option Message) → Both (frame_step k from n t m)
 frame_both k from n t None = void_both k n [] refl
@@ -263,8 +271,8 @@ tick_both : (n : Node) (t : Parts) → Both (tick_step n t)
 tick_both n t =
     let d = again_all t.coord.doings t.coord in
     did_both n [] (with_coord t d.part) (d.outs ++ tolds_again t.coord.telling ++ map query_about (holders n.disk t)) refl
-    (all_both says_no_halt (d.outs ++ tolds_again t.coord.telling) (map query_about (holders n.disk t))
-    (all_both says_no_halt d.outs (tolds_again t.coord.telling) (coord_good d.outs (again_own t.coord.doings t.coord)) (coord_good (tolds_again t.coord.telling) (tolds_again_own t.coord.telling)))
+    (all_both says_no_stop (d.outs ++ tolds_again t.coord.telling) (map query_about (holders n.disk t))
+    (all_both says_no_stop d.outs (tolds_again t.coord.telling) (coord_good d.outs (again_own t.coord.doings t.coord)) (coord_good (tolds_again t.coord.telling) (tolds_again_own t.coord.telling)))
     (map_good query_about (holders n.disk t) (λ u. refl)))
 
 acts_both : (n : Node) (t : Parts) (i : Input) → Both (step.coord_did n t (acts i n.disk.intents t.coord))
@@ -278,7 +286,7 @@ shown_good line u d each = by (holder_of u d)
     by None = each (held_at u d)
 
 show_good : (n x : ℕ) (d : Disk) → Good (show_outs n x d)
-show_good n x d = all_both says_no_halt (show_entry n x d.names) (shown (copy_line n x) (object x) d.store (holder_of (object x) d.store)) (by (n == 1)) (shown_good (copy_line n x) (object x) d.store copy)
+show_good n x d = all_both says_no_stop (show_entry n x d.names) (shown (copy_line n x) (object x) d.store (holder_of (object x) d.store)) (by (n == 1)) (shown_good (copy_line n x) (object x) d.store copy)
   where
     copy : (s : Option ObjectState) → Good (copy_line n x s)
     copy None = refl
@@ -294,7 +302,7 @@ show_good n x d = all_both says_no_halt (show_entry n x d.names) (shown (copy_li
 
 back_good : (o : Option Naming) → Good (naming_back o)
 back_good None = refl
-back_good (Some o) = all_flat says_no_halt (λ (e : ℕ × Named). back_lines e.1) o.objects (λ e. map_good _ e.1.rows (λ r. refl))
+back_good (Some o) = all_flat says_no_stop (λ (e : ℕ × Named). back_lines e.1) o.objects (λ e. map_good _ e.1.rows (λ r. refl))
 
 restart_good : (hd : Header) (n inc : ℕ) (d : Disk) → Good (restart_outs hd n inc d)
 restart_good hd n inc d =
@@ -303,10 +311,10 @@ restart_good hd n inc d =
     let asks = map query_about (uid_set (prepared_actions d.store ++ prepared_actions d.names)) in
     let hellos = map (hello_to n inc) (without_number n (numbers_to hd.nodes)) in
     let first = Do Look ∷ Do (PutInc inc) ∷ Say (body.Up n inc) ∷ Do Look ∷ back in
-    all_both says_no_halt (first ++ records ++ tolds_again d.intents ++ asks) hellos
-    (all_both says_no_halt (first ++ records ++ tolds_again d.intents) asks
-    (all_both says_no_halt (first ++ records) (tolds_again d.intents)
-    (all_both says_no_halt first records (back_good (naming_at n inc d.names)) (map_good _ d.intents (λ e. refl)))
+    all_both says_no_stop (first ++ records ++ tolds_again d.intents ++ asks) hellos
+    (all_both says_no_stop (first ++ records ++ tolds_again d.intents) asks
+    (all_both says_no_stop (first ++ records) (tolds_again d.intents)
+    (all_both says_no_stop first records (back_good (naming_at n inc d.names)) (map_good _ d.intents (λ e. refl)))
     (coord_good (tolds_again d.intents) (tolds_again_own d.intents)))
     (map_good query_about (uid_set (prepared_actions d.store ++ prepared_actions d.names)) (λ u. refl)))
     (map_good (hello_to n inc) (without_number n (numbers_to hd.nodes)) (λ m. refl))
@@ -337,8 +345,8 @@ down_both hd n (Commit l) = (refl, refl)
 down_both hd n (Abort l) = (refl, refl)
 down_both hd n (GiveUp l) = (refl, refl)
 
-pub step_both : (hd : Header) (n : Node) (i : Input) → is_crash i ≡ false → Good (step.step hd n i).outs × Good (step.step hd n i).halting
-step_both hd n i isnt = by (refusal hd i n)
+step_good : (hd : Header) (n : Node) (i : Input) → is_crash i ≡ false → Both (step.step hd n i)
+step_good hd n i isnt = by (refusal hd i n)
   where
     live : (o : Option Parts) → Both (step_of hd i n o)
     live None = down_both hd n i
@@ -347,6 +355,19 @@ step_both hd n i isnt = by (refusal hd i n)
     by : (r : Option ℕ) → Both (step_unless hd i n r)
     by (Some c) = (refl, refl)
     by None = live n.live
+
+-- each of the two by itself
+weaker : (some : Effect → Bool) → ((b : Body) → is_no_stop b ≡ true → some (Say b) ≡ true) → ((to : ℕ) (m : Message) → some (Send to m) ≡ true) → ((w : Work) → some (Do w) ≡ true) → (es : List Effect) → Good es → AreAll some es
+weaker some say send works [] all = refl
+weaker some say send works (Say b ∷ es) all = let own = and_parts (is_no_stop b) (list_all says_no_stop es) all in λ i. say b own.0 i && weaker some say send works es own.1 i
+weaker some say send works (Send to m ∷ es) all = λ i. send to m i && weaker some say send works es all i
+weaker some say send works (Do w ∷ es) all = λ i. works w i && weaker some say send works es all i
+
+pub step_both : (hd : Header) (n : Node) (i : Input) → is_crash i ≡ false → AreAll says_no_halt (step.step hd n i).outs × AreAll says_no_halt (step.step hd n i).halting
+step_both hd n i isnt =
+    let good = step_good hd n i isnt in
+    let halt = weaker says_no_halt (λ b is. (and_parts (is_no_halt b) (is_no_arm b) is).0) (λ to m. refl) (λ w. refl) in
+    (halt (step.step hd n i).outs good.0, halt (step.step hd n i).halting good.1)
 
 -- ---- a crash
 
@@ -366,3 +387,39 @@ crash_own hd n = by (refusal hd Crash n)
     by : (r : Option ℕ) → OfItself n.number (step_unless hd Crash n r)
     by (Some c) = (refl, refl)
     by None = live n.live
+
+-- ---- arms
+
+pub step_unarmed : (hd : Header) (n : Node) (i : Input) → AreAll says_no_arm (step.step hd n i).outs × AreAll says_no_arm (step.step hd n i).halting
+step_unarmed hd n i = by i (is_crash i) refl
+  where
+    Unarmed : Step → Type 0
+    Unarmed s = AreAll says_no_arm s.outs × AreAll says_no_arm s.halting
+
+    live : (o : Option Parts) → Unarmed (step_of hd Crash n o)
+    live None = (refl, refl)
+    live (Some t) = (refl, refl)
+
+    crash : (r : Option ℕ) → Unarmed (step_unless hd Crash n r)
+    crash (Some c) = (refl, refl)
+    crash None = live n.live
+
+    safe : (j : Input) → is_crash j ≡ false → Unarmed (step.step hd n j)
+    safe j isnt =
+        let good = step_good hd n j isnt in
+        let none = weaker says_no_arm (λ b is. (and_parts (is_no_halt b) (is_no_arm b) is).1) (λ to m. refl) (λ w. refl) in
+        (none (step.step hd n j).outs good.0, none (step.step hd n j).halting good.1)
+
+    by : (j : Input) (b : Bool) → is_crash j ≡ b → Unarmed (step.step hd n j)
+    by j false isnt = safe j isnt
+    by Crash true is = crash (refusal hd Crash n)
+    by (Begin l k p) true is = absurd (cc is)
+    by (Call l x o) true is = absurd (cc is)
+    by (Include l x s) true is = absurd (cc is)
+    by (Commit l) true is = absurd (cc is)
+    by (Abort l) true is = absurd (cc is)
+    by (GiveUp l) true is = absurd (cc is)
+    by (Frame k from m) true is = absurd (cc is)
+    by Tick true is = absurd (cc is)
+    by Restart true is = absurd (cc is)
+    by (Show x) true is = absurd (cc is)

@@ -1,4 +1,4 @@
--- Which steps say that a node halted.
+-- Which steps say that a node halted, and that none says that a disk was armed.
 use Rattle.std.specs.Prelude.{◌≡◌, ◌==◌, ℕ, Bool, true, false, not, Option, Some, None, is_some}
 use Rattle.arj_protocol.specs.Effect.{Effect, Say}
 use Rattle.arj_protocol.specs.Says.{AreAll}
@@ -19,6 +19,24 @@ is_no_halt b = not (is_some (halted_node b))
 abbrev pub says_no_halt : Effect → Bool
 says_no_halt (Say b) = is_no_halt b
 says_no_halt _ = true
+
+-- the node whose disk was armed, if the line says so
+abbrev pub armed_node : Body → Option ℕ
+armed_node (body.Armed n) = Some n
+armed_node _ = None
+
+-- the line doesn't say that a disk was armed
+abbrev pub is_no_arm : Body → Bool
+is_no_arm b = not (is_some (armed_node b))
+
+-- so it is of an effect
+abbrev pub says_no_arm : Effect → Bool
+says_no_arm (Say b) = is_no_arm b
+says_no_arm _ = true
+
+-- neither what a step does nor what a stop cuts says that a disk was armed
+abbrev pub NoStepSaysArmed : Type 0
+NoStepSaysArmed = (hd : Header) (n : Node) (i : Input) → AreAll says_no_arm (step hd n i).outs × AreAll says_no_arm (step hd n i).halting
 
 -- a crash
 abbrev pub is_crash : Input → Bool

@@ -1,5 +1,5 @@
 // Laws of events.
-ghost use Rattle.arj_event_law.specs.Halts.{CrashesSayTheirOwn, OnlyCrashesSayHalted};
+ghost use Rattle.arj_event_law.specs.Halts.{CrashesSayTheirOwn, NoStepSaysArmed, OnlyCrashesSayHalted};
 ghost use Rattle.arj_event_law.specs.Named.{EndsWriteTheirLines};
 ghost use Rattle.arj_event_law.specs.Settles.{EventsLeaveNothing, SettlesLeaveNothing};
 ghost use Rattle.arj_event_law.specs.Writes.{EventsKeepWhole, EventsWriteTheirLines, FormatsAreWhole, RunsAreWhole};
@@ -16,6 +16,11 @@ pub fn settles_leave_nothing()
 pub fn only_crashes_say_halted()
     ensures crashes { OnlyCrashesSayHalted }
     ensures own { CrashesSayTheirOwn }
+{}
+
+/// No step of a node says that a disk was armed: only the event that arms one does. It does nothing when it runs.
+pub fn no_step_says_armed()
+    ensures { NoStepSaysArmed }
 {}
 
 /// An event of a kind with a line of its own writes it, or that its node halted, in a world that has the nodes of its header, as
