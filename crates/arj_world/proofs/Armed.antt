@@ -55,6 +55,7 @@ module _ {C D : Type 0} (core : Ghosts C) (file : D → FileMap) where
       → journal ≡ old.journal ++ numbered old.kept.event (body.Armed node ∷ []) → HappensTo core file (done (event.Stop node calls kind)) old (record old { disks = slice_set old.disks (node - 1) d'; journal = journal })
   happens_armed node calls kind d d' old journal low high at same said w st = record {
     falls = [];
+    works = tt;
     stands = record {
       header = st.header;
       frames = st.frames;

@@ -4,7 +4,8 @@ use Rattle.std.specs.declared.cmp.Ordering.TheVariants.{Less, Equal, Greater}
 use Rattle.std.specs.Ordering.{nat_cmp}
 use Rattle.arj_protocol.specs.Order.{at_number, put_number}
 use Rattle.arj_protocol.specs.World.{Arm}
-use Rattle.arj_world.specs.Goes.{Pick, arms_from, one_arm, but_at}
+use Rattle.arj_world.specs.Goes.{Admits, Pick, arms_from, one_arm, but_at}
+use Rattle.arj_world.specs.Turns.{FallAtWorks}
 
 same : (k j : ℕ) → (j == k) ≡ true → k ≡ j
 same k j h = grind (arith, h)
@@ -96,3 +97,14 @@ without (suc c) k j f = by (k == j) refl (f k) (without c (k + 1) j f)
     by true h (Some a) ih = rw h ih
     by false h None ih = rw h ih
     by false h (Some a) ih = rw h (ap (λ es. (k, a) ∷ es) ih)
+
+-- ---- works
+
+-- each arm is at a work, where each that is picked is
+pub all_from : (c k : ℕ) (f : Pick) → Admits (λ n. Some 0) f → FallAtWorks (arms_from c k f)
+all_from zero k f h = tt
+all_from (suc c) k f h = by (f k) refl (all_from c (k + 1) f h)
+  where
+    by : (o : Option Arm) → f k ≡ o → FallAtWorks (arms_from c (k + 1) f) → FallAtWorks (one_arm k o ++ arms_from c (k + 1) f)
+    by None is rest = rest
+    by (Some a) is rest = let least : 0 < a.works = h k a is in (omega (arith, least), rest)

@@ -7,8 +7,8 @@ use Rattle.arj_protocol.specs.Tree.{at_place}
 use Rattle.arj_protocol.specs.Words.{Header}
 use Rattle.arj_protocol.specs.World.{World, Arm, count_works, done_step, steps}
 use Rattle.arj_world.specs.Goes.{Begins, Goes, Reaches, StepsOne, Went, arms_of, is_no_restart, left_of}
-use Rattle.arj_world.specs.Turns.{with_arms}
-use Rattle.arj_world.proofs.Arms.{alike, none_of}
+use Rattle.arj_world.specs.Turns.{FallAtWorks, with_arms}
+use Rattle.arj_world.proofs.Arms.{alike, all_from, none_of}
 use Rattle.arj_world.proofs.Reach.{goes_on, goes_down}
 
 pub no_none : (x : ℕ) → Some x ≡ None → ⊥
@@ -19,6 +19,7 @@ abbrev pub start : (most : ℕ) (go : World → World) (w : World) → Reaches m
 start most go w = record {
   done = λ k. Some 0;
   pick = λ f. f;
+  works = λ f admits. admits;
   down = λ k n none at. absurd (no_none 0 none);
   same = λ f admits. ap (λ arms. go (with_arms arms w)) (alike most 1 f (left_of (λ k. Some 0) f) (λ n. whole (f n)));
 }
@@ -30,6 +31,10 @@ start most go w = record {
 -- at its end no stop is still to fall
 pub finish : (most : ℕ) (run : World → World) (first now : World) (r : Reaches most run first (λ v. v) now) → run (with_arms (arms_of most (r.pick (λ k. None))) first) ≡ with_arms [] now
 finish most run first now r = r.same (λ k. None) (λ n a is. absurd (cc is)) ∙ ap (λ arms. with_arms arms now) (none_of most 1 (left_of r.done (λ k. None)) (λ n. refl))
+
+-- and each stop that fell fell at a work
+pub fallen : (most : ℕ) (run rest : World → World) (first now : World) (r : Reaches most run first rest now) → FallAtWorks (arms_of most (r.pick (λ k. None)))
+fallen most run rest first now r = all_from most 1 (r.pick (λ k. None)) (r.works (λ k. None) (λ n a is. absurd (cc is)))
 
 -- ---- from piece to piece
 
@@ -55,7 +60,7 @@ module _ (most : ℕ) where
   as_well go other left w P same g = record {
     now = g.now;
     stands = g.stands;
-    reaches = λ run rest first r. g.reaches run rest first (record { done = r.done; pick = r.pick; down = r.down; same = λ f admits. r.same f admits ∙ ap rest (same (arms_of most (left_of r.done f))) });
+    reaches = λ run rest first r. g.reaches run rest first (record { done = r.done; pick = r.pick; works = r.works; down = r.down; same = λ f admits. r.same f admits ∙ ap rest (same (arms_of most (left_of r.done f))) });
   }
 
   -- something is done that doesn't look at arms, and leaves the nodes
@@ -66,6 +71,7 @@ module _ (most : ℕ) where
     reaches = λ run rest first r. record {
       done = r.done;
       pick = r.pick;
+      works = r.works;
       down = λ k n none at. r.down k n none (ap (at_place k) (sym nodes) ∙ at);
       same = λ f admits. r.same f admits ∙ ap rest (same (arms_of most (left_of r.done f)));
     };

@@ -136,6 +136,7 @@ module _ (most k : ℕ) (low : 1 ≤ k) (high : k ≤ most) (i : Input) (n : Nod
   goes_on run rest first r stays = record {
     done = but_at k (more c (r.done k)) r.done;
     pick = r.pick;
+    works = λ f admits. r.works f (fewer f admits);
     down = down;
     same = λ f admits. r.same f (fewer f admits) ∙ ap rest (counted r.done f admits);
   }
@@ -181,6 +182,7 @@ module _ (most k : ℕ) (low : 1 ≤ k) (high : k ≤ most) (i : Input) (n : Nod
       by (Some d) had = record {
         done = but_at k None r.done;
         pick = λ f. r.pick (but_at k (Some (record { works = d + work + 1; how = how })) f);
+        works = λ f admits. r.works (but_at k (Some (record { works = d + work + 1; how = how })) f) (wider f admits);
         down = down;
         same = λ f admits. r.same (but_at k (Some (record { works = d + work + 1; how = how })) f) (wider f admits) ∙ ap rest (fell r.done f d work how had within (none_at f admits (f k) refl));
       }

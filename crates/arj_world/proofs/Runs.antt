@@ -17,7 +17,7 @@ use Rattle.arj_world.specs.Goes.{BeginsTo, GoesTo, arms_of}
 use Rattle.arj_world.specs.Happens.{Happened, HappensTo, IsOver, RunsOver, RunsTo, done}
 use Rattle.arj_world.specs.Stands.{Hand, Keeps, Kept, Stands, StandsSome}
 use Rattle.arj_world.specs.Turns.{asked, with_arms}
-use Rattle.arj_world.proofs.Going.{as_well, begins, finish}
+use Rattle.arj_world.proofs.Going.{as_well, begins, fallen, finish}
 use Rattle.arj_world.proofs.Tests.{in_range, keeps_armed, keeps_of, no_message, passed}
 
 pub on_ok_both : {E : Type 0} (A B : Type 0) (r : Result (Unit {0}) E) → OnOk r A → OnOk r B → OnOk r (A × B)
@@ -34,6 +34,7 @@ module _ {C D : Type 0} (core : Ghosts C) (file : D → FileMap) where
       let b = to w st in
       record {
         falls = arms_of old.kept.header.nodes (b.reaches.pick (λ k. None));
+        works = fallen old.kept.header.nodes go (λ v. v) w b.now b.reaches;
         stands = subst (Stands core file new) (ap (with_arms []) (sym (finish old.kept.header.nodes go w b.now b.reaches))) (unarmed new b.now b.stands);
       }
 
@@ -106,6 +107,7 @@ module _ {C D : Type 0} (core : Ghosts C) (file : D → FileMap) where
       → RunsTo core file e old (record (counted_hand old) { journal = journal })
   runs_refused e c old journal tests said w st = record {
     falls = [];
+    works = tt;
     stands = subst (Stands core file new) (ap (with_arms []) (sym (tested e (Some c) old w [] st tests))) (record {
       header = st.header;
       frames = st.frames;
@@ -139,12 +141,14 @@ module _ {C D : Type 0} (core : Ghosts C) (file : D → FileMap) where
     pub runs_accepted : new.kept.full ≡ false → RunsTo core file e old new
     runs_accepted fits w st = record {
       falls = (happened w st).falls;
+      works = (happened w st).works;
       stands = subst (Stands core file new) (sym (ap (with_arms []) (run w st ∙ (λ i. if ((happened w st).stands.full ∙ fits) i then says (body.Limit which.Frames ∷ []) (record (made w st) { over = true }) else made w st)))) (happened w st).stands;
     }
 
     pub runs_over : (journal : List Line) → new.kept.full ≡ true → journal ≡ new.journal ++ numbered new.kept.event (body.Limit which.Frames ∷ []) → RunsOver core file e old (record new { journal = journal })
     runs_over journal full said w st = record {
       falls = (happened w st).falls;
+      works = (happened w st).works;
       stands = subst (IsOver core file (record new { journal = journal })) (sym (ap (with_arms []) (run w st ∙ (λ i. if ((happened w st).stands.full ∙ full) i then says (body.Limit which.Frames ∷ []) (record (made w st) { over = true }) else made w st)))) (record {
         over = refl;
         stands =

@@ -18,12 +18,13 @@ use Rattle.arj_protocol.specs.Ask.{frame_kind}
 use Rattle.arj_protocol.specs.Effect as effect
 use Rattle.arj_protocol.specs.Effect.{Effect, Say, Send, Do, Stop, worked}
 use Rattle.arj_protocol.specs.Step as input
-use Rattle.arj_protocol.specs.Step.{Node, Input, step}
+use Rattle.arj_protocol.specs.Node.{Parts}
+use Rattle.arj_protocol.specs.Step.{Node, Input, refusal, step, step_of, step_unless}
 use Rattle.arj_protocol.specs.Words.{Body, Event, FrameKind}
 use Rattle.arj_protocol.specs.Words.body
-use Rattle.arj_protocol.specs.World.{cut, most_frames, numbered, sent_line}
+use Rattle.arj_protocol.specs.World.{count_works, cut, most_frames, numbered, sent_line}
 use Rattle.arj_world.specs.Stands.{Hand, StandsSome}
-use Rattle.arj_world.specs.Tells.{IsToldBy, TellsStops, crashed_at, crashed_by, halts, is_this, nobody}
+use Rattle.arj_world.specs.Tells.{AreTold, IsToldBy, TellsStops, crashed_at, crashed_by, halts, is_this, nobody}
 use Rattle.arj_world.specs.Wire.{dropped_line, seen_bodies}
 use Rattle.arj_world.proofs.Disks.{set_here, set_other, some_one, within}
 use Rattle.arj_world.proofs.Stepping.{is_there}
@@ -123,86 +124,142 @@ calm_step n node k ev hd m i number isnt = by i (is_crash i) refl isnt
     by input.Restart true is isnt = absurd (cc is)
     by (input.Show x) true is isnt = absurd (cc is)
 
+-- no stop cuts a crash
+crash_unworked : (hd : Header) (m : Node) (i : Input) → is_crash i ≡ true → count_works (step hd m i).halting ≡ 0
+crash_unworked hd m input.Crash is = by (refusal hd input.Crash m)
+  where
+    live : (o : Option Parts) → count_works (step_of hd input.Crash m o).halting ≡ 0
+    live None = refl
+    live (Some t) = refl
+
+    by : (r : Option ℕ) → count_works (step_unless hd input.Crash m r).halting ≡ 0
+    by (Some c) = refl
+    by None = live m.live
+crash_unworked hd m (input.Begin l c p) is = absurd (cc is)
+crash_unworked hd m (input.Call l x o) is = absurd (cc is)
+crash_unworked hd m (input.Include l x s) is = absurd (cc is)
+crash_unworked hd m (input.Commit l) is = absurd (cc is)
+crash_unworked hd m (input.Abort l) is = absurd (cc is)
+crash_unworked hd m (input.GiveUp l) is = absurd (cc is)
+crash_unworked hd m (input.Frame j from x) is = absurd (cc is)
+crash_unworked hd m input.Tick is = absurd (cc is)
+crash_unworked hd m input.Restart is = absurd (cc is)
+crash_unworked hd m (input.Show x) is = absurd (cc is)
+
+-- no other node than the one that takes the input is crashed
+crashed_other : (node n : ℕ) (i : Input) → (n == node) ≡ false → crashed_at node i n ≡ false
+crashed_other node n i apart = by (is_crash i)
+  where
+    by : (b : Bool) → (b && (n == node)) ≡ false
+    by true = apart
+    by false = refl
+
+is_crashed : (node n : ℕ) (i : Input) → crashed_at node i n ≡ true → is_crash i ≡ true
+is_crashed node n i is = (and_parts (is_crash i) (n == node) is).0
+
+-- lines of which none tells of a stop
+uncounted : (b : Bool) (lines : ℕ) → lines ≡ 0 → (if b then 0 else lines) ≡ 0
+uncounted true lines none = refl
+uncounted false lines none = none
+
 module _ {D : Type 0} (disk : Ghosts D) where
   -- a disk that was not called is told by no line
   untold : (d e : D) (lines : ℕ) → d ≡ e → lines ≡ 0 → IsToldBy lines (disk.stops d) (disk.stops e)
   untold d e lines same none = subst (λ x. IsToldBy lines (disk.stops d) (disk.stops x)) same (record { later = omega arith; rose = λ less. omega (arith, none); only = λ is. refl })
 
   -- no call at all
-  pub tells_none : (crashed : ℕ → Bool) (disks : List D) (journal : List Line) → TellsStops disk crashed disks disks journal journal
-  tells_none crashed disks journal = record {
-    added = [];
-    are = sym (append-nil journal);
-    count = refl;
-    each = λ i d e safe at then_at. untold d e 0 (some_one d e (sym at ∙ then_at)) refl;
-  }
+  pub tells_none : (nodes : ℕ) (crashed : ℕ → Bool) (disks : List D) (journal : List Line) → TellsStops disk nodes crashed disks disks journal journal
+  tells_none nodes crashed disks journal = (
+    [],
+    sym (append-nil journal),
+    record {
+      count = refl;
+      each = λ i d e at then_at. untold d e (if crashed (i + 1) then 0 else 0) (some_one d e (sym at ∙ then_at)) (uncounted (crashed (i + 1)) 0 refl);
+      others = λ n none. refl;
+    },
+  )
 
   -- one behind the other
-  pub tells_then : (first second third : List D) (before between after : List Line) → TellsStops disk nobody first second before between → TellsStops disk nobody second third between after
-      → TellsStops disk nobody first third before after
-  tells_then first second third before between after a b = record {
-    added = a.added ++ b.added;
-    are = b.are ∙ (ap (λ ls. ls ++ b.added) a.are ∙ append_assoc before a.added b.added);
-    count = b.count ∙ a.count;
-    each = λ i d e safe at_first at_third.
-        let m = is_there i second (omega (arith, a.count, within i d first at_first)) in
-        let x = a.each i d m.0 safe at_first m.1 in
-        let y = b.each i m.0 e safe m.1 at_third in
-        let both = halts_both (i + 1) a.added b.added in
-        record {
-          later = omega (arith, x.later, y.later);
-          rose = λ less. let first_rose = x.rose (omega (arith, y.later, less)) in let then_rose = y.rose less in omega (arith, first_rose, then_rose, both);
-          only = λ none. y.only (omega (arith, none, both)) ∙ x.only (omega (arith, none, both));
-        };
-  }
+  pub tells_then : (n m : ℕ) (first second third : List D) (before between after : List Line) → m ≡ n → TellsStops disk n nobody first second before between → TellsStops disk m nobody second third between after
+      → TellsStops disk n nobody first third before after
+  tells_then n m first second third before between after same (some, are, a) (more, are_then, b) = (
+    some ++ more,
+    are_then ∙ (ap (λ ls. ls ++ more) are ∙ append_assoc before some more),
+    record {
+      count = b.count ∙ a.count;
+      each = λ i d e at_first at_third.
+          let k = is_there i second (omega (arith, a.count, within i d first at_first)) in
+          let x : IsToldBy (halts (i + 1) some) (disk.stops d) (disk.stops k.0) = a.each i d k.0 at_first k.1 in
+          let y : IsToldBy (halts (i + 1) more) (disk.stops k.0) (disk.stops e) = b.each i k.0 e k.1 at_third in
+          let both = halts_both (i + 1) some more in
+          record {
+            later = omega (arith, x.later, y.later);
+            rose = λ less. let first_rose = x.rose (omega (arith, y.later, less)) in let then_rose = y.rose less in omega (arith, first_rose, then_rose, both);
+            only = λ none. y.only (omega (arith, none, both)) ∙ x.only (omega (arith, none, both));
+          };
+      others = λ k none. halts_both k some more ∙ omega (arith, a.others k none, b.others k (λ low high. none low (omega (arith, high, same))));
+    },
+  )
 
   -- a line behind it that says of no node that it halted
-  pub tells_line : (crashed : ℕ → Bool) (old new : List D) (before after longer : List Line) (more : List Line) → ((n : ℕ) → halts n more ≡ 0) → longer ≡ after ++ more
-      → TellsStops disk crashed old new before after → TellsStops disk crashed old new before longer
-  tells_line crashed old new before after longer more none are t = record {
-    added = t.added ++ more;
-    are = are ∙ (ap (λ ls. ls ++ more) t.are ∙ append_assoc before t.added more);
-    count = t.count;
-    each = λ i d e safe at then_at. subst (λ k. IsToldBy k (disk.stops d) (disk.stops e)) (omega (arith, none (i + 1), halts_both (i + 1) t.added more)) (t.each i d e safe at then_at);
-  }
+  pub tells_line : (nodes : ℕ) (crashed : ℕ → Bool) (old new : List D) (before after longer : List Line) (more : List Line) → ((n : ℕ) → halts n more ≡ 0) → longer ≡ after ++ more
+      → TellsStops disk nodes crashed old new before after → TellsStops disk nodes crashed old new before longer
+  tells_line nodes crashed old new before after longer more none are (added, were, t) = (
+    added ++ more,
+    are ∙ (ap (λ ls. ls ++ more) were ∙ append_assoc before added more),
+    record {
+      count = t.count;
+      each = λ i d e at then_at. subst (λ k. IsToldBy (if crashed (i + 1) then 0 else k) (disk.stops d) (disk.stops e)) (same (i + 1)) (t.each i d e at then_at);
+      others = λ n out. sym (same n) ∙ t.others n out;
+    },
+  )
+    where
+      same : (n : ℕ) → halts n added ≡ halts n (added ++ more)
+      same n = omega (arith, none n, halts_both n added more)
 
   -- a node's disk is told by lines, and the lines tell of no other
-  pub tells_at : (crashed : ℕ → Bool) (node : ℕ) (disks : List D) (d e : D) (before after added : List Line) → 1 ≤ node → slice_get disks (node - 1) ≡ Some d → after ≡ before ++ added
-      → (crashed node ≡ false → IsToldBy (halts node added) (disk.stops d) (disk.stops e)) → ((n : ℕ) → (n == node) ≡ false → crashed n ≡ false → halts n added ≡ 0)
-      → TellsStops disk crashed disks (slice_set disks (node - 1) e) before after
-  tells_at crashed node disks d e before after added low at are own others = record {
-    added = added;
-    are = are;
-    count = length-set disks (node - 1) e;
-    each = λ i x y safe at_x at_y. by i x y safe at_x at_y ((i + 1) == node) refl;
-  }
+  pub tells_at : (nodes : ℕ) (crashed : ℕ → Bool) (node : ℕ) (disks : List D) (d e : D) (before after added : List Line) → 1 ≤ node → node ≤ nodes → slice_get disks (node - 1) ≡ Some d → after ≡ before ++ added
+      → IsToldBy (if crashed node then 0 else halts node added) (disk.stops d) (disk.stops e) → ((n : ℕ) → (n == node) ≡ false → halts n added ≡ 0) → TellsStops disk nodes crashed disks (slice_set disks (node - 1) e) before after
+  tells_at nodes crashed node disks d e before after added low high at are own others = (
+    added,
+    are,
+    record {
+      count = length-set disks (node - 1) e;
+      each = λ i x y at_x at_y. by i x y at_x at_y ((i + 1) == node) refl;
+      others = λ n out. others n (apart n out (n == node) refl);
+    },
+  )
     where
-      by : (i : ℕ) (x y : D) → crashed (i + 1) ≡ false → slice_get disks i ≡ Some x → slice_get (slice_set disks (node - 1) e) i ≡ Some y → (b : Bool) → ((i + 1) == node) ≡ b → IsToldBy (halts (i + 1) added) (disk.stops x) (disk.stops y)
-      by i x y safe at_x at_y true is =
+      apart : (n : ℕ) → (1 ≤ n → n ≤ nodes → ⊥) → (b : Bool) → (n == node) ≡ b → (n == node) ≡ false
+      apart n out false is = is
+      apart n out true is = let same : n ≡ node = grind (arith, is) in absurd (out (omega (arith, same, low)) (omega (arith, same, high)))
+
+      by : (i : ℕ) (x y : D) → slice_get disks i ≡ Some x → slice_get (slice_set disks (node - 1) e) i ≡ Some y → (b : Bool) → ((i + 1) == node) ≡ b → IsToldBy (if crashed (i + 1) then 0 else halts (i + 1) added) (disk.stops x) (disk.stops y)
+      by i x y at_x at_y true is =
           let number : i + 1 ≡ node = grind (arith, is) in
           let same : i ≡ node - 1 = omega (arith, number) in
           let old : d ≡ x = some_one d x (sym at ∙ ap (slice_get disks) (sym same) ∙ at_x) in
           let new : e ≡ y = set_here (node - 1) e d y disks at (ap (slice_get (slice_set disks (node - 1) e)) (sym same) ∙ at_y) in
-          subst (λ z. IsToldBy (halts (i + 1) added) (disk.stops z) (disk.stops y)) old
-          (subst (λ z. IsToldBy (halts (i + 1) added) (disk.stops d) (disk.stops z)) new
-          (subst (λ n. IsToldBy (halts n added) (disk.stops d) (disk.stops e)) (sym number) (own (subst (λ n. crashed n ≡ false) number safe))))
-      by i x y safe at_x at_y false is =
-          let apart : i ≡ node - 1 → ⊥ = λ same. grind (arith, is, same, low) in
-          untold x y (halts (i + 1) added) (some_one x y (sym at_x ∙ sym (set_other (node - 1) i e disks apart) ∙ at_y)) (others (i + 1) is safe)
+          subst (λ z. IsToldBy (if crashed (i + 1) then 0 else halts (i + 1) added) (disk.stops z) (disk.stops y)) old
+          (subst (λ z. IsToldBy (if crashed (i + 1) then 0 else halts (i + 1) added) (disk.stops d) (disk.stops z)) new
+          (subst (λ n. IsToldBy (if crashed n then 0 else halts n added) (disk.stops d) (disk.stops e)) (sym number) own))
+      by i x y at_x at_y false is =
+          let elsewhere : i ≡ node - 1 → ⊥ = λ same. grind (arith, is, same, low) in
+          untold x y (if crashed (i + 1) then 0 else halts (i + 1) added) (some_one x y (sym at_x ∙ sym (set_other (node - 1) i e disks elsewhere) ∙ at_y)) (uncounted (crashed (i + 1)) (halts (i + 1) added) (others (i + 1) is))
 
   -- a disk was armed, and a line says so
-  pub tells_armed : (node : ℕ) (disks : List D) (d e : D) (before after : List Line) (ev : ℕ) (b : Body) → 1 ≤ node → slice_get disks (node - 1) ≡ Some d → disk.stops e ≡ disk.stops d
-      → halted_node b ≡ None → after ≡ before ++ numbered ev (b ∷ []) → TellsStops disk nobody disks (slice_set disks (node - 1) e) before after
-  tells_armed node disks d e before after ev b low at stops isnt are =
+  pub tells_armed : (nodes node : ℕ) (disks : List D) (d e : D) (before after : List Line) (ev : ℕ) (b : Body) → 1 ≤ node → node ≤ nodes → slice_get disks (node - 1) ≡ Some d → disk.stops e ≡ disk.stops d
+      → halted_node b ≡ None → after ≡ before ++ numbered ev (b ∷ []) → TellsStops disk nodes nobody disks (slice_set disks (node - 1) e) before after
+  tells_armed nodes node disks d e before after ev b low high at stops isnt are =
       let none : (n : ℕ) → halts n (numbered ev (b ∷ [])) ≡ 0 = λ n. other_line n ev b (ap (is_this n) isnt) in
-      tells_at nobody node disks d e before after (numbered ev (b ∷ [])) low at are
-      (λ safe. record { later = omega (arith, stops); rose = λ less. omega (arith, stops, none node); only = λ is. stops })
-      (λ n apart safe. none n)
+      tells_at nodes nobody node disks d e before after (numbered ev (b ∷ [])) low high at are
+      (record { later = omega (arith, stops); rose = λ less. omega (arith, stops, none node); only = λ is. stops })
+      (λ n apart. none n)
 
   -- the event that was given is this one
-  pub tells_of : {E : Type 0} (r : Result (Unit {0}) E) (e given : Event) (old new : List D) (before after : List Line) → given ≡ e → OnOk r (TellsStops disk (crashed_by e) old new before after)
-      → OnOk r (TellsStops disk (crashed_by given) old new before after)
-  tells_of r e given old new before after is tells = subst (λ x. OnOk r (TellsStops disk (crashed_by x) old new before after)) (sym is) tells
+  pub tells_of : {E : Type 0} (r : Result (Unit {0}) E) (nodes : ℕ) (e given : Event) (old new : List D) (before after : List Line) → given ≡ e → OnOk r (TellsStops disk nodes (crashed_by e) old new before after)
+      → OnOk r (TellsStops disk nodes (crashed_by given) old new before after)
+  tells_of r nodes e given old new before after is tells = subst (λ x. OnOk r (TellsStops disk nodes (crashed_by x) old new before after)) (sym is) tells
 
   module _ {C : Type 0} (core : core_ghosts C) (file : D → FileMap) where
     -- the node that a core is, by its number
@@ -222,22 +279,30 @@ module _ {D : Type 0} (disk : Ghosts D) where
         → 1 ≤ node → node ≤ old.kept.header.nodes → slice_get old.kept.cores (node - 1) ≡ Some c → slice_get old.disks (node - 1) ≡ Some d → StandsSome core file old
         → ((h : Header) (n : Node) → core.stands h c (file d) n → Did (core.stands h c' (file e)) (step h n i) [] out) → disk.stops e ≡ disk.stops d
         → after ≡ old.journal ++ numbered ev (seen_bodies node k (map seen_of out))
-        → TellsStops disk (crashed_at node i) old.disks (slice_set old.disks (node - 1) e) old.journal after
+        → TellsStops disk old.kept.header.nodes (crashed_at node i) old.disks (slice_set old.disks (node - 1) e) old.journal after
     tells_done node i c c' d e old out after ev k low high at_core at_disk some done stops lines =
         let n = node_there node c d old low high at_core at_disk some in
         let did = done old.kept.header n.0 n.1 in
+        let added = numbered ev (seen_bodies node k (seen (step old.kept.header n.0 i).outs)) in
         let are = lines ∙ ap (λ es. old.journal ++ numbered ev (seen_bodies node k es)) (seen_all (step old.kept.header n.0 i).outs out did.outs) in
-        let none : (m : ℕ) → crashed_at node i m ≡ false → halts m (numbered ev (seen_bodies node k (seen (step old.kept.header n.0 i).outs))) ≡ 0 = λ m safe. (calm_step m node k ev old.kept.header n.0 i n.2 safe).0 (step old.kept.header n.0 i).outs refl in
-        tells_at (crashed_at node i) node old.disks d e old.journal after (numbered ev (seen_bodies node k (seen (step old.kept.header n.0 i).outs))) low at_disk are
-        (λ safe. record { later = omega (arith, stops); rose = λ less. omega (arith, stops, none node safe); only = λ is. stops })
-        (λ m apart safe. none m safe)
+        let none : (m : ℕ) → crashed_at node i m ≡ false → halts m added ≡ 0 = λ m safe. (calm_step m node k ev old.kept.header n.0 i n.2 safe).0 (step old.kept.header n.0 i).outs refl in
+        tells_at old.kept.header.nodes (crashed_at node i) node old.disks d e old.journal after added low high at_disk are
+        (steady (if crashed_at node i node then 0 else halts node added) (told added (crashed_at node i node) refl none))
+        (λ m apart. none m (crashed_other node m i apart))
+      where
+        steady : (lines : ℕ) → lines ≡ 0 → IsToldBy lines (disk.stops d) (disk.stops e)
+        steady lines is = record { later = omega (arith, stops); rose = λ less. omega (arith, stops, is); only = λ is. stops }
+
+        told : (added : List Line) (b : Bool) → crashed_at node i node ≡ b → ((m : ℕ) → crashed_at node i m ≡ false → halts m added ≡ 0) → (if b then 0 else halts node added) ≡ 0
+        told added true is none = refl
+        told added false is none = none node is
 
     -- a stop cut the step, and a line says that the node halted
     pub tells_cut : (node : ℕ) (i : Input) (c c' : C) (d e : D) (old : Hand C D) (out : List Output) (between after : List Line) (ev ev' k : ℕ)
         → 1 ≤ node → node ≤ old.kept.header.nodes → slice_get old.kept.cores (node - 1) ≡ Some c → slice_get old.disks (node - 1) ≡ Some d → StandsSome core file old
         → ((h : Header) (n : Node) → core.stands h c (file d) n → WasCut (core.stands h c' (file e)) n (step h n i) [] out) → Rose (disk.stops d) (disk.stops e) → disk.stops d ≤ disk.stops e
         → between ≡ old.journal ++ numbered ev (seen_bodies node k (map seen_of out)) → after ≡ between ++ numbered ev' (body.Halted node ∷ [])
-        → TellsStops disk (crashed_at node i) old.disks (slice_set old.disks (node - 1) e) old.journal after
+        → TellsStops disk old.kept.header.nodes (crashed_at node i) old.disks (slice_set old.disks (node - 1) e) old.journal after
     tells_cut node i c c' d e old out between after ev ev' k low high at_core at_disk some cuts rose later lines line =
         let n = node_there node c d old low high at_core at_disk some in
         let was = cuts old.kept.header n.0 n.1 in
@@ -245,14 +310,22 @@ module _ {D : Type 0} (disk : Ghosts D) where
         let front = numbered ev (seen_bodies node k (seen es)) in
         let last = numbered ev' (body.Halted node ∷ []) in
         let are : after ≡ old.journal ++ (front ++ last) = line ∙ (ap (λ ls. ls ++ last) (lines ∙ ap (λ xs. old.journal ++ numbered ev (seen_bodies node k xs)) (seen_all es out was.outs)) ∙ append_assoc old.journal front last) in
+        let safe : (b : Bool) → crashed_at node i node ≡ b → crashed_at node i node ≡ false = λ b. elim b as (λ b. crashed_at node i node ≡ b → crashed_at node i node ≡ false) [
+          | false ↦ λ is. is
+          | true ↦ λ is. absurd (omega (arith, was.within, crash_unworked old.kept.header n.0 i (is_crashed node node i is)))
+        ] in
         let none : (m : ℕ) → crashed_at node i m ≡ false → halts m front ≡ 0 = λ m safe. (calm_step m node k ev old.kept.header n.0 i n.2 safe).1 was.work was.how in
-        tells_at (crashed_at node i) node old.disks d e old.journal after (front ++ last) low at_disk are
-        (λ safe. let one : halts node last ≡ 1 = own node in let both = halts_both node front last in record {
+        let up : crashed_at node i node ≡ false = safe (crashed_at node i node) refl in
+        let one : halts node last ≡ 1 = own node in
+        let both = halts_both node front last in
+        let all : (if crashed_at node i node then 0 else halts node (front ++ last)) ≡ 1 = (λ j. if up j then 0 else halts node (front ++ last)) ∙ omega (arith, one, both, none node up) in
+        tells_at old.kept.header.nodes (crashed_at node i) node old.disks d e old.journal after (front ++ last) low high at_disk are
+        (record {
           later = later;
-          rose = λ less. let up : disk.stops d < disk.stops e = rose (omega (arith, later, less)) in omega (arith, up, one, both, none node safe);
-          only = λ is. absurd (omega (arith, is, one, both, none node safe));
+          rose = λ less. let rises : disk.stops d < disk.stops e = rose (omega (arith, later, less)) in omega (arith, rises, all);
+          only = λ is. absurd (omega (arith, is, all));
         })
-        (λ m apart safe. halts_both m front last ∙ omega (arith, none m safe, other m apart))
+        (λ m apart. halts_both m front last ∙ omega (arith, none m (crashed_other node m i apart), other m apart))
       where
         own : (n : ℕ) → halts n (numbered ev' (body.Halted n ∷ [])) ≡ 1
         own n = let same : (n == n) ≡ true = grind arith in λ i. (if same i then 1 else 0) + 0

@@ -45,10 +45,11 @@ abbrev pub left_of : Works → Pick → Pick
 left_of done f n = option_map (λ (a : Arm). record a { works = a.works - unwrap_or (done n) 0 }) (f n)
 
 -- Whatever stops are still to fall: the run from the first world, with those and the stops that fell, is what is left of it
--- from this one. A node that has halted is down.
+-- from this one. Each of them falls at a work, and a node that has halted is down.
 pub record Reaches (most : ℕ) (run : World → World) (first : World) (rest : World → World) (now : World) : Type 0 where
   pub done : Works
   pub pick : Pick → Pick
+  pub works : (f : Pick) → Admits done f → Admits (λ k. Some 0) (pick f)
   pub down : (k : ℕ) (n : Node) → done k ≡ None → at_place k now.nodes ≡ Some n → n.live ≡ None
   pub same : (f : Pick) → Admits done f → run (with_arms (arms_of most (pick f)) first) ≡ rest (with_arms (arms_of most (left_of done f)) now)
 

@@ -6,11 +6,12 @@ use Rattle.arj_protocol.specs.Words.{Body, Event, Line}
 use Rattle.arj_protocol.specs.Words.body
 use Rattle.arj_protocol.specs.World.{World, Arm, happens}
 use Rattle.arj_world.specs.Stands.{Hand, Stands}
-use Rattle.arj_world.specs.Turns.{asked, turned, with_arms}
+use Rattle.arj_world.specs.Turns.{FallAtWorks, asked, turned, with_arms}
 
 -- An event that isn't refused was done, with the stops that fell.
 pub record Happened (go : World → World) (w : World) (P : World → Type 0) : Type 0 where
   pub falls : List (ℕ × Arm)
+  pub works : FallAtWorks falls
   pub stands : P (with_arms [] (go (with_arms falls w)))
 
 -- so it is of each world that the hand stands for
@@ -24,6 +25,7 @@ done e w = happens e (asked e).arm w
 -- A turn was run: this event, with the stops that fell.
 pub record Ran (e : Event) (w : World) (P : World → Type 0) : Type 0 where
   pub falls : List (ℕ × Arm)
+  pub works : FallAtWorks falls
   pub stands : P (turned (record { event = e; falls = falls }) w)
 
 -- so it is of each world that the hand stands for

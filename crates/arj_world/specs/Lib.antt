@@ -4,6 +4,7 @@ pub mod Stands
 pub mod Goes
 pub mod Happens
 pub mod First
+pub mod Arms
 pub mod Disks
 pub mod Tells
 pub mod Owns

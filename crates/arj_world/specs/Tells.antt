@@ -23,13 +23,16 @@ pub record IsToldBy (lines old new : ℕ) : Type 0 where
   pub rose : new < 18446744073709551615 → old + lines ≤ new
   pub only : lines ≡ 0 → new ≡ old
 
--- Lines came that tell the stops of each disk, but of the nodes for which this test holds: whoever is crashed says so without
--- a stop.
-pub record TellsStops {D : Type 0} (disk : Ghosts D) (crashed : ℕ → Bool) (old new : List D) (before after : List Line) : Type 0 where
-  pub added : List Line
-  pub are : after ≡ before ++ added
+-- These lines tell the stops of each disk, but that a node which is crashed says so without a stop; and of who isn't one of so many nodes none
+-- says that he halted.
+pub record AreTold {D : Type 0} (disk : Ghosts D) (nodes : ℕ) (crashed : ℕ → Bool) (old new : List D) (added : List Line) : Type 0 where
   pub count : length new ≡ length old
-  pub each : (i : ℕ) (d e : D) → crashed (i + 1) ≡ false → slice_get old i ≡ Some d → slice_get new i ≡ Some e → IsToldBy (halts (i + 1) added) (disk.stops d) (disk.stops e)
+  pub each : (i : ℕ) (d e : D) → slice_get old i ≡ Some d → slice_get new i ≡ Some e → IsToldBy (if crashed (i + 1) then 0 else halts (i + 1) added) (disk.stops d) (disk.stops e)
+  pub others : (n : ℕ) → (1 ≤ n → n ≤ nodes → ⊥) → halts n added ≡ 0
+
+-- such lines came
+abbrev pub TellsStops : {D : Type 0} → Ghosts D → ℕ → (ℕ → Bool) → List D → List D → List Line → List Line → Type 0
+TellsStops disk nodes crashed old new before after = (added : List Line) × (after ≡ before ++ added) × AreTold disk nodes crashed old new added
 
 -- no node is crashed
 abbrev pub nobody : ℕ → Bool

@@ -1,5 +1,6 @@
 -- The run of a script, with the stops that its disks make.
-use Rattle.std.specs.Prelude.{ℕ, List, [], ◌∷◌}
+use Rattle.std.specs.Prelude.{ℕ, ◌≤◌, List, [], ◌∷◌}
+use Rattle.std.specs.List.{AllByRecursion}
 use Rattle.arj_protocol.specs.Words.{Event}
 use Rattle.arj_protocol.specs.Effect.{Before}
 use Rattle.arj_protocol.specs.World.{World, Arm, Asked, run_event}
@@ -9,6 +10,14 @@ use Rattle.arj_protocol.specs.World.{World, Arm, Asked, run_event}
 pub record Turn : Type 0 where
   pub event : Event
   pub falls : List (ℕ × Arm)
+
+-- each stop falls at a work, the first or a later one
+abbrev pub FallAtWorks : List (ℕ × Arm) → Type 0
+FallAtWorks falls = AllByRecursion (λ (f : ℕ × Arm). 1 ≤ f.1.works) falls
+
+-- so do the stops of a turn
+abbrev pub FallsAtWorks : Turn → Type 0
+FallsAtWorks t = FallAtWorks t.falls
 
 -- an event that arms no disk: which stops fall is said by the turn in which they fall
 abbrev pub asked : Event → Asked

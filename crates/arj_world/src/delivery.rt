@@ -1,5 +1,5 @@
 // Frames that are delivered or lost, and nodes that settle.
-ghost use Rattle.std.specs.Prelude.{◌≡◌, ◌++◌, None, OnOk, IfOk, map, if◌then◌else◌};
+ghost use Rattle.std.specs.Prelude.{◌≡◌, ◌++◌, [], None, OnOk, IfOk, map, if◌then◌else◌};
 ghost use Rattle.arj_net.specs.Net.{as_delivered, as_lost, changed_at, frame_of};
 ghost use Rattle.arj_protocol.specs.World.{lowest_from, numbered};
 ghost use Rattle.arj_protocol.specs.World as protocol;
@@ -46,8 +46,8 @@ impl<C: Core> World<C> {
         requires stands { StandsSome C.Core D.file (hand self.old rack.old journal.old) }
         ensures goes { OnOk result (GoesTo C.Core D.file (protocol.deliver k) (hand self.old rack.old journal.old) (hand self.new rack.new journal.new)) }
         ensures header { self.new.header ≡ self.old.header }
-        ensures disks { HaveMoved D.Disk 0 rack.old rack.new }
-        ensures tells { OnOk result (TellsStops D.Disk nobody rack.old rack.new journal.old journal.new) }
+        ensures disks { HaveMoved D.Disk self.old.header.nodes [] rack.old rack.new }
+        ensures tells { OnOk result (TellsStops D.Disk self.old.header.nodes nobody rack.old rack.new journal.old journal.new) }
     {
         let Some(frame) = self.take_frame(k)? else {
             return Ok(());
@@ -93,8 +93,8 @@ impl<C: Core> World<C> {
         requires stands { StandsSome C.Core D.file (hand self.old rack.old journal.old) }
         ensures goes { OnOk result (GoesTo C.Core D.file protocol.settle (hand self.old rack.old journal.old) (hand self.new rack.new journal.new)) }
         ensures header { self.new.header ≡ self.old.header }
-        ensures disks { HaveMoved D.Disk 0 rack.old rack.new }
-        ensures tells { OnOk result (TellsStops D.Disk nobody rack.old rack.new journal.old journal.new) }
+        ensures disks { HaveMoved D.Disk self.old.header.nodes [] rack.old rack.new }
+        ensures tells { OnOk result (TellsStops D.Disk self.old.header.nodes nobody rack.old rack.new journal.old journal.new) }
     {
         let mut left = MOST_FRAMES;
         while 0 < left {

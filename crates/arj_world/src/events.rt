@@ -11,6 +11,7 @@ ghost use Rattle.arj_protocol.specs.Words.{label_cmp};
 ghost use Rattle.arj_protocol.specs.Words.event as events;
 ghost use Rattle.arj_protocol.specs.World.{is_serial_kind, reasons, steps};
 ghost use Rattle.arj_protocol.specs.World as protocol;
+ghost use Rattle.arj_world.specs.Arms as arms;
 ghost use Rattle.arj_world.specs.Disks.{HaveMoved};
 ghost use Rattle.arj_world.specs.Goes.{BeginsTo, GoesTo, is_no_restart};
 ghost use Rattle.arj_world.specs.Happens.{HappensTo, done};
@@ -41,7 +42,9 @@ fn is_serial(kind: Kind) -> bool
     matches!(kind, Kind::Serial)
 }
 
-fn outcome_of(kind: StopKind) -> Outcome {
+fn outcome_of(kind: StopKind) -> Outcome
+    ensures { result ≡ arms.outcome_of kind }
+{
     match kind {
         StopKind::Undone => Outcome::Undone,
         StopKind::Done => Outcome::Done,
@@ -73,8 +76,8 @@ impl<C: Core> World<C> {
         requires stands { StandsSome C.Core D.file (hand self.old rack.old journal.old) }
         ensures goes { OnOk result (GoesTo C.Core D.file (protocol.begins (record { label = label; kind = kind; parent = parent; node = node })) (hand self.old rack.old journal.old) (hand self.new rack.new journal.new)) }
         ensures header { self.new.header ≡ self.old.header }
-        ensures disks { HaveMoved D.Disk 0 rack.old rack.new }
-        ensures tells { OnOk result (TellsStops D.Disk nobody rack.old rack.new journal.old journal.new) }
+        ensures disks { HaveMoved D.Disk self.old.header.nodes [] rack.old rack.new }
+        ensures tells { OnOk result (TellsStops D.Disk self.old.header.nodes nobody rack.old rack.new journal.old journal.new) }
     {
         let serial = is_serial(kind);
         let Some(n) = self.node_in(u32::from(node)) else {
@@ -106,8 +109,8 @@ impl<C: Core> World<C> {
         requires stands { StandsSome C.Core D.file (hand self.old rack.old journal.old) }
         ensures goes { OnOk result (GoesTo C.Core D.file (protocol.begins (record { label = label; kind = kind; parent = None; node = node })) (hand self.old rack.old journal.old) (hand self.new rack.new journal.new)) }
         ensures header { self.new.header ≡ self.old.header }
-        ensures disks { HaveMoved D.Disk 0 rack.old rack.new }
-        ensures tells { OnOk result (TellsStops D.Disk nobody rack.old rack.new journal.old journal.new) }
+        ensures disks { HaveMoved D.Disk self.old.header.nodes [] rack.old rack.new }
+        ensures tells { OnOk result (TellsStops D.Disk self.old.header.nodes nobody rack.old rack.new journal.old journal.new) }
     {
         let Some(n) = self.node_in(node) else {
             unreachable!()
@@ -152,8 +155,8 @@ impl<C: Core> World<C> {
         requires stands { StandsSome C.Core D.file (hand self.old rack.old journal.old) }
         ensures goes { OnOk result (GoesTo C.Core D.file (done (events.BeginIn label parent)) (hand self.old rack.old journal.old) (hand self.new rack.new journal.new)) }
         ensures header { self.new.header ≡ self.old.header }
-        ensures disks { HaveMoved D.Disk 0 rack.old rack.new }
-        ensures tells { OnOk result (TellsStops D.Disk nobody rack.old rack.new journal.old journal.new) }
+        ensures disks { HaveMoved D.Disk self.old.header.nodes [] rack.old rack.new }
+        ensures tells { OnOk result (TellsStops D.Disk self.old.header.nodes nobody rack.old rack.new journal.old journal.new) }
     {
         let kind = self.kind_below(parent);
         let node = self.node_of(parent);
@@ -171,8 +174,8 @@ impl<C: Core> World<C> {
         requires stands { StandsSome C.Core D.file (hand self.old rack.old journal.old) }
         ensures goes { OnOk result (GoesTo C.Core D.file (done (events.Top label parent)) (hand self.old rack.old journal.old) (hand self.new rack.new journal.new)) }
         ensures header { self.new.header ≡ self.old.header }
-        ensures disks { HaveMoved D.Disk 0 rack.old rack.new }
-        ensures tells { OnOk result (TellsStops D.Disk nobody rack.old rack.new journal.old journal.new) }
+        ensures disks { HaveMoved D.Disk self.old.header.nodes [] rack.old rack.new }
+        ensures tells { OnOk result (TellsStops D.Disk self.old.header.nodes nobody rack.old rack.new journal.old journal.new) }
     {
         let node = self.node_of(parent);
         self.begin(rack, label, Kind::Independent, Some(parent), node, journal)
@@ -191,8 +194,8 @@ impl<C: Core> World<C> {
         requires stands { StandsSome C.Core D.file (hand self.old rack.old journal.old) }
         ensures goes { OnOk result (GoesTo C.Core D.file (λ w. steps (protocol.node_of label w) (input_of input) w) (hand self.old rack.old journal.old) (hand self.new rack.new journal.new)) }
         ensures header { self.new.header ≡ self.old.header }
-        ensures disks { HaveMoved D.Disk 0 rack.old rack.new }
-        ensures tells { OnOk result (TellsStops D.Disk nobody rack.old rack.new journal.old journal.new) }
+        ensures disks { HaveMoved D.Disk self.old.header.nodes [] rack.old rack.new }
+        ensures tells { OnOk result (TellsStops D.Disk self.old.header.nodes nobody rack.old rack.new journal.old journal.new) }
     {
         let node = self.node_of(label);
         self.ask_node(rack, u32::from(node), input, journal)
@@ -209,8 +212,8 @@ impl<C: Core> World<C> {
         requires stands { StandsSome C.Core D.file (hand self.old rack.old journal.old) }
         ensures begins { OnOk result (BeginsTo C.Core D.file (steps node inputs.Restart) (hand self.old rack.old journal.old) (hand self.new rack.new journal.new)) }
         ensures header { self.new.header ≡ self.old.header }
-        ensures disks { HaveMoved D.Disk 0 rack.old rack.new }
-        ensures tells { OnOk result (TellsStops D.Disk nobody rack.old rack.new journal.old journal.new) }
+        ensures disks { HaveMoved D.Disk self.old.header.nodes [] rack.old rack.new }
+        ensures tells { OnOk result (TellsStops D.Disk self.old.header.nodes nobody rack.old rack.new journal.old journal.new) }
     {
         match self.node_in(node) {
             Some(n) => self.step_core(rack, n, Input::Restart, journal),
@@ -233,8 +236,8 @@ impl<C: Core> World<C> {
         requires arms { All (λ d. D.arms d < LAST_ARM) rack.old }
         ensures happens { OnOk result (HappensTo C.Core D.file (done (events.Stop node calls kind)) (hand self.old rack.old journal.old) (hand self.new rack.new journal.new)) }
         ensures header { self.new.header ≡ self.old.header }
-        ensures disks { HaveMoved D.Disk 1 rack.old rack.new }
-        ensures tells { OnOk result (TellsStops D.Disk nobody rack.old rack.new journal.old journal.new) }
+        ensures disks { HaveMoved D.Disk self.old.header.nodes (events.Stop node calls kind ∷ []) rack.old rack.new }
+        ensures tells { OnOk result (TellsStops D.Disk self.old.header.nodes nobody rack.old rack.new journal.old journal.new) }
     {
         let Some(n) = self.node_in(node) else {
             unreachable!()
@@ -256,7 +259,7 @@ impl<C: Core> World<C> {
         requires junk { message_of bytes ≡ None }
         ensures goes { OnOk result (GoesTo C.Core D.file (protocol.junk node) (hand self.old rack.now journal.old) (hand self.new rack.now journal.new)) }
         ensures header { self.new.header ≡ self.old.header }
-        ensures tells { OnOk result (TellsStops D.Disk nobody rack.now rack.now journal.old journal.new) }
+        ensures tells { OnOk result (TellsStops D.Disk self.old.header.nodes nobody rack.now rack.now journal.old journal.new) }
     {
         let Some(n) = self.node_in(node) else {
             unreachable!()

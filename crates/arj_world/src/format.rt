@@ -28,7 +28,7 @@ fn format_node<C: Core, D: Disk>(
     requires form { HeaderInForm header.now }
     requires empty { (d : D) → slice_get rack.old (node - 1) ≡ Some d → (slot : Slot) → D.file d slot ≡ None }
     ensures formatted { IfOk result (λ core. Formatted C.Core D.file header.now node core rack.old rack.new) }
-    ensures disks { HaveMoved D.Disk 0 rack.old rack.new }
+    ensures disks { HaveMoved D.Disk header.now.nodes [] rack.old rack.new }
     ensures stopped { IsErrOf result FormatFault.Stopped → HasStopped D.Disk rack.old rack.new }
     ensures unstopped { (IsErrOf result FormatFault.Stopped → ⊥) → HaveNotStopped D.Disk rack.old rack.new }
 {
@@ -50,7 +50,7 @@ impl<C: Core + Drop> World<C> {
         requires form { HeaderInForm header }
         requires empty { All (λ d. (slot : Slot) → D.file d slot ≡ None) rack.old }
         ensures stands { IfOk result (λ world. Stands C.Core D.file (hand world rack.new []) (protocol.format header)) }
-        ensures disks { HaveMoved D.Disk 0 rack.old rack.new }
+        ensures disks { HaveMoved D.Disk header.nodes [] rack.old rack.new }
         ensures stopped { IsErrOf result FormatFault.Stopped → HasStopped D.Disk rack.old rack.new }
         ensures unstopped { (IsErrOf result FormatFault.Stopped → ⊥) → HaveNotStopped D.Disk rack.old rack.new }
     {

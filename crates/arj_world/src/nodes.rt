@@ -54,8 +54,8 @@ impl<C: Core> World<C> {
         requires stands { StandsSome C.Core D.file (hand self.old rack.old journal.old) }
         ensures goes { OnOk result (GoesTo C.Core D.file (protocol.tick_up node) (hand self.old rack.old journal.old) (hand self.new rack.new journal.new)) }
         ensures header { self.new.header ≡ self.old.header }
-        ensures disks { HaveMoved D.Disk 0 rack.old rack.new }
-        ensures tells { OnOk result (TellsStops D.Disk nobody rack.old rack.new journal.old journal.new) }
+        ensures disks { HaveMoved D.Disk self.old.header.nodes [] rack.old rack.new }
+        ensures tells { OnOk result (TellsStops D.Disk self.old.header.nodes nobody rack.old rack.new journal.old journal.new) }
     {
         if self.wire.full {
             return Ok(());
@@ -75,8 +75,8 @@ impl<C: Core> World<C> {
         requires stands { StandsSome C.Core D.file (hand self.old rack.old journal.old) }
         ensures goes { OnOk result (GoesTo C.Core D.file (protocol.tick_all (numbers_to self.old.header.nodes)) (hand self.old rack.old journal.old) (hand self.new rack.new journal.new)) }
         ensures header { self.new.header ≡ self.old.header }
-        ensures disks { HaveMoved D.Disk 0 rack.old rack.new }
-        ensures tells { OnOk result (TellsStops D.Disk nobody rack.old rack.new journal.old journal.new) }
+        ensures disks { HaveMoved D.Disk self.old.header.nodes [] rack.old rack.new }
+        ensures tells { OnOk result (TellsStops D.Disk self.old.header.nodes nobody rack.old rack.new journal.old journal.new) }
     {
         let nodes = self.header.nodes;
         for node in 0..nodes {
@@ -108,8 +108,8 @@ impl<C: Core> World<C> {
         requires stands { StandsSome C.Core D.file (hand self.old rack.old journal.old) }
         ensures goes { OnOk result (GoesTo C.Core D.file protocol.quiesce (hand self.old rack.old journal.old) (hand self.new rack.new journal.new)) }
         ensures header { self.new.header ≡ self.old.header }
-        ensures disks { HaveMoved D.Disk 0 rack.old rack.new }
-        ensures tells { OnOk result (TellsStops D.Disk nobody rack.old rack.new journal.old journal.new) }
+        ensures disks { HaveMoved D.Disk self.old.header.nodes [] rack.old rack.new }
+        ensures tells { OnOk result (TellsStops D.Disk self.old.header.nodes nobody rack.old rack.new journal.old journal.new) }
     {
         self.settle(rack, journal)?;
         self.tick_all(rack, journal)?;
@@ -131,8 +131,8 @@ impl<C: Core> World<C> {
         requires stands { StandsSome C.Core D.file (hand self.old rack.old journal.old) }
         ensures goes { OnOk result (GoesTo C.Core D.file (protocol.show_up x node) (hand self.old rack.old journal.old) (hand self.new rack.new journal.new)) }
         ensures header { self.new.header ≡ self.old.header }
-        ensures disks { HaveMoved D.Disk 0 rack.old rack.new }
-        ensures tells { OnOk result (TellsStops D.Disk nobody rack.old rack.new journal.old journal.new) }
+        ensures disks { HaveMoved D.Disk self.old.header.nodes [] rack.old rack.new }
+        ensures tells { OnOk result (TellsStops D.Disk self.old.header.nodes nobody rack.old rack.new journal.old journal.new) }
     {
         if !self.is_up(node) {
             return Ok(());
@@ -150,8 +150,8 @@ impl<C: Core> World<C> {
         requires stands { StandsSome C.Core D.file (hand self.old rack.old journal.old) }
         ensures goes { OnOk result (GoesTo C.Core D.file (protocol.show_all x (numbers_to self.old.header.nodes)) (hand self.old rack.old journal.old) (hand self.new rack.new journal.new)) }
         ensures header { self.new.header ≡ self.old.header }
-        ensures disks { HaveMoved D.Disk 0 rack.old rack.new }
-        ensures tells { OnOk result (TellsStops D.Disk nobody rack.old rack.new journal.old journal.new) }
+        ensures disks { HaveMoved D.Disk self.old.header.nodes [] rack.old rack.new }
+        ensures tells { OnOk result (TellsStops D.Disk self.old.header.nodes nobody rack.old rack.new journal.old journal.new) }
     {
         let nodes = self.header.nodes;
         for node in 0..nodes {

@@ -1,5 +1,5 @@
 // The refusals that the world finds itself, before any node is asked.
-ghost use Rattle.std.specs.Prelude.{◌≡◌, ◌≤◌, ◌==◌, is_some, IfOk, MatchOption};
+ghost use Rattle.std.specs.Prelude.{◌≡◌, ◌≤◌, ◌==◌, ℕ, None, is_some, IfOk, OnErr, MatchOption};
 ghost use Rattle.std.specs.List.{list_any};
 ghost use Rattle.arj_journal.specs.declared.header.ObjectLine.{ObjectLine as object_line};
 ghost use Rattle.arj_protocol.specs.Step.{class_at, first_reason};
@@ -7,6 +7,7 @@ ghost use Rattle.arj_protocol.specs.Words.{read_message};
 ghost use Rattle.arj_protocol.specs.Words.event as events;
 ghost use Rattle.arj_protocol.specs.World.{reads_whole, reasons};
 ghost use Rattle.arj_protocol.specs.World as protocol;
+ghost use Rattle.arj_world.specs.Arms.{arm_at};
 ghost use Rattle.arj_world.specs.Stands.{Keeps};
 
 use crate::World;
@@ -146,9 +147,10 @@ impl<C: Core> World<C> {
         Ok(None)
     }
 
-    /// The cause for which the world refuses an event: the first that holds.
+    /// The cause for which the world refuses an event: the first that holds. It wants no memory for an event that arms a disk.
     pub(crate) fn refusal(&self, event: &Event) -> Result<Option<u8>, AllocError>
-        ensures { IfOk result (λ cause. (w : protocol.World) → Keeps C.Core self.now w → cause ≡ first_reason (reasons event.now w)) }
+        ensures cause { IfOk result (λ cause. (w : protocol.World) → Keeps C.Core self.now w → cause ≡ first_reason (reasons event.now w)) }
+        ensures memory { OnErr result ((n : ℕ) → arm_at n event.now ≡ None) }
     {
         match event {
             Event::Begin { label, node } => Ok(self.begin_refusal(*label, *node)),

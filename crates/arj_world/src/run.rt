@@ -47,8 +47,8 @@ impl<C: Core> World<C> {
         requires stands { StandsSome C.Core D.file (hand self.old rack.old journal.old) }
         ensures goes { OnOk result (GoesTo C.Core D.file (λ w. steps (protocol.node_of label w) (inputs.Include label x node) w) (hand self.old rack.old journal.old) (hand self.new rack.new journal.new)) }
         ensures header { self.new.header ≡ self.old.header }
-        ensures disks { HaveMoved D.Disk 0 rack.old rack.new }
-        ensures tells { OnOk result (TellsStops D.Disk nobody rack.old rack.new journal.old journal.new) }
+        ensures disks { HaveMoved D.Disk self.old.header.nodes [] rack.old rack.new }
+        ensures tells { OnOk result (TellsStops D.Disk self.old.header.nodes nobody rack.old rack.new journal.old journal.new) }
     {
         let Some(store) = self.node_in(node) else {
             unreachable!()
@@ -69,8 +69,8 @@ impl<C: Core> World<C> {
         requires stands { StandsSome C.Core D.file (hand self.old rack.old journal.old) }
         ensures happens { OnOk result (HappensTo C.Core D.file (done event) (hand self.old rack.old journal.old) (hand self.new rack.new journal.new)) }
         ensures header { self.new.header ≡ self.old.header }
-        ensures disks { HaveMoved D.Disk 1 rack.old rack.new }
-        ensures tells { OnOk result (TellsStops D.Disk (crashed_by event) rack.old rack.new journal.old journal.new) }
+        ensures disks { HaveMoved D.Disk self.old.header.nodes (event ∷ []) rack.old rack.new }
+        ensures tells { OnOk result (TellsStops D.Disk self.old.header.nodes (crashed_by event) rack.old rack.new journal.old journal.new) }
     {
         match event {
             Event::Begin { label, node } => self.begin_at(rack, label, Kind::Top, node, journal),
@@ -191,9 +191,9 @@ impl<C: Core> World<C> {
         ensures kept { IsErrOf result StepFault.Labels → (self.new ≡ self.old) × (rack.new ≡ rack.old) × (journal.new ≡ journal.old) }
         ensures labels { IsErrOf result StepFault.Labels → (w : protocol.World) → Keeps C.Core self.old w → (None ≡ first_reason (reasons event w)) × (lacks_labels (giving event w) w ≡ true) }
         ensures header { self.new.header ≡ self.old.header }
-        ensures disks { HaveMoved D.Disk 1 rack.old rack.new }
-        ensures stops { OnOk result (TellsStops D.Disk (crashed_by event) rack.old rack.new journal.old journal.new) }
-        ensures stops_over { IsErrOf result StepFault.Frames → TellsStops D.Disk (crashed_by event) rack.old rack.new journal.old journal.new }
+        ensures disks { HaveMoved D.Disk self.old.header.nodes (event ∷ []) rack.old rack.new }
+        ensures stops { OnOk result (TellsStops D.Disk self.old.header.nodes (crashed_by event) rack.old rack.new journal.old journal.new) }
+        ensures stops_over { IsErrOf result StepFault.Frames → TellsStops D.Disk self.old.header.nodes (crashed_by event) rack.old rack.new journal.old journal.new }
         ensures answers { OnOk result (AnswersEvent C.Core D.file event (hand self.old rack.old journal.old) false journal.new) }
         ensures answers_over { IsErrOf result StepFault.Frames → AnswersEvent C.Core D.file event (hand self.old rack.old journal.old) true journal.new }
         ensures ends { OnOk result (EndsEvent C.Core D.file event (hand self.old rack.old journal.old) journal.new) }

@@ -42,7 +42,6 @@ impl<C> Model for World<C> {
 
 impl<C: Core> World<C> {
     /// One step of a node. Its lines and frames are put; where its disk stopped, a line says that it halted.
-    #[tactic(auto, using(crate::proofs::Disks::moved_set))]
     pub(crate) fn step_core<D: Disk>(
         &mut self,
         rack: &mut Rack<D>,
@@ -55,8 +54,8 @@ impl<C: Core> World<C> {
         requires stands { StandsSome C.Core D.file (hand self.old rack.old journal.old) }
         ensures steps { OnOk result (StepsTo C.Core D.file node (input_of input) (hand self.old rack.old journal.old) (hand self.new rack.new journal.new)) }
         ensures header { self.new.header ≡ self.old.header }
-        ensures disks { HaveMoved D.Disk 0 rack.old rack.new }
-        ensures tells { OnOk result (TellsStops D.Disk (crashed_at node (input_of input)) rack.old rack.new journal.old journal.new) }
+        ensures disks { HaveMoved D.Disk self.old.header.nodes [] rack.old rack.new }
+        ensures tells { OnOk result (TellsStops D.Disk self.old.header.nodes (crashed_at node (input_of input)) rack.old rack.new journal.old journal.new) }
     {
         let mut outputs = Outputs::new(self.alloc);
         let core = &mut self.cores[usize::from(node - 1)];
@@ -83,8 +82,8 @@ impl<C: Core> World<C> {
         requires stands { StandsSome C.Core D.file (hand self.old rack.old journal.old) }
         ensures goes { OnOk result (GoesTo C.Core D.file (steps node (input_of input)) (hand self.old rack.old journal.old) (hand self.new rack.new journal.new)) }
         ensures header { self.new.header ≡ self.old.header }
-        ensures disks { HaveMoved D.Disk 0 rack.old rack.new }
-        ensures tells { OnOk result (TellsStops D.Disk (crashed_at node (input_of input)) rack.old rack.new journal.old journal.new) }
+        ensures disks { HaveMoved D.Disk self.old.header.nodes [] rack.old rack.new }
+        ensures tells { OnOk result (TellsStops D.Disk self.old.header.nodes (crashed_at node (input_of input)) rack.old rack.new journal.old journal.new) }
     {
         match self.node_in(node) {
             Some(n) => self.step_core(rack, n, input, journal),

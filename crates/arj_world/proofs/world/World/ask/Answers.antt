@@ -20,4 +20,4 @@ returns-clause-goes g c =
 
 pub returns-clause-tells : goal.returns-clause-tells
 returns-clause-tells g c =
-    subst (λ b. OnOk c.ask_node.result (TellsStops g.D.Disk (λ n. b && (n == c.from.result)) c.args.rack.now c.ask_node.new.rack c.args.journal.now c.ask_node.new.journal)) c.requires.live c.ask_node.ensures.tells
+    subst (λ b. OnOk c.ask_node.result (TellsStops g.D.Disk c.args.self.now.header.nodes (λ n. b && (n == c.from.result)) c.args.rack.now c.ask_node.new.rack c.args.journal.now c.ask_node.new.journal)) c.requires.live c.ask_node.ensures.tells

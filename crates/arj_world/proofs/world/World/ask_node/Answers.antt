@@ -24,4 +24,4 @@ returns-in-None-clause-goes g c = goes_not g.C.Core g.D.Disk.file c.args.node (i
 pub returns-in-Some-clause-tells : goal.returns-in-Some-clause-tells
 returns-in-Some-clause-tells g c =
     let n = c.in-Some.ensures in
-    subst (λ m. OnOk c.step_core.result (TellsStops g.D.Disk (crashed_at m (input_of c.args.input)) c.args.rack.now c.step_core.new.rack c.args.journal.now c.step_core.new.journal)) n.0 c.step_core.ensures.tells
+    subst (λ m. OnOk c.step_core.result (TellsStops g.D.Disk c.args.self.now.header.nodes (crashed_at m (input_of c.args.input)) c.args.rack.now c.step_core.new.rack c.args.journal.now c.step_core.new.journal)) n.0 c.step_core.ensures.tells

@@ -47,7 +47,7 @@ returns-clause-goes g c =
     c.give_label-2.ensures.given
 
 pub returns-in_default-clause-tells : goal.returns-in_default-clause-tells
-returns-in_default-clause-tells g c = on_ok_weaker c.give_label.result (λ given. tells_none g.D.Disk nobody c.args.rack.now c.args.journal.now) c.give_label.ensures.given
+returns-in_default-clause-tells g c = on_ok_weaker c.give_label.result (λ given. tells_none g.D.Disk c.args.self.now.header.nodes nobody c.args.rack.now c.args.journal.now) c.give_label.ensures.given
 
 pub returns-then-not-ends_begun-clause-tells : goal.returns-then-not-ends_begun-clause-tells
 returns-then-not-ends_begun-clause-tells g c = c.in_ok-step_core.ensures.tells

@@ -11,7 +11,7 @@ pub loop-node-init : goal.loop-node-init
 loop-node-init g c = record {
   so = subst (λ cs. Formats g.C.Core g.D.Disk.file c.args.header c.args.rack.now cs c.args.rack.now) (sym c.new-cores.ensures.items) (formats_none g.C.Core g.D.Disk.file c.args.header c.args.rack.now);
   count = ap length c.new-cores.ensures.items;
-  disks = moved_none g.D.Disk 0 c.args.rack.now;
+  disks = moved_none g.D.Disk c.args.header.nodes c.args.rack.now;
   unstopped = unstopped_none g.D.Disk c.args.rack.now;
 }
 
@@ -21,7 +21,7 @@ loop-node-preserved g c = record {
       (formats_next g.C.Core g.D.Disk.file c.args.header c.args.rack.now c.loop-node.cores.items c.loop-node.rack c.format_node.new.rack c.in_ok-format_node.field-0 (c.loop-node.node + 1) c.loop-node.invariant.so
       (ap (λ n. n + 1) (sym c.loop-node.invariant.count)) c.in_ok-format_node.ensures.formatted);
   count = omega (arith, ap length c.in_ok-push.ensures.items, length-append c.loop-node.cores.items (c.in_ok-format_node.field-0 ∷ []), c.loop-node.invariant.count);
-  disks = moved_on g.D.Disk c.args.rack.now c.loop-node.rack c.format_node.new.rack c.loop-node.invariant.disks c.in_ok-format_node.ensures.disks;
+  disks = moved_on g.D.Disk c.args.header.nodes c.args.header.nodes c.args.rack.now c.loop-node.rack c.format_node.new.rack refl c.loop-node.invariant.disks c.in_ok-format_node.ensures.disks;
   unstopped = unstopped_on g.D.Disk c.args.rack.now c.loop-node.rack c.format_node.new.rack c.loop-node.invariant.unstopped (c.in_ok-format_node.ensures.unstopped (λ e. absurd (cc e)));
 }
 
@@ -53,15 +53,15 @@ pub returns-clause-disks : goal.returns-clause-disks
 returns-clause-disks g c = c.loop-node.invariant.disks
 
 pub returns-in_err-format_node-clause-disks : goal.returns-in_err-format_node-clause-disks
-returns-in_err-format_node-clause-disks g c = moved_on g.D.Disk c.args.rack.now c.loop-node.rack c.format_node.new.rack c.loop-node.invariant.disks c.format_node.ensures.disks
+returns-in_err-format_node-clause-disks g c = moved_on g.D.Disk c.args.header.nodes c.args.header.nodes c.args.rack.now c.loop-node.rack c.format_node.new.rack refl c.loop-node.invariant.disks c.format_node.ensures.disks
 
 pub returns-in_err-push-clause-disks : goal.returns-in_err-push-clause-disks
-returns-in_err-push-clause-disks g c = moved_on g.D.Disk c.args.rack.now c.loop-node.rack c.format_node.new.rack c.loop-node.invariant.disks c.in_ok-format_node.ensures.disks
+returns-in_err-push-clause-disks g c = moved_on g.D.Disk c.args.header.nodes c.args.header.nodes c.args.rack.now c.loop-node.rack c.format_node.new.rack refl c.loop-node.invariant.disks c.in_ok-format_node.ensures.disks
 
 pub returns-in_err-format_node-clause-stopped : goal.returns-in_err-format_node-clause-stopped
 returns-in_err-format_node-clause-stopped g c = λ stopped.
     let fault : c.in_err-format_node.field-0.0 ≡ Stopped = same_fault c.from_residual.result c.in_err-format_node.field-0.0 Stopped c.from_residual.ensures.1 stopped in
-    stopped_later g.D.Disk c.args.rack.now c.loop-node.rack c.format_node.new.rack c.loop-node.invariant.disks c.format_node.ensures.disks (c.in_err-format_node.ensures.stopped (ap Err fault))
+    stopped_later g.D.Disk c.args.header.nodes c.args.rack.now c.loop-node.rack c.format_node.new.rack c.loop-node.invariant.disks c.format_node.ensures.disks (c.in_err-format_node.ensures.stopped (ap Err fault))
 
 pub returns-clause-unstopped : goal.returns-clause-unstopped
 returns-clause-unstopped g c = λ _. c.loop-node.invariant.unstopped

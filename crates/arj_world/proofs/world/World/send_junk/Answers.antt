@@ -30,6 +30,6 @@ returns-clause-tells g c =
     let k = length (map frame_of c.self.inside.wire.net) + 1 in
     on_ok_weaker c.send.result
     (λ (put : shown c.send.new.self c.send.new.journal ≡ put_seen 0 c.self.inside.wire.event (Sent c.in-Some.n frame.Junk (message_of c.args.bytes) ∷ []) (shown c.self.inside.wire c.args.journal.now)).
-    tells_line g.D.Disk nobody c.args.rack.now c.args.rack.now c.args.journal.now c.args.journal.now c.send.new.journal (numbered c.self.inside.wire.event (sent_line k 0 c.in-Some.n frame.Junk ++ []))
-    (λ m. frame_line m c.self.inside.wire.event k 0 c.in-Some.n frame.Junk) (ap (λ (p : Put). p.lines) put) (tells_none g.D.Disk nobody c.args.rack.now c.args.journal.now))
+    tells_line g.D.Disk c.args.self.now.header.nodes nobody c.args.rack.now c.args.rack.now c.args.journal.now c.args.journal.now c.send.new.journal (numbered c.self.inside.wire.event (sent_line k 0 c.in-Some.n frame.Junk ++ []))
+    (λ m. frame_line m c.self.inside.wire.event k 0 c.in-Some.n frame.Junk) (ap (λ (p : Put). p.lines) put) (tells_none g.D.Disk c.args.self.now.header.nodes nobody c.args.rack.now c.args.journal.now))
     c.send.ensures.put

@@ -1,4 +1,4 @@
-use Rattle.std.proofs.Common.{◌≡◌, ◌∙◌, ◌-◌, suc, arith, sym, subst}
+use Rattle.std.proofs.Common.{ap, ◌≡◌, ◌∙◌, ◌-◌, suc, arith, sym, subst}
 use Rattle.arj_protocol.specs.World.{settle, settle_for}
 use Rattle.arj_world.specs.Goes.{GoesPartTo}
 use Rattle.arj_world.specs.Stands.{hand}
@@ -21,12 +21,12 @@ loop-left-preserved g c =
           (subst (λ n. GoesPartTo g.C.Core g.D.Disk.file settle (settle_for n) first old) one_less c.loop-left.invariant.goes)
           (sym c.lowest.ensures ∙ c.in-Some.is) c.in_ok-deliver.ensures.goes c.loop-left.invariant.header;
       header = c.in_ok-deliver.ensures.header ∙ c.loop-left.invariant.header;
-      disks = moved_on g.D.Disk c.args.rack.now c.loop-left.rack c.deliver.new.rack c.loop-left.invariant.disks c.in_ok-deliver.ensures.disks;
-      tells = tells_then g.D.Disk c.args.rack.now c.loop-left.rack c.deliver.new.rack c.args.journal.now c.loop-left.journal c.deliver.new.journal c.loop-left.invariant.tells c.in_ok-deliver.ensures.tells;
+      disks = moved_on g.D.Disk c.args.self.now.header.nodes c.loop-left.self.header.nodes c.args.rack.now c.loop-left.rack c.deliver.new.rack (ap (λ h. h.nodes) c.loop-left.invariant.header) c.loop-left.invariant.disks c.in_ok-deliver.ensures.disks;
+      tells = tells_then g.D.Disk c.args.self.now.header.nodes c.loop-left.self.header.nodes c.args.rack.now c.loop-left.rack c.deliver.new.rack c.args.journal.now c.loop-left.journal c.deliver.new.journal (ap (λ h. h.nodes) c.loop-left.invariant.header) c.loop-left.invariant.tells c.in_ok-deliver.ensures.tells;
     }
 
 pub returns-in_err-deliver-clause-disks : goal.returns-in_err-deliver-clause-disks
-returns-in_err-deliver-clause-disks g c = moved_on g.D.Disk c.args.rack.now c.loop-left.rack c.deliver.new.rack c.loop-left.invariant.disks c.deliver.ensures.disks
+returns-in_err-deliver-clause-disks g c = moved_on g.D.Disk c.args.self.now.header.nodes c.loop-left.self.header.nodes c.args.rack.now c.loop-left.rack c.deliver.new.rack (ap (λ h. h.nodes) c.loop-left.invariant.header) c.loop-left.invariant.disks c.deliver.ensures.disks
 
 pub returns-in_default-clause-tells : goal.returns-in_default-clause-tells
 returns-in_default-clause-tells g c = c.loop-left.invariant.tells

@@ -14,8 +14,8 @@ loop-node-init g c = record {
   count = ap (λ k. k.header.nodes) c.self.view_is;
   goes = shows_start g.C.Core g.D.Disk.file c.args.x c.self.inside.header.nodes (hand c.args.self.now c.args.rack.now c.args.journal.now);
   header = refl;
-  disks = moved_none g.D.Disk 0 c.args.rack.now;
-  tells = tells_none g.D.Disk nobody c.args.rack.now c.args.journal.now;
+  disks = moved_none g.D.Disk c.args.self.now.header.nodes c.args.rack.now;
+  tells = tells_none g.D.Disk c.args.self.now.header.nodes nobody c.args.rack.now c.args.journal.now;
 }
 
 pub loop-node-preserved : goal.loop-node-preserved
@@ -24,8 +24,8 @@ loop-node-preserved g c = record {
   goes = shows_turn g.C.Core g.D.Disk.file c.args.x c.loop-node.node (c.loop-node.node + 1) c.self.inside.header.nodes (hand c.args.self.now c.args.rack.now c.args.journal.now) (hand c.loop-node.self c.loop-node.rack c.loop-node.journal)
       (hand c.show_up.new.self c.show_up.new.rack c.show_up.new.journal) c.loop-node.invariant.goes c.loop-node-test.true refl c.in_ok-show_up.ensures.goes c.loop-node.invariant.header;
   header = c.in_ok-show_up.ensures.header ∙ c.loop-node.invariant.header;
-  disks = moved_on g.D.Disk c.args.rack.now c.loop-node.rack c.show_up.new.rack c.loop-node.invariant.disks c.in_ok-show_up.ensures.disks;
-  tells = tells_then g.D.Disk c.args.rack.now c.loop-node.rack c.show_up.new.rack c.args.journal.now c.loop-node.journal c.show_up.new.journal c.loop-node.invariant.tells c.in_ok-show_up.ensures.tells;
+  disks = moved_on g.D.Disk c.args.self.now.header.nodes c.loop-node.self.header.nodes c.args.rack.now c.loop-node.rack c.show_up.new.rack (ap (λ h. h.nodes) c.loop-node.invariant.header) c.loop-node.invariant.disks c.in_ok-show_up.ensures.disks;
+  tells = tells_then g.D.Disk c.args.self.now.header.nodes c.loop-node.self.header.nodes c.args.rack.now c.loop-node.rack c.show_up.new.rack c.args.journal.now c.loop-node.journal c.show_up.new.journal (ap (λ h. h.nodes) c.loop-node.invariant.header) c.loop-node.invariant.tells c.in_ok-show_up.ensures.tells;
 }
 
 pub returns-clause-goes : goal.returns-clause-goes
@@ -36,7 +36,7 @@ returns-clause-goes g c =
     (shows_end g.C.Core g.D.Disk.file c.args.x c.loop-node.node c.self.inside.header.nodes first now c.loop-node.invariant.goes c.loop-node-test.false)
 
 pub returns-in_err-show_up-clause-disks : goal.returns-in_err-show_up-clause-disks
-returns-in_err-show_up-clause-disks g c = moved_on g.D.Disk c.args.rack.now c.loop-node.rack c.show_up.new.rack c.loop-node.invariant.disks c.show_up.ensures.disks
+returns-in_err-show_up-clause-disks g c = moved_on g.D.Disk c.args.self.now.header.nodes c.loop-node.self.header.nodes c.args.rack.now c.loop-node.rack c.show_up.new.rack (ap (λ h. h.nodes) c.loop-node.invariant.header) c.loop-node.invariant.disks c.show_up.ensures.disks
 
 pub returns-clause-tells : goal.returns-clause-tells
 returns-clause-tells g c = c.loop-node.invariant.tells

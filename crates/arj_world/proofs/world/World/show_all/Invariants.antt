@@ -1,5 +1,5 @@
 -- so many nodes are done
-use Rattle.std.proofs.Common.{◌≡◌}
+use Rattle.std.proofs.Common.{[], ◌≡◌}
 use Rattle.arj_protocol.specs.Step.{numbers_to}
 use Rattle.arj_protocol.specs.World.{show_all}
 use Rattle.arj_world.specs.Disks.{HaveMoved}
@@ -14,6 +14,6 @@ invariant-loop-node g l = record {
   count : l.nodes ≡ l.fn.self.header.nodes;
   goes : GoesPartTo g.C.Core g.D.Disk.file (show_all l.x (numbers_to l.nodes)) (show_all l.x (numbers_left l.node l.nodes)) (hand l.fn.self l.fn.rack l.fn.journal) (hand l.self l.rack l.journal);
   header : l.self.header ≡ l.fn.self.header;
-  disks : HaveMoved g.D.Disk 0 l.fn.rack l.rack;
-  tells : TellsStops g.D.Disk nobody l.fn.rack l.rack l.fn.journal l.journal;
+  disks : HaveMoved g.D.Disk l.fn.self.header.nodes [] l.fn.rack l.rack;
+  tells : TellsStops g.D.Disk l.fn.self.header.nodes nobody l.fn.rack l.rack l.fn.journal l.journal;
 }

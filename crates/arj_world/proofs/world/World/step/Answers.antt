@@ -20,7 +20,7 @@ returns-in-Some-clause-ran g c =
     on_ok_weaker c.refuse.result
     (λ (both : (c.refuse.new.self ≡ next) × (c.refuse.new.journal ≡ c.args.journal.now ++ line)).
     subst (λ s. RunsTo g.C.Core g.D.Disk.file c.args.event old (hand s c.args.rack.now c.refuse.new.journal)) (sym both.0)
-    (runs_refused g.C.Core g.D.Disk.file c.args.event c.in-Some.cause old c.refuse.new.journal (λ w keeps. sym c.in-Some.is ∙ c.in_ok-cause.ensures w keeps) both.1))
+    (runs_refused g.C.Core g.D.Disk.file c.args.event c.in-Some.cause old c.refuse.new.journal (λ w keeps. sym c.in-Some.is ∙ c.in_ok-cause.ensures.cause w keeps) both.1))
     (on_ok_both (c.refuse.new.self ≡ next) (c.refuse.new.journal ≡ c.args.journal.now ++ line) c.refuse.result c.refuse.ensures.counted c.refuse.ensures.said)
 
 pub returns-in-Some-clause-frames : goal.returns-in-Some-clause-frames
@@ -39,11 +39,11 @@ pub returns-then-lacks_labels-clause-kept : goal.returns-then-lacks_labels-claus
 returns-then-lacks_labels-clause-kept g c = λ e. (refl, refl, refl)
 
 pub returns-then-lacks_labels-clause-labels : goal.returns-then-lacks_labels-clause-labels
-returns-then-lacks_labels-clause-labels g c = λ e w keeps. (sym c.in_default.is ∙ c.in_ok-cause.ensures w keeps, sym (c.if-lacks_labels.ensures w keeps))
+returns-then-lacks_labels-clause-labels g c = λ e w keeps. (sym c.in_default.is ∙ c.in_ok-cause.ensures.cause w keeps, sym (c.if-lacks_labels.ensures w keeps))
 
 pub happen-requires-clause-accepted : goal.happen-requires-clause-accepted
 happen-requires-clause-accepted g c = λ w keeps.
-    sym c.in_default.is ∙ c.in_ok-cause.ensures w (keeps_uncounted g.C.Core g.D.Disk.file c.args.self.now (c.args.self.now.event + 1) w (subst (λ s. Keeps g.C.Core s w) c.count.ensures keeps))
+    sym c.in_default.is ∙ c.in_ok-cause.ensures.cause w (keeps_uncounted g.C.Core g.D.Disk.file c.args.self.now (c.args.self.now.event + 1) w (subst (λ s. Keeps g.C.Core s w) c.count.ensures keeps))
 
 pub happen-requires-clause-stands : goal.happen-requires-clause-stands
 happen-requires-clause-stands g c =
@@ -58,7 +58,7 @@ returns-clause-ran g c =
     on_ok_weaker c.end.result
     (λ (both : (c.happen.new.self.full ≡ false) × (c.end.new.journal ≡ c.happen.new.journal)).
     subst (λ j. RunsTo g.C.Core g.D.Disk.file c.args.event old (hand c.happen.new.self c.happen.new.rack j)) (sym both.1)
-    (runs_accepted g.C.Core g.D.Disk.file c.args.event old new (λ w keeps. sym c.in_default.is ∙ c.in_ok-cause.ensures w keeps) c.if-lacks_labels.ensures
+    (runs_accepted g.C.Core g.D.Disk.file c.args.event old new (λ w keeps. sym c.in_default.is ∙ c.in_ok-cause.ensures.cause w keeps) c.if-lacks_labels.ensures
     (subst (λ s. HappensTo g.C.Core g.D.Disk.file (done c.args.event) (hand s c.args.rack.now c.args.journal.now) new) c.count.ensures c.in_ok-happen.ensures.happens) both.0))
     (on_ok_both (c.happen.new.self.full ≡ false) (c.end.new.journal ≡ c.happen.new.journal) c.end.result c.end.ensures.fits c.end.ensures.still)
 
@@ -66,7 +66,7 @@ pub returns-clause-frames : goal.returns-clause-frames
 returns-clause-frames g c = λ e.
     let old = hand c.args.self.now c.args.rack.now c.args.journal.now in
     let new = hand c.happen.new.self c.happen.new.rack c.happen.new.journal in
-    runs_over g.C.Core g.D.Disk.file c.args.event old new (λ w keeps. sym c.in_default.is ∙ c.in_ok-cause.ensures w keeps) c.if-lacks_labels.ensures
+    runs_over g.C.Core g.D.Disk.file c.args.event old new (λ w keeps. sym c.in_default.is ∙ c.in_ok-cause.ensures.cause w keeps) c.if-lacks_labels.ensures
     (subst (λ s. HappensTo g.C.Core g.D.Disk.file (done c.args.event) (hand s c.args.rack.now c.args.journal.now) new) c.count.ensures c.in_ok-happen.ensures.happens)
     c.end.new.journal (c.end.ensures.full e) (c.end.ensures.said e)
 
@@ -114,7 +114,7 @@ returns-clause-grown g c =
     on_ok_weaker c.end.result
     (λ (both : (c.happen.new.self.full ≡ false) × (c.end.new.journal ≡ c.happen.new.journal)).
     let more = grows_so g.C.Core g.D.Disk.file c.args.event old new
-    (runs_accepted g.C.Core g.D.Disk.file c.args.event old new (λ w keeps. sym c.in_default.is ∙ c.in_ok-cause.ensures w keeps) c.if-lacks_labels.ensures
+    (runs_accepted g.C.Core g.D.Disk.file c.args.event old new (λ w keeps. sym c.in_default.is ∙ c.in_ok-cause.ensures.cause w keeps) c.if-lacks_labels.ensures
     (subst (λ s. HappensTo g.C.Core g.D.Disk.file (done c.args.event) (hand s c.args.rack.now c.args.journal.now) new) c.count.ensures c.in_ok-happen.ensures.happens) both.0) c.requires.stands in
     (more.0, both.1 ∙ more.1))
     (on_ok_both (c.happen.new.self.full ≡ false) (c.end.new.journal ≡ c.happen.new.journal) c.end.result c.end.ensures.fits c.end.ensures.still)
@@ -124,7 +124,7 @@ returns-clause-grown_over g c = λ e.
     let old = hand c.args.self.now c.args.rack.now c.args.journal.now in
     let new = hand c.happen.new.self c.happen.new.rack c.happen.new.journal in
     grows_over g.C.Core g.D.Disk.file c.args.event old (hand c.happen.new.self c.happen.new.rack c.end.new.journal)
-    (runs_over g.C.Core g.D.Disk.file c.args.event old new (λ w keeps. sym c.in_default.is ∙ c.in_ok-cause.ensures w keeps) c.if-lacks_labels.ensures
+    (runs_over g.C.Core g.D.Disk.file c.args.event old new (λ w keeps. sym c.in_default.is ∙ c.in_ok-cause.ensures.cause w keeps) c.if-lacks_labels.ensures
     (subst (λ s. HappensTo g.C.Core g.D.Disk.file (done c.args.event) (hand s c.args.rack.now c.args.journal.now) new) c.count.ensures c.in_ok-happen.ensures.happens)
     c.end.new.journal (c.end.ensures.full e) (c.end.ensures.said e)) c.requires.stands
 
@@ -132,20 +132,20 @@ pub returns-in-Some-clause-stops : goal.returns-in-Some-clause-stops
 returns-in-Some-clause-stops g c =
     let line = numbered (c.args.self.now.event + 1) (body.Refused c.in-Some.cause ∷ []) in
     on_ok_weaker c.refuse.result
-    (λ (said : c.refuse.new.journal ≡ c.args.journal.now ++ line). tells_line g.D.Disk (crashed_by c.args.event) c.args.rack.now c.args.rack.now c.args.journal.now c.args.journal.now c.refuse.new.journal line
-    (λ n. refl) said (tells_none g.D.Disk (crashed_by c.args.event) c.args.rack.now c.args.journal.now)) c.refuse.ensures.said
+    (λ (said : c.refuse.new.journal ≡ c.args.journal.now ++ line). tells_line g.D.Disk c.args.self.now.header.nodes (crashed_by c.args.event) c.args.rack.now c.args.rack.now c.args.journal.now c.args.journal.now c.refuse.new.journal line
+    (λ n. refl) said (tells_none g.D.Disk c.args.self.now.header.nodes (crashed_by c.args.event) c.args.rack.now c.args.journal.now)) c.refuse.ensures.said
 
 pub returns-in-Some-clause-stops_over : goal.returns-in-Some-clause-stops_over
 returns-in-Some-clause-stops_over g c = λ e. absurd (c.refuse.ensures.frames e)
 
 pub returns-clause-stops : goal.returns-clause-stops
 returns-clause-stops g c = on_ok_weaker c.end.result
-    (λ (still : c.end.new.journal ≡ c.happen.new.journal). subst (TellsStops g.D.Disk (crashed_by c.args.event) c.args.rack.now c.happen.new.rack c.args.journal.now) (sym still) c.in_ok-happen.ensures.tells)
+    (λ (still : c.end.new.journal ≡ c.happen.new.journal). subst (TellsStops g.D.Disk c.args.self.now.header.nodes (crashed_by c.args.event) c.args.rack.now c.happen.new.rack c.args.journal.now) (sym still) c.in_ok-happen.ensures.tells)
     c.end.ensures.still
 
 pub returns-clause-stops_over : goal.returns-clause-stops_over
 returns-clause-stops_over g c = λ e.
-    tells_line g.D.Disk (crashed_by c.args.event) c.args.rack.now c.happen.new.rack c.args.journal.now c.happen.new.journal c.end.new.journal
+    tells_line g.D.Disk c.args.self.now.header.nodes (crashed_by c.args.event) c.args.rack.now c.happen.new.rack c.args.journal.now c.happen.new.journal c.end.new.journal
     (numbered c.happen.new.self.event (body.Limit which.Frames ∷ [])) (λ n. refl) (c.end.ensures.said e) c.in_ok-happen.ensures.tells
 
 pub returns-in-Some-clause-answers : goal.returns-in-Some-clause-answers
@@ -165,7 +165,7 @@ returns-clause-answers_over g c = λ e.
 
 pub returns-in-Some-clause-settled : goal.returns-in-Some-clause-settled
 returns-in-Some-clause-settled g c = on_ok_weaker c.refuse.result
-    (λ said which. absurd (settles_go g.C.Core g.D.Disk.file c.args.event c.in-Some.cause (hand c.args.self.now c.args.rack.now c.args.journal.now) (λ w keeps. sym c.in-Some.is ∙ c.in_ok-cause.ensures w keeps) c.requires.stands which)) c.refuse.ensures.said
+    (λ said which. absurd (settles_go g.C.Core g.D.Disk.file c.args.event c.in-Some.cause (hand c.args.self.now c.args.rack.now c.args.journal.now) (λ w keeps. sym c.in-Some.is ∙ c.in_ok-cause.ensures.cause w keeps) c.requires.stands which)) c.refuse.ensures.said
 
 pub returns-clause-settled : goal.returns-clause-settled
 returns-clause-settled g c = on_ok_weaker c.end.result

@@ -2,12 +2,14 @@ use Rattle.std.proofs.Common.{rules, ◌≡◌, ◌∙◌, ◌-◌, ◌<◌, Som
 use Rattle.std.specs.Prelude.{slice_get, slice_set}
 use Rattle.std.proofs.lemmas.Option.{slice_get_read}
 use Rattle.std.proofs.lemmas.Result.{on_ok_weaker}
+use Rattle.arj_core.specs.declared.node.CoreFault.TheVariants.{Halted}
 use Rattle.arj_core.specs.Steps.{Did, WasCut, input_of, seen_of}
 use Rattle.arj_protocol.specs.Step.{step}
 use Rattle.arj_protocol.specs.Words.body
 use Rattle.arj_protocol.specs.World.{numbered}
 use Rattle.arj_world.specs.Wire.{frame_of, put_seen, Put, shown}
 use Rattle.arj_world.specs.Stands.{hand}
+use Rattle.arj_world.proofs.Disks.{moved_set}
 use Rattle.arj_world.proofs.Stepping.{done_kept, cut_kept, some_node}
 use Rattle.arj_world.proofs.Tells.{tells_cut, tells_done}
 use Rattle.arj_world.proofs.world.World.step_core.Goals as goal
@@ -84,3 +86,15 @@ returns-in_ok-put-in-Err-Halted-clause-tells g c =
     c.requires.least c.requires.greatest at_core c.disk.ensures.value c.requires.stands
     (λ h n st. subst (λ o. WasCut (g.C.Core.stands h c.step.new.self (g.D.Disk.file c.step.new.disk)) n (step h n (input_of c.args.input)) o c.step.new.out) c.new-outputs.ensures (c.in-Err-Halted.ensures.halted (ap Err c.in-Err-Halted.field-0-is) h n st))
     (counts.rose (ap Err c.in-Err-Halted.field-0-is)) counts.later (ap (λ (p : Put). p.lines) c.in_ok-put-in-Err-Halted.ensures.put) line) c.say.ensures
+
+pub returns-in-Ok-clause-disks : goal.returns-in-Ok-clause-disks
+returns-in-Ok-clause-disks g c = moved_set g.D.Disk c.args.self.now.header.nodes c.args.node c.args.rack.now c.disk.result.now c.step.new.disk c.step.result Halted c.requires.least c.requires.greatest c.disk.ensures.value c.step.ensures.counts
+
+pub returns-in_err-put-in-Err-Halted-clause-disks : goal.returns-in_err-put-in-Err-Halted-clause-disks
+returns-in_err-put-in-Err-Halted-clause-disks g c = moved_set g.D.Disk c.args.self.now.header.nodes c.args.node c.args.rack.now c.disk.result.now c.step.new.disk c.step.result Halted c.requires.least c.requires.greatest c.disk.ensures.value c.step.ensures.counts
+
+pub returns-in_ok-put-in-Err-Halted-clause-disks : goal.returns-in_ok-put-in-Err-Halted-clause-disks
+returns-in_ok-put-in-Err-Halted-clause-disks g c = moved_set g.D.Disk c.args.self.now.header.nodes c.args.node c.args.rack.now c.disk.result.now c.step.new.disk c.step.result Halted c.requires.least c.requires.greatest c.disk.ensures.value c.step.ensures.counts
+
+pub returns-in-Err-Memory-clause-disks : goal.returns-in-Err-Memory-clause-disks
+returns-in-Err-Memory-clause-disks g c = moved_set g.D.Disk c.args.self.now.header.nodes c.args.node c.args.rack.now c.disk.result.now c.step.new.disk c.step.result Halted c.requires.least c.requires.greatest c.disk.ensures.value c.step.ensures.counts
