@@ -1,5 +1,6 @@
 -- What all nodes have run of a script.
 use Rattle.std.specs.Prelude.{ℕ, ◌≡◌, ◌<◌, Bool, true, false, All, List, [], ◌∷◌, length, map, None}
+use Rattle.std.specs.List.{AllByRecursion}
 use Rattle.arj_core.specs.declared.node.Core as core
 use Rattle.arj_disk.specs.declared.disk.Disk as disk
 use Rattle.arj_disk.specs.declared.slot.Slot.{Slot}
@@ -10,7 +11,7 @@ use Rattle.arj_protocol.specs.World.{World, format, giving, lacks_labels, reason
 use Rattle.arj_world.specs.Disks.{HaveMoved, HaveNotStopped}
 use Rattle.arj_world.specs.Stands.{Hand, Keeps, Kept, Stands}
 use Rattle.arj_world.specs.Tells.{TellsStops, crashed_by}
-use Rattle.arj_world.specs.Turns.{Turn, all_turned, turned}
+use Rattle.arj_world.specs.Turns.{FallsAtWorks, Turn, all_turned, turned}
 
 -- the disks on which a run may begin: empty, and not armed often so far
 abbrev pub AreFresh : {D : Type 0} → disk.Ghosts D → List D → Type 0
@@ -24,7 +25,8 @@ world_after header turns = all_turned turns (format header)
 -- stop that halted a node in a turn is one that its disk counted.
 abbrev pub TellTurns : {D : Type 0} → disk.Ghosts D → World → List Turn → List D → List D → Type 0
 TellTurns d w [] before after = after ≡ before
-TellTurns d w (t ∷ ts) before after = (between : List _) × TellsStops d (crashed_by t.event) before between w.lines (let v = turned t w in v.lines) × TellTurns d (turned t w) ts between after
+TellTurns d w (t ∷ ts) before after =
+    (between : List _) × TellsStops d w.header.nodes (crashed_by t.event) before between w.lines (let v = turned t w in v.lines) × TellTurns d (turned t w) ts between after
 
 -- What is run: the disks on which it begins, its header and its events.
 pub record Task (D : Type 0) : Type 0 where
@@ -37,28 +39,27 @@ abbrev pub task : {D : Type 0} → List D → Header → List Event → Task D
 task first header events = record { first = first; header = header; events = events }
 
 -- The events of a task were run on its disks, under its header: the world in hand is what the protocol makes of a turn for
--- each of them, which says what stops fell in it, as the disks counted them. No disk was stopped while it was formatted.
--- Whether the run is over, since a frame didn't fit, is told beside.
+-- each of them, which says what stops fell in it, as the disks counted them. The disks of its nodes were armed as the events ask for it,
+-- and all others are as they were. No disk was stopped while it was formatted. Whether the run is over, since a frame didn't fit, is
+-- told beside.
 pub record RanAll {C D : Type 0} (c : core.Ghosts C) (d : disk.Ghosts D) (t : Task D) (over : Bool) (now : Hand C D) : Type 0 where
   pub turns : List Turn
   pub are : map (λ s. s.event) turns ≡ t.events
+  pub works : AllByRecursion FallsAtWorks turns
   -- but for the mark that a limit ended the run
   pub stands : Stands c d.file now (record (world_after t.header turns) { over = false })
   pub is_over : (let w = world_after t.header turns in w.over) ≡ over
-  -- the nodes' own count of events, and what became of the disks' counts
+  -- the nodes' own header and count of events
+  pub header : now.kept.header ≡ t.header
   pub counted : now.kept.event ≡ length t.events
-  pub disks : HaveMoved d (length t.events) t.first now.disks
+  -- what became of the disks' arms
+  pub disks : HaveMoved d t.header.nodes t.events t.first now.disks
   pub fresh : All (λ one. d.arms one < 1000) t.first
   -- the disks as they were formatted, by calls of which none was stopped, and the stops that they made since, turn by turn
   pub formed : List D
-  pub formatted : HaveMoved d 0 t.first formed
   pub unstopped : HaveNotStopped d t.first formed
   pub told : TellTurns d (format t.header) turns formed now.disks
 
 -- wherever the nodes are those of a world, it doesn't refuse the event, which would give one label too many
 abbrev pub LacksLabels : {C : Type 0} → core.Ghosts C → Kept C → Event → Type 0
 LacksLabels c kept e = (w : World) → Keeps c kept w → (None ≡ first_reason (reasons e w)) × (lacks_labels (giving e w) w ≡ true)
-
--- What calls one after another did to the disks: no count of stops fell, and each of them armed one of them once at most.
-abbrev pub MovesOn : {D : Type 0} → disk.Ghosts D → List D → List D → Type 0
-MovesOn d before after = (calls : ℕ) × HaveMoved d calls before after

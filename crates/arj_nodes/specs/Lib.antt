@@ -1,2 +1,3 @@
 pub mod AllNodes
+pub mod Told
 pub mod AsMachine

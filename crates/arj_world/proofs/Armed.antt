@@ -1,27 +1,31 @@
 -- A disk that is armed, and junk.
 use Rattle.std.proofs.Common.{◌≡◌, ℕ, zero, suc, ◌+◌, ◌-◌, ◌≤◌, ◌<◌, Bool, true, false, ◌||◌, List, [], ◌∷◌, ◌++◌, length, map, take, refl, ap, sym, ◌∙◌, subst, Some, None, arith}
-use Rattle.std.specs.Prelude.{if◌then◌else◌, nat_le, nat_lt, slice_get, slice_set}
+use Rattle.std.specs.Prelude.{◌&&◌, ◌==◌, if◌then◌else◌, nat_le, nat_lt, not, slice_get, slice_set}
 use Rattle.std.proofs.lemmas.List.{append-nil, length-map}
 use Rattle.arj_core.specs.declared.node.Core.{Ghosts}
 use Rattle.arj_core.specs.Steps.{Sent, message_of}
 use Rattle.arj_disk.specs.FileMap.{FileMap}
+use Rattle.arj_disk.specs.declared.slot.Outcome.{Outcome}
 use Rattle.arj_disk.specs.declared.slot.Slot.{Slot}
 use Rattle.arj_journal.specs.declared.body.Line.{Line}
 use Rattle.arj_journal.specs.declared.event.StopKind.{StopKind}
 use Rattle.arj_net.specs.declared.net.Sent as net
-use Rattle.arj_protocol.specs.Step.{Node}
+use Rattle.arj_protocol.specs.Step.{Node, first_reason}
 use Rattle.arj_protocol.specs.Words.body
+use Rattle.arj_protocol.specs.Words.{Event}
 use Rattle.arj_protocol.specs.Words.event
 use Rattle.arj_protocol.specs.Words.frame
 use Rattle.arj_protocol.specs.World as protocol
-use Rattle.arj_protocol.specs.World.{World, frames_with, junk_fits, most_frames, new_frame, numbered, overflows, says, sent_line}
+use Rattle.arj_protocol.specs.World.{World, frames_with, giving, junk_fits, lacks_labels, most_frames, new_frame, numbered, overflows, reasons, says, sent_line}
 use Rattle.arj_world.specs.Goes.{Goes, GoesTo}
 use Rattle.arj_world.specs.Happens.{HappensTo, done}
-use Rattle.arj_world.specs.Stands.{AreNodes, Hand, Stands}
+use Rattle.arj_world.specs.Arms.{arm_at, outcome_of}
+use Rattle.arj_world.specs.Stands.{AreNodes, Hand, Keeps, Stands, StandsSome}
 use Rattle.arj_world.specs.Turns.{with_arms}
 use Rattle.arj_world.specs.Wire.{Put, frame_of, put_seen}
 use Rattle.arj_world.proofs.Going.{as_well, plainly}
 use Rattle.arj_world.proofs.Stepping.{nodes_set}
+use Rattle.arj_world.proofs.Tests.{keeps_of}
 
 set_same : {A : Type 0} (i : ℕ) (a : A) (items : List A) → slice_get items i ≡ Some a → slice_set items i a ≡ items
 set_same i a [] at = refl
@@ -68,6 +72,65 @@ module _ {C D : Type 0} (core : Ghosts C) (file : D → FileMap) where
       nodes = disk_set (node - 1) d d' old w.nodes st.nodes (omega (arith, low, high)) at same;
     };
   }
+
+  -- an event that the world refuses asks for no arm of its nodes
+  pub refused_arms : (e : Event) (c : ℕ) (old : Hand C D) → ((w : World) → Keeps core old.kept w → Some c ≡ first_reason (reasons e w)) → StandsSome core file old
+      → (n : ℕ) → 1 ≤ n → n ≤ old.kept.header.nodes → arm_at n e ≡ None
+  refused_arms (event.Stop m calls kind) c old tests some n low high = by (m == n) refl
+    where
+      arm : ℕ × Outcome
+      arm = (calls, outcome_of kind)
+
+      by : (b : Bool) → (m == n) ≡ b → (if b then Some arm else None) ≡ None
+      by false apart = refl
+      by true is =
+          let w = some.0 in
+          let same : m ≡ n = grind (arith, is) in
+          let header : w.header ≡ old.kept.header = some.1.header in
+          let one : nat_le 1 m ≡ true = grind (arith, same, low) in
+          let most : nat_le m w.header.nodes ≡ true = (λ i. nat_le m (header i).nodes) ∙ grind (arith, same, high) in
+          let never : Some c ≡ None = tests w (keeps_of core file old w some.1) ∙ (λ i. first_reason ((1, not (one i && nat_le m w.header.nodes)) ∷ [])) ∙ (λ i. first_reason ((1, not (most i)) ∷ [])) in
+          absurd (cc never)
+  refused_arms (event.Begin l k) c old tests some n low high = refl
+  refused_arms (event.Serial l k) c old tests some n low high = refl
+  refused_arms (event.BeginIn l p) c old tests some n low high = refl
+  refused_arms (event.Top l p) c old tests some n low high = refl
+  refused_arms (event.Call l x o) c old tests some n low high = refl
+  refused_arms (event.Include l x k) c old tests some n low high = refl
+  refused_arms (event.Commit l) c old tests some n low high = refl
+  refused_arms (event.Abort l) c old tests some n low high = refl
+  refused_arms (event.GiveUp l) c old tests some n low high = refl
+  refused_arms (event.Deliver k) c old tests some n low high = refl
+  refused_arms (event.Lose k) c old tests some n low high = refl
+  refused_arms (event.Tick k) c old tests some n low high = refl
+  refused_arms event.Settle c old tests some n low high = refl
+  refused_arms event.Quiesce c old tests some n low high = refl
+  refused_arms (event.Crash k) c old tests some n low high = refl
+  refused_arms (event.Restart k) c old tests some n low high = refl
+  refused_arms (event.Junk k bytes) c old tests some n low high = refl
+  refused_arms (event.Show x) c old tests some n low high = refl
+
+  -- nor does one that gives a label
+  pub given_arms : (e : Event) (old : Hand C D) → ((w : World) → Keeps core old.kept w → true ≡ lacks_labels (giving e w) w) → StandsSome core file old → (n : ℕ) → arm_at n e ≡ None
+  given_arms (event.Stop m calls kind) old lacks some n = let never : true ≡ false = lacks some.0 (keeps_of core file old some.0 some.1) in absurd (cc never)
+  given_arms (event.Begin l k) old lacks some n = refl
+  given_arms (event.Serial l k) old lacks some n = refl
+  given_arms (event.BeginIn l p) old lacks some n = refl
+  given_arms (event.Top l p) old lacks some n = refl
+  given_arms (event.Call l x o) old lacks some n = refl
+  given_arms (event.Include l x k) old lacks some n = refl
+  given_arms (event.Commit l) old lacks some n = refl
+  given_arms (event.Abort l) old lacks some n = refl
+  given_arms (event.GiveUp l) old lacks some n = refl
+  given_arms (event.Deliver k) old lacks some n = refl
+  given_arms (event.Lose k) old lacks some n = refl
+  given_arms (event.Tick k) old lacks some n = refl
+  given_arms event.Settle old lacks some n = refl
+  given_arms event.Quiesce old lacks some n = refl
+  given_arms (event.Crash k) old lacks some n = refl
+  given_arms (event.Restart k) old lacks some n = refl
+  given_arms (event.Junk k bytes) old lacks some n = refl
+  given_arms (event.Show x) old lacks some n = refl
 
   -- ---- junk
 

@@ -164,13 +164,16 @@ module _ {D : Type 0} (disk : Ghosts D) where
   moved_armed nodes node calls kind disks d e low high at stops arms last = moved_at nodes node (event.Stop node calls kind ∷ []) disks d e low high at (λ n apart. asked_there n node calls kind apart)
       (subst (λ asked. Moves asked (counts disk d) (counts disk e)) (sym (asked_here node calls kind)) (record { later = omega (arith, stops); arms = arms; last = last }))
 
-  -- an event that asks for no arm
-  pub moved_of : (nodes : ℕ) (e given : Event) (old new : List D) → given ≡ e → ((n : ℕ) → arm_at n e ≡ None) → HaveMoved disk nodes [] old new → HaveMoved disk nodes (given ∷ []) old new
-  moved_of nodes e given old new is none a = record {
+  -- an event that asks for no arm of these nodes
+  pub moved_unasked : (nodes : ℕ) (e : Event) (old new : List D) → ((n : ℕ) → 1 ≤ n → n ≤ nodes → arm_at n e ≡ None) → HaveMoved disk nodes [] old new → HaveMoved disk nodes (e ∷ []) old new
+  moved_unasked nodes e old new none a = record {
     count = a.count;
-    each = λ i d f less at then_at. subst (λ asked. Moves asked (counts disk d) (counts disk f)) (sym (ap (λ x. arms_at (i + 1) (x ∷ [])) is ∙ unasked (i + 1) e (none (i + 1)))) (a.each i d f less at then_at);
+    each = λ i d f less at then_at. subst (λ asked. Moves asked (counts disk d) (counts disk f)) (sym (unasked (i + 1) e (none (i + 1) (omega arith) (omega (arith, less))))) (a.each i d f less at then_at);
     others = a.others;
   }
+
+  pub moved_of : (nodes : ℕ) (e given : Event) (old new : List D) → given ≡ e → ((n : ℕ) → arm_at n e ≡ None) → HaveMoved disk nodes [] old new → HaveMoved disk nodes (given ∷ []) old new
+  moved_of nodes e given old new is none a = moved_unasked nodes given old new (λ n low high. ap (arm_at n) is ∙ none n) a
 
   -- by a format of its node
   pub moved_call : {T E : Type 0} (nodes node : ℕ) (disks : List D) (d e : D) (r : Result T E) (h : E) → 1 ≤ node → node ≤ nodes → slice_get disks (node - 1) ≡ Some d → CountsCall (counts disk d) (counts disk e) r h

@@ -31,7 +31,7 @@ use Rattle.arj_world.proofs.Stepping.{is_there}
 
 -- ---- lines that say of a node that it halted
 
-halts_both : (n : ℕ) (xs ys : List Line) → halts n (xs ++ ys) ≡ halts n xs + halts n ys
+pub halts_both : (n : ℕ) (xs ys : List Line) → halts n (xs ++ ys) ≡ halts n xs + halts n ys
 halts_both n [] ys = omega arith
 halts_both n (x ∷ xs) ys = let rest = halts_both n xs ys in omega (arith, rest)
 
@@ -79,7 +79,7 @@ not_other n k None apart only = refl
 not_other n k (Some m) apart only = let same : m ≡ k = grind (arith, only) in subst (λ x. (x == n) ≡ false) (sym same) (grind (arith, apart))
 
 -- what a stop leaves of effects
-cut_all : (test : Effect → Bool) (k : ℕ) (how : Stop) (es : List Effect) (d : effect.Disk) → list_all test es ≡ true → list_all test (cut k how es d).outs ≡ true
+pub cut_all : (test : Effect → Bool) (k : ℕ) (how : Stop) (es : List Effect) (d : effect.Disk) → list_all test es ≡ true → list_all test (cut k how es d).outs ≡ true
 cut_all test k how [] d all = refl
 cut_all test zero how (Do w ∷ es) d all = refl
 cut_all test (suc k) how (Do w ∷ es) d all = let own = and_parts (test (Do w)) (list_all test es) all in λ i. own.0 i && cut_all test k how es (worked w d) own.1 i
@@ -162,6 +162,14 @@ uncounted : (b : Bool) (lines : ℕ) → lines ≡ 0 → (if b then 0 else lines
 uncounted true lines none = refl
 uncounted false lines none = none
 
+-- lines behind lines
+pub told_then : (some more a b c : ℕ) → IsToldBy some a b → IsToldBy more b c → IsToldBy (some + more) a c
+told_then some more a b c x y = record {
+  later = omega (arith, x.later, y.later);
+  rose = λ less. let first = x.rose (omega (arith, y.later, less)) in let second = y.rose less in omega (arith, first, second);
+  only = λ none. y.only (omega (arith, none)) ∙ x.only (omega (arith, none));
+}
+
 module _ {D : Type 0} (disk : Ghosts D) where
   -- a disk that was not called is told by no line
   untold : (d e : D) (lines : ℕ) → d ≡ e → lines ≡ 0 → IsToldBy lines (disk.stops d) (disk.stops e)
@@ -191,12 +199,7 @@ module _ {D : Type 0} (disk : Ghosts D) where
           let k = is_there i second (omega (arith, a.count, within i d first at_first)) in
           let x : IsToldBy (halts (i + 1) some) (disk.stops d) (disk.stops k.0) = a.each i d k.0 at_first k.1 in
           let y : IsToldBy (halts (i + 1) more) (disk.stops k.0) (disk.stops e) = b.each i k.0 e k.1 at_third in
-          let both = halts_both (i + 1) some more in
-          record {
-            later = omega (arith, x.later, y.later);
-            rose = λ less. let first_rose = x.rose (omega (arith, y.later, less)) in let then_rose = y.rose less in omega (arith, first_rose, then_rose, both);
-            only = λ none. y.only (omega (arith, none, both)) ∙ x.only (omega (arith, none, both));
-          };
+          subst (λ k. IsToldBy k (disk.stops d) (disk.stops e)) (sym (halts_both (i + 1) some more)) (told_then (halts (i + 1) some) (halts (i + 1) more) (disk.stops d) (disk.stops k.0) (disk.stops e) x y);
       others = λ k none. halts_both k some more ∙ omega (arith, a.others k none, b.others k (λ low high. none low (omega (arith, high, same))));
     },
   )

@@ -5,7 +5,9 @@ use Rattle.arj_protocol.specs.Words.which
 use Rattle.arj_protocol.specs.World.{counted, numbered}
 use Rattle.arj_world.specs.Happens.{HappensTo, RunsTo, done}
 use Rattle.arj_world.specs.Stands.{Keeps, StandsSome, hand}
+use Rattle.arj_world.proofs.Armed.{given_arms, refused_arms}
 use Rattle.arj_world.proofs.Counts.{counts_once, grows_over, grows_so}
+use Rattle.arj_world.proofs.Disks.{moved_none, moved_unasked}
 use Rattle.arj_world.proofs.Owns.{answers_over, answers_so, ends_over, ends_so, settles_go, settles_so}
 use Rattle.arj_world.proofs.Runs.{counted_stands, keeps_uncounted, on_ok_both, runs_accepted, runs_over, runs_refused}
 use Rattle.arj_world.specs.Tells.{TellsStops, crashed_by}
@@ -140,13 +142,15 @@ returns-in-Some-clause-stops_over g c = λ e. absurd (c.refuse.ensures.frames e)
 
 pub returns-clause-stops : goal.returns-clause-stops
 returns-clause-stops g c = on_ok_weaker c.end.result
-    (λ (still : c.end.new.journal ≡ c.happen.new.journal). subst (TellsStops g.D.Disk c.args.self.now.header.nodes (crashed_by c.args.event) c.args.rack.now c.happen.new.rack c.args.journal.now) (sym still) c.in_ok-happen.ensures.tells)
+    (λ (still : c.end.new.journal ≡ c.happen.new.journal). subst (λ s. TellsStops g.D.Disk s.header.nodes (crashed_by c.args.event) c.args.rack.now c.happen.new.rack c.args.journal.now c.end.new.journal) c.count.ensures
+    (subst (TellsStops g.D.Disk c.count.new.self.header.nodes (crashed_by c.args.event) c.args.rack.now c.happen.new.rack c.args.journal.now) (sym still) c.in_ok-happen.ensures.tells))
     c.end.ensures.still
 
 pub returns-clause-stops_over : goal.returns-clause-stops_over
 returns-clause-stops_over g c = λ e.
     tells_line g.D.Disk c.args.self.now.header.nodes (crashed_by c.args.event) c.args.rack.now c.happen.new.rack c.args.journal.now c.happen.new.journal c.end.new.journal
-    (numbered c.happen.new.self.event (body.Limit which.Frames ∷ [])) (λ n. refl) (c.end.ensures.said e) c.in_ok-happen.ensures.tells
+    (numbered c.happen.new.self.event (body.Limit which.Frames ∷ [])) (λ n. refl) (c.end.ensures.said e)
+    (subst (λ s. TellsStops g.D.Disk s.header.nodes (crashed_by c.args.event) c.args.rack.now c.happen.new.rack c.args.journal.now c.happen.new.journal) c.count.ensures c.in_ok-happen.ensures.tells)
 
 pub returns-in-Some-clause-answers : goal.returns-in-Some-clause-answers
 returns-in-Some-clause-answers g c = on_ok_weaker c.refuse.result
@@ -185,3 +189,13 @@ returns-clause-ends g c = on_ok_weaker c.end.result
 pub returns-clause-ends_over : goal.returns-clause-ends_over
 returns-clause-ends_over g c = λ e.
     ends_over g.C.Core g.D.Disk.file c.args.event (hand c.args.self.now c.args.rack.now c.args.journal.now) (hand c.happen.new.self c.happen.new.rack c.end.new.journal) (returns-clause-frames g c e)
+
+pub returns-in-Some-clause-disks : goal.returns-in-Some-clause-disks
+returns-in-Some-clause-disks g c = moved_unasked g.D.Disk c.args.self.now.header.nodes c.args.event c.args.rack.now c.args.rack.now
+    (refused_arms g.C.Core g.D.Disk.file c.args.event c.in-Some.cause (hand c.args.self.now c.args.rack.now c.args.journal.now) (λ w keeps. sym c.in-Some.is ∙ c.in_ok-cause.ensures.cause w keeps) c.requires.stands)
+    (moved_none g.D.Disk c.args.self.now.header.nodes c.args.rack.now)
+
+pub returns-then-lacks_labels-clause-disks : goal.returns-then-lacks_labels-clause-disks
+returns-then-lacks_labels-clause-disks g c = moved_unasked g.D.Disk c.args.self.now.header.nodes c.args.event c.args.rack.now c.args.rack.now
+    (λ n low high. given_arms g.C.Core g.D.Disk.file c.args.event (hand c.args.self.now c.args.rack.now c.args.journal.now) c.if-lacks_labels.ensures c.requires.stands n)
+    (moved_none g.D.Disk c.args.self.now.header.nodes c.args.rack.now)
