@@ -23,7 +23,7 @@ fn main(rt: HostRuntime) -> ExitCode {
         Err(_) => 5,
     };
     // Where standard error takes nothing, the status still says what happened.
-    explain(&rt, "arjuna", status, journal.as_slice().last(), why).ok();
+    explain(&rt, status, journal.as_slice().last(), why).ok();
     ExitCode::from(status)
 }
 
