@@ -1,22 +1,27 @@
 -- One event more of a run of all nodes.
-use Rattle.std.proofs.Common.{◌≡◌, ◌+◌, ◌<◌, ◌≤◌, List, [], ◌∷◌, ◌++◌, length, length-append, Bool, true, false, Some, refl, sym, ◌∙◌, ap, subst, arith}
+use Rattle.std.proofs.Common.{◌≡◌, ℕ, Option, None, ◌+◌, ◌<◌, ◌≤◌, List, [], ◌∷◌, ◌++◌, length, length-append, Bool, true, false, Some, refl, sym, ◌∙◌, ap, subst, arith}
+use Rattle.std.specs.List.{AllByRecursion, cons_option}
 use Rattle.std.specs.Prelude.{All, get_or, slice_get}
+use Rattle.std.proofs.Math.Logic.{⊎_elim}
+use Rattle.std.proofs.lemmas.Bool.{cases_lt}
 use Rattle.std.proofs.lemmas.List.{map-append}
 use Rattle.std.proofs.lemmas.Option.{slice_get-get_or}
 use Rattle.arj_core.specs.declared.node.Core as core
 use Rattle.arj_disk.specs.Counted.{counts}
 use Rattle.arj_disk.specs.declared.disk.Disk as disk
+use Rattle.arj_disk.specs.declared.slot.Outcome.{Outcome}
 use Rattle.arj_journal.specs.declared.event.Event.{Event}
 use Rattle.arj_journal.specs.declared.header.Header.{Header}
 use Rattle.arj_loop.specs.declared.limits.TheConstants.{MOST_EVENTS}
 use Rattle.arj_nodes.specs.AllNodes.{AreFresh, RanAll, TellTurns, task, world_after}
 use Rattle.arj_protocol.specs.World.{World, format}
+use Rattle.arj_world.specs.Arms.{arm_at, arms_at}
 use Rattle.arj_world.specs.Disks.{HaveMoved, HaveNotStopped, Moves}
 use Rattle.arj_world.specs.Happens.{RunsOver, RunsTo}
 use Rattle.arj_world.specs.Stands.{Hand, Kept, Stands, StandsSome, hand}
 use Rattle.arj_world.specs.Tells.{TellsStops, crashed_by}
-use Rattle.arj_world.specs.Turns.{Turn, all_turned, turned}
-use Rattle.arj_world.proofs.Disks.{moved_then}
+use Rattle.arj_world.specs.Turns.{FallsAtWorks, Turn, all_turned, turned}
+use Rattle.arj_world.proofs.Disks.{moved_then, some_one}
 use Rattle.arj_world.proofs.First.{all_at}
 use Rattle.arj_world.proofs.Stepping.{is_there}
 
@@ -26,6 +31,19 @@ turned_more (s ∷ turns) t w = turned_more turns t (turned s w)
 
 abbrev unmarked : World → World
 unmarked w = record w { over = false }
+
+all_append : {A : Type 0} (P : A → Type 0) (xs ys : List A) → AllByRecursion P xs → AllByRecursion P ys → AllByRecursion P (xs ++ ys)
+all_append P [] ys a b = b
+all_append P (x ∷ xs) ys a b = (a.0, all_append P xs ys a.1 b)
+
+-- events ask for no more arms than they are
+few_arms : (n : ℕ) (events : List Event) → length (arms_at n events) ≤ length events
+few_arms n [] = omega arith
+few_arms n (e ∷ events) = by (arm_at n e) (few_arms n events)
+  where
+    by : (o : Option (ℕ × Outcome)) → length (arms_at n events) ≤ length events → length (cons_option o (arms_at n events)) ≤ length (e ∷ events)
+    by None ih = omega (arith, ih)
+    by (Some a) ih = omega (arith, ih)
 
 module _ {C D : Type 0} (c : core.Ghosts C) (d : disk.Ghosts D) where
   -- the mark that a run is over
@@ -44,57 +62,71 @@ module _ {C D : Type 0} (c : core.Ghosts C) (d : disk.Ghosts D) where
 
   -- a turn more is told too
   told_more : (turns : List Turn) (t : Turn) (w : World) (before between after : List D) → TellTurns d w turns before between
-      → TellsStops d (crashed_by t.event) between after (let v = all_turned turns w in v.lines) (let v = turned t (all_turned turns w) in v.lines) → TellTurns d w (turns ++ t ∷ []) before after
-  told_more [] t w before between after same tells = (after, subst (λ disks. TellsStops d (crashed_by t.event) disks after w.lines (turned t w).lines) same tells, refl)
+      → (let v = all_turned turns w in TellsStops d v.header.nodes (crashed_by t.event) between after v.lines (turned t v).lines) → TellTurns d w (turns ++ t ∷ []) before after
+  told_more [] t w before between after same tells = (after, subst (λ disks. TellsStops d w.header.nodes (crashed_by t.event) disks after w.lines (turned t w).lines) same tells, refl)
   told_more (s ∷ turns) t w before between after told tells = (told.0, told.1, told_more turns t (turned s w) told.0 between after told.2 tells)
+
+  -- no disk was armed oftener than there were events
+  armed_few : (nodes : ℕ) (events : List Event) (old new : List D) (i : ℕ) (a b : D) → HaveMoved d nodes events old new → slice_get old i ≡ Some a → slice_get new i ≡ Some b → d.arms b ≤ d.arms a + length events
+  armed_few nodes events old new i a b moved at then_at = ⊎_elim one other (cases_lt i nodes)
+    where
+      one : i < nodes → d.arms b ≤ d.arms a + length events
+      one less = let m : Moves (arms_at (i + 1) events) (counts d a) (counts d b) = moved.each i a b less at then_at in omega (arith, m.arms, few_arms (i + 1) events)
+
+      other : nodes ≤ i → d.arms b ≤ d.arms a + length events
+      other past = let same : a ≡ b = some_one a b (sym at ∙ (sym (moved.others i past) ∙ then_at)) in subst (λ x. d.arms x ≤ d.arms a + length events) same (omega arith)
 
   -- no disk was armed too often
   pub arms_left : (first : List D) (header : Header) (events : List Event) (over : Bool) (now : Hand C D) → RanAll c d (task first header events) over now → now.kept.event < MOST_EVENTS → All (λ one. d.arms one < 4294967295) now.disks
   arms_left first header events over now r room k one less =
       let at : slice_get now.disks k ≡ Some (get_or now.disks k one) = slice_get-get_or now.disks k one less in
       let was = is_there k first (omega (arith, less, r.disks.count)) in
-      let moves : Moves (length events) (counts d was.0) (counts d (get_or now.disks k one)) = r.disks.each k was.0 (get_or now.disks k one) was.1 at in
       let few : d.arms was.0 < 1000 = all_at (λ some. d.arms some < 1000) k first was.0 r.fresh was.1 in
-      let rose : d.arms (get_or now.disks k one) ≤ d.arms was.0 + length events = moves.few in
+      let rose : d.arms (get_or now.disks k one) ≤ d.arms was.0 + length events = armed_few (header.nodes) events first now.disks k was.0 (get_or now.disks k one) r.disks was.1 at in
       omega (arith, few, rose, r.counted, room)
 
   -- the nodes are formatted
-  pub ran_first : (header : Header) (kept : Kept C) (first rack : List D) → AreFresh d first → Stands c d.file (hand kept rack []) (format header) → HaveMoved d 0 first rack → HaveNotStopped d first rack → RanAll c d (task first header []) false (hand kept rack [])
+  pub ran_first : (header : Header) (kept : Kept C) (first rack : List D) → AreFresh d first → Stands c d.file (hand kept rack []) (format header) → HaveMoved d header.nodes [] first rack → HaveNotStopped d first rack → RanAll c d (task first header []) false (hand kept rack [])
   ran_first header kept first rack fresh s moved unstopped = record {
     turns = [];
     are = refl;
+    works = tt;
+    header = sym s.header;
     stands = opened (hand kept rack []) (format header) s;
     is_over = refl;
     counted = sym s.event;
     disks = moved;
     fresh = fresh.1;
     formed = rack;
-    formatted = moved;
     unstopped = unstopped;
     told = refl;
   }
 
   -- a turn more, by what it left
-  ran_turn : (first : List D) (header : Header) (events : List Event) (e : Event) (over : Bool) (old new : Hand C D) (t : Turn) → (r : RanAll c d (task first header events) false old) → t.event ≡ e
+  ran_turn : (first : List D) (header : Header) (events : List Event) (e : Event) (over : Bool) (old new : Hand C D) (t : Turn) → (r : RanAll c d (task first header events) false old) → t.event ≡ e → FallsAtWorks t
       → Stands c d.file new (unmarked (turned t (world_after header r.turns))) → (let w = turned t (world_after header r.turns) in w.over) ≡ over
-      → new.kept.event ≡ old.kept.event + 1 → HaveMoved d 1 old.disks new.disks → TellsStops d (crashed_by e) old.disks new.disks old.journal new.journal → RanAll c d (task first header (events ++ e ∷ [])) over new
-  ran_turn first header events e over old new t r is s is_over counted moved tells =
+      → new.kept.header ≡ old.kept.header → new.kept.event ≡ old.kept.event + 1 → HaveMoved d old.kept.header.nodes (e ∷ []) old.disks new.disks → TellsStops d old.kept.header.nodes (crashed_by e) old.disks new.disks old.journal new.journal
+      → RanAll c d (task first header (events ++ e ∷ [])) over new
+  ran_turn first header events e over old new t r is works s is_over same counted moved tells =
+      let w = world_after header r.turns in
       let more = turned_more r.turns t (format header) in
       let size = length-append events (e ∷ []) in record {
         turns = r.turns ++ t ∷ [];
         are = map-append (λ s. s.event) r.turns (t ∷ []) ∙ (λ i. r.are i ++ is i ∷ []);
+        works = all_append FallsAtWorks r.turns (t ∷ []) r.works (works, tt);
+        header = same ∙ r.header;
         stands = subst (λ w. Stands c d.file new (unmarked w)) (sym more) s;
         is_over = ap (λ w. w.over) more ∙ is_over;
         counted = omega (arith, counted, r.counted, size);
-        disks = subst (λ n. HaveMoved d n first new.disks) (sym size) (moved_then d (length events) 1 first old.disks new.disks r.disks moved);
+        disks = moved_then d header.nodes old.kept.header.nodes events (e ∷ []) first old.disks new.disks (ap (λ h. h.nodes) r.header) r.disks moved;
         fresh = r.fresh;
         formed = r.formed;
-        formatted = r.formatted;
         unstopped = r.unstopped;
         told = told_more r.turns t (format header) r.formed old.disks new.disks r.told
-            (subst (λ f. TellsStops d (crashed_by f) old.disks new.disks (world_after header r.turns).lines (turned t (world_after header r.turns)).lines) (sym is)
-            (subst (λ ls. TellsStops d (crashed_by e) old.disks new.disks ls (turned t (world_after header r.turns)).lines) (sym r.stands.lines)
-            (subst (TellsStops d (crashed_by e) old.disks new.disks old.journal) (sym s.lines) tells)));
+            (subst (λ f. TellsStops d w.header.nodes (crashed_by f) old.disks new.disks w.lines (turned t w).lines) (sym is)
+            (subst (λ h. TellsStops d h.nodes (crashed_by e) old.disks new.disks w.lines (turned t w).lines) (sym r.stands.header)
+            (subst (λ ls. TellsStops d old.kept.header.nodes (crashed_by e) old.disks new.disks ls (turned t w).lines) (sym r.stands.lines)
+            (subst (TellsStops d old.kept.header.nodes (crashed_by e) old.disks new.disks old.journal) (sym s.lines) tells))));
       }
 
   -- what is in hand has stayed
@@ -102,19 +134,23 @@ module _ {C D : Type 0} (c : core.Ghosts C) (d : disk.Ghosts D) where
   ran_still first header events over old new kept disks journal r = subst (RanAll c d (task first header events) over) (λ i. hand (sym kept i) (sym disks i) (sym journal i)) r
 
   -- an event was run
-  pub ran_more : (first : List D) (header : Header) (events : List Event) (e : Event) (old new : Hand C D) → RunsTo c d.file e old new → new.kept.event ≡ old.kept.event + 1 → HaveMoved d 1 old.disks new.disks
-      → TellsStops d (crashed_by e) old.disks new.disks old.journal new.journal → RanAll c d (task first header events) false old → RanAll c d (task first header (events ++ e ∷ [])) false new
-  ran_more first header events e old new runs counted moved tells r =
+  pub ran_more : (first : List D) (header : Header) (events : List Event) (e : Event) (old new : Hand C D) → RunsTo c d.file e old new → new.kept.header ≡ old.kept.header → new.kept.event ≡ old.kept.event + 1
+      → HaveMoved d old.kept.header.nodes (e ∷ []) old.disks new.disks → TellsStops d old.kept.header.nodes (crashed_by e) old.disks new.disks old.journal new.journal → RanAll c d (task first header events) false old → RanAll c d (task first header (events ++ e ∷ [])) false new
+  ran_more first header events e old new runs same counted moved tells r =
       let w = world_after header r.turns in
       let ran = runs w (stands_now first header events old r) in
       let t : Turn = record { event = e; falls = ran.falls } in
       let s = ran.stands in
-      ran_turn first header events e false old new t r refl (opened new (turned t w) s) s.over counted moved tells
+      ran_turn first header events e false old new t r refl ran.works (opened new (turned t w) s) s.over same counted moved tells
 
   -- an event was run, and a frame didn't fit
-  pub ran_over : (first : List D) (header : Header) (events : List Event) (e : Event) (old new : Hand C D) → RunsOver c d.file e old new → new.kept.event ≡ old.kept.event + 1 → HaveMoved d 1 old.disks new.disks
-      → TellsStops d (crashed_by e) old.disks new.disks old.journal new.journal → RanAll c d (task first header events) false old → RanAll c d (task first header (events ++ e ∷ [])) true new
-  ran_over first header events e old new runs counted moved tells r =
+  pub ran_over : (first : List D) (header : Header) (events : List Event) (e : Event) (old new : Hand C D) → RunsOver c d.file e old new → new.kept.header ≡ old.kept.header → new.kept.event ≡ old.kept.event + 1
+      → HaveMoved d old.kept.header.nodes (e ∷ []) old.disks new.disks → TellsStops d old.kept.header.nodes (crashed_by e) old.disks new.disks old.journal new.journal → RanAll c d (task first header events) false old → RanAll c d (task first header (events ++ e ∷ [])) true new
+  ran_over first header events e old new runs same counted moved tells r =
       let ran = runs (world_after header r.turns) (stands_now first header events old r) in
       let s = ran.stands in
-      ran_turn first header events e true old new (record { event = e; falls = ran.falls }) r refl s.stands s.over counted moved tells
+      ran_turn first header events e true old new (record { event = e; falls = ran.falls }) r refl ran.works s.stands s.over same counted moved tells
+
+  -- what a call did to the disks of the nodes that it has, it did to those of the header
+  pub moved_by : (first : List D) (header : Header) (events more : List Event) (over : Bool) (now : Hand C D) (rack : List D) → RanAll c d (task first header events) over now → HaveMoved d now.kept.header.nodes more now.disks rack → HaveMoved d header.nodes more now.disks rack
+  moved_by first header events more over now rack r moved = subst (λ h. HaveMoved d h.nodes more now.disks rack) r.header moved

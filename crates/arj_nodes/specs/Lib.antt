@@ -1,3 +1,3 @@
 pub mod AllNodes
-pub mod Told
 pub mod AsMachine
+pub mod Told

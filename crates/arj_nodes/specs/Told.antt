@@ -1,5 +1,5 @@
 -- What a journal tells of the stops and the arms of the disks on which its events were run.
-use Rattle.std.specs.Prelude.{ℕ, ◌≡◌, ◌+◌, ◌-◌, ◌≤◌, ◌<◌, ◌==◌, ◌&&◌, Bool, true, false, not, if◌then◌else◌, List, [], ◌∷◌, ◌++◌, length, filter, nat_le, Option, Some, None, is_some, slice_get}
+use Rattle.std.specs.Prelude.{ℕ, ◌≡◌, ◌+◌, ◌-◌, ◌≤◌, ◌&&◌, Bool, false, not, if◌then◌else◌, List, [], ◌∷◌, ◌++◌, length, filter, nat_le, Option, Some, None, is_some, slice_get}
 use Rattle.arj_disk.specs.declared.disk.Disk as disk
 use Rattle.arj_event_law.specs.Halts.{armed_node, halted_node}
 use Rattle.arj_journal.specs.declared.event.Event.{Event}
@@ -23,10 +23,10 @@ tells_stop events n l = is_this n (halted_node l.body) && not (crashed_in events
 abbrev pub stops_told : List Event → ℕ → List Line → ℕ
 stops_told events n lines = length (filter (tells_stop events n) lines)
 
--- Each stop that the journal tells of is one that the node's disk counted, and where it tells of none the disk counted none; and nobody
--- halts but nodes of the header.
+-- Each stop that a journal tells of is one that its node's disk counted since the first, and a disk of whose node it tells none counted none;
+-- and nobody halts but nodes of the header.
 pub record HaltsHaveCause {D : Type 0} (d : disk.Ghosts D) (t : Task D) (journal : List Line) (now : List D) : Type 0 where
-  pub each : (i : ℕ) (was is : D) → i < t.header.nodes → slice_get t.first i ≡ Some was → slice_get now i ≡ Some is → IsToldBy (stops_told t.events (i + 1) journal) (d.stops was) (d.stops is)
+  pub each : (i : ℕ) (was is : D) → slice_get t.first i ≡ Some was → slice_get now i ≡ Some is → IsToldBy (stops_told t.events (i + 1) journal) (d.stops was) (d.stops is)
   pub others : (n : ℕ) → (1 ≤ n → n ≤ t.header.nodes → ⊥) → halts n journal ≡ 0
 
 -- ---- arms

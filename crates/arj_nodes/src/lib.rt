@@ -6,5 +6,7 @@
 #![tactic(auto)]
 
 mod all_nodes;
+mod told;
 
 pub use all_nodes::AllNodes;
+pub use told::journals_tell_of_disks;

@@ -1,6 +1,5 @@
 -- the nodes as they are formatted
 use Rattle.std.proofs.Common.{refl, sym}
-use Rattle.arj_world.proofs.Disks.{moved_more}
 use Rattle.arj_nodes.proofs.Turning.{ran_first}
 use Rattle.arj_nodes.proofs.all_nodes.AllNodesMachine.format.Goals as goal
 
@@ -8,15 +7,6 @@ pub returns-in-Ok-clause-made : goal.returns-in-Ok-clause-made
 returns-in-Ok-clause-made g c =
     let s = c.in-Ok.ensures.stands in
     (ran_first g.C.Core g.D.Disk c.args.header c.in-Ok.world c.args.rack.now c.format.new.rack c.requires.ready s c.format.ensures.disks (c.in-Ok.ensures.unstopped (λ e. absurd (cc e))), sym s.event, refl)
-
-pub returns-in-Ok-clause-moved : goal.returns-in-Ok-clause-moved
-returns-in-Ok-clause-moved g c = moved_more g.D.Disk c.args.rack.now c.format.new.rack c.format.ensures.disks
-
-pub returns-in-Err-Stopped-clause-moved : goal.returns-in-Err-Stopped-clause-moved
-returns-in-Err-Stopped-clause-moved g c = moved_more g.D.Disk c.args.rack.now c.format.new.rack c.format.ensures.disks
-
-pub returns-in-Err-Memory-clause-moved : goal.returns-in-Err-Memory-clause-moved
-returns-in-Err-Memory-clause-moved g c = moved_more g.D.Disk c.args.rack.now c.format.new.rack c.format.ensures.disks
 
 pub format-requires-clause-empty : goal.format-requires-clause-empty
 format-requires-clause-empty g c = let ready = c.requires.ready in ready.0

@@ -2,7 +2,7 @@
 use Rattle.std.proofs.Common.{Err, [], ◌∷◌, ◌++◌, ap, refl, subst, sym}
 use Rattle.arj_world.specs.Stands.{hand}
 use Rattle.arj_nodes.specs.AllNodes.{LacksLabels, RanAll, task}
-use Rattle.arj_nodes.proofs.Turning.{arms_left, ran_more, ran_over, ran_still, stands_some}
+use Rattle.arj_nodes.proofs.Turning.{arms_left, moved_by, ran_more, ran_over, ran_still, stands_some}
 use Rattle.arj_nodes.proofs.all_nodes.AllNodesMachine.step.Goals as goal
 
 pub step-requires-clause-arms : goal.step-requires-clause-arms
@@ -22,7 +22,7 @@ returns-in-Ok-clause-ran g c first header events ran =
     let old = hand c.args.self.now.world c.args.rack.now c.args.journal.now in
     let new = hand c.step.new.self c.step.new.rack c.step.new.journal in
     subst (λ over. RanAll g.C.Core g.D.Disk (task first header (events ++ c.args.event ∷ [])) over new) (sym c.requires.going)
-    (ran_more g.C.Core g.D.Disk first header events c.args.event old new e.ran e.counted c.step.ensures.disks e.stops (subst (λ over. RanAll g.C.Core g.D.Disk (task first header events) over old) c.requires.going ran))
+    (ran_more g.C.Core g.D.Disk first header events c.args.event old new e.ran c.step.ensures.header e.counted c.step.ensures.disks e.stops (subst (λ over. RanAll g.C.Core g.D.Disk (task first header events) over old) c.requires.going ran))
 
 pub returns-in-Ok-clause-grown : goal.returns-in-Ok-clause-grown
 returns-in-Ok-clause-grown g c = let e = c.in-Ok.ensures in (e.counted, e.grown)
@@ -33,7 +33,7 @@ returns-in-Err-Frames-clause-frames g c _ first header events ran =
     let e = c.in-Err-Frames.ensures in
     let old = hand c.args.self.now.world c.args.rack.now c.args.journal.now in
     ran_over g.C.Core g.D.Disk first header events c.args.event old (hand c.step.new.self c.step.new.rack c.step.new.journal)
-    (e.frames is) (e.counted_over is) c.step.ensures.disks (e.stops_over is) (subst (λ over. RanAll g.C.Core g.D.Disk (task first header events) over old) c.requires.going ran)
+    (e.frames is) c.step.ensures.header (e.counted_over is) c.step.ensures.disks (e.stops_over is) (subst (λ over. RanAll g.C.Core g.D.Disk (task first header events) over old) c.requires.going ran)
 
 pub returns-in-Err-Frames-clause-overflown : goal.returns-in-Err-Frames-clause-overflown
 returns-in-Err-Frames-clause-overflown g c _ =
@@ -55,3 +55,15 @@ returns-in-Err-Labels-clause-kept g c _ =
     let is = ap Err c.in-Err-Labels.field-0-is in
     let kept = c.in-Err-Labels.ensures.kept is in
     (ap (λ k. k.event) kept.0, c.requires.going, kept.2)
+
+pub returns-in-Ok-clause-moved : goal.returns-in-Ok-clause-moved
+returns-in-Ok-clause-moved g c first header events ran = moved_by g.C.Core g.D.Disk first header events (c.args.event ∷ []) c.args.self.now.over (hand c.args.self.now.world c.args.rack.now c.args.journal.now) c.step.new.rack ran c.step.ensures.disks
+
+pub returns-in-Err-Labels-clause-moved : goal.returns-in-Err-Labels-clause-moved
+returns-in-Err-Labels-clause-moved g c first header events ran = moved_by g.C.Core g.D.Disk first header events (c.args.event ∷ []) c.args.self.now.over (hand c.args.self.now.world c.args.rack.now c.args.journal.now) c.step.new.rack ran c.step.ensures.disks
+
+pub returns-in-Err-Frames-clause-moved : goal.returns-in-Err-Frames-clause-moved
+returns-in-Err-Frames-clause-moved g c first header events ran = moved_by g.C.Core g.D.Disk first header events (c.args.event ∷ []) c.args.self.now.over (hand c.args.self.now.world c.args.rack.now c.args.journal.now) c.step.new.rack ran c.step.ensures.disks
+
+pub returns-in-Err-Memory-clause-moved : goal.returns-in-Err-Memory-clause-moved
+returns-in-Err-Memory-clause-moved g c first header events ran = moved_by g.C.Core g.D.Disk first header events (c.args.event ∷ []) c.args.self.now.over (hand c.args.self.now.world c.args.rack.now c.args.journal.now) c.step.new.rack ran c.step.ensures.disks
