@@ -1,6 +1,9 @@
 -- Reads leave all files as they are, and balances add up.
 use Rattle.std.proofs.Common.{◌≡◌, ℕ, zero, suc, ◌+◌, ◌-◌, List, [], ◌∷◌, true, false, Option, Some, None, if◌then◌else◌, refl, sym, ◌∙◌, ap, subst}
-use Rattle.std.specs.Prelude.{slice_get, slice_set}
+use Rattle.std.specs.Prelude.{◌≤◌, nat_le, slice_get, slice_set}
+use Rattle.std.proofs.Common.{arith}
+use Rattle.std.proofs.lemmas.Bool.{and_parts}
+use Rattle.arj_gen.specs.declared.bank.TheConstants.{NODES}
 use Rattle.std.proofs.Math.Numerals.{add-one}
 use Rattle.arj_bank.specs.Balances.{AddUpTo, Holds, IsBalance, capped, files_at, files_in, is_number, no_files}
 use Rattle.arj_base.specs.declared.state.ObjectState.{ObjectState}
@@ -8,6 +11,10 @@ use Rattle.arj_base.specs.declared.uid.Uid.{Uid}
 use Rattle.arj_disk.specs.Disk.{Same}
 use Rattle.arj_disk.specs.FileMap.{FileMap}
 use Rattle.arj_world.proofs.Disks.{some_one}
+
+-- a number of a node of the bank
+pub is_one : (node : ℕ) → is_number node ≡ true → (1 ≤ node) × (node ≤ NODES)
+is_one node is = let parts = and_parts (nat_le 1 node) (nat_le node NODES) is in (grind (arith, parts.0), grind (arith, parts.1))
 
 module _ {D : Type 0} (file : D → FileMap) where
   -- a disk in the place of one with the same files

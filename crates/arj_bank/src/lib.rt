@@ -6,9 +6,9 @@
 #![tactic(auto)]
 
 mod balances;
-mod generated;
 mod run;
 mod stop;
 mod summary;
+mod summed;
 
-pub use generated::generated;
+pub use summed::generated;

@@ -2,7 +2,7 @@
 use Rattle.std.proofs.Common.{rules, Err, ◌≡◌, ap, subst}
 use Rattle.std.specs.Prelude.{take}
 use Rattle.arj_io.specs.Told.{Takes}
-use Rattle.arj_bank.proofs.generated.generated.Goals as goal
+use Rattle.arj_bank.proofs.summed.generated.Goals as goal
 
 pub returns-in-Ok-write_all-clause-summed : goal.returns-in-Ok-write_all-clause-summed
 returns-in-Ok-write_all-clause-summed g c _ = let same : c.as_slice.result.now ≡ c.in-Ok.text = search rules in

@@ -1,7 +1,7 @@
 -- the sum and its text
 use Rattle.std.proofs.Common.{ap, ◌∙◌}
 use Rattle.arj_bank.specs.Summary.{summary_of, summary_text}
-use Rattle.arj_bank.proofs.generated.sum_up.Goals as goal
+use Rattle.arj_bank.proofs.summed.sum_up.Goals as goal
 
 pub returns-in_ok-text-in-Ok-clause-text : goal.returns-in_ok-text-in-Ok-clause-text
 returns-in_ok-text-in-Ok-clause-text g c =

@@ -6,7 +6,7 @@ use Rattle.arj_gen.specs.declared.bank.TheConstants.{NODES}
 use Rattle.arj_world.specs.Disks.{HaveNotStopped}
 use Rattle.arj_world.proofs.Disks.{moved_none, same_fault}
 use Rattle.arj_bank.proofs.Ending.{if_ok_with, read_none, wants_sum}
-use Rattle.arj_bank.proofs.generated.summary.Goals as goal
+use Rattle.arj_bank.proofs.summed.summary.Goals as goal
 
 pub returns-in-Ok-clause-text : goal.returns-in-Ok-clause-text
 returns-in-Ok-clause-text g c =
