@@ -7,6 +7,10 @@ use Rattle.std.proofs.lemmas.Fmt.{decimal-digits_value, decimal_digit, decimal_i
 use Rattle.std.proofs.lemmas.Str.Parse.{IsNumeralModel, numerals_by_value, parse_plain, tells_digits}
 use Rattle.std.specs.declared.alloc.Global.{Global}
 use Rattle.std.specs.Prelude.{String}
+use Rattle.arj_bank.specs.Bank.{Generates}
+use Rattle.arj_disk.specs.declared.disk.Disk as disk
+use Rattle.arj_loop.specs.Replayed.{Answer, Outside}
+use Rattle.arj_loop.specs.declared.machine.Machine.{Ghosts}
 use Rattle.arj_command.specs.Command.{IsGenerate, IsPlain, IsReplay, NamesBank, most_banks}
 
 own : IsNumeralModel (AllDigits 10) (digits_value 10)
@@ -47,3 +51,8 @@ not_both [] text names is = names
 not_both (word ∷ []) text names is = names
 not_both (word ∷ number ∷ []) text names is = is
 not_both (word ∷ number ∷ more ∷ words) text names is = names
+
+-- words ask for one bank
+pub generates_one : {D M : Type 0} (m : Ghosts M D) (d : disk.Ghosts D) (words : List (String Global)) (n k : ℕ) → IsGenerate words n → IsGenerate words k → (before after : Outside D) (answer : Answer M)
+    → Generates m d n before after answer → Generates m d k before after answer
+generates_one m d words n k first second before after answer h = subst (λ i. Generates m d i before after answer) (one_number words n k first second) h

@@ -1,5 +1,5 @@
 -- What a run of a script shows.
-use Rattle.std.proofs.Common.{◌≡◌, ◌≢◌, ◌⊎◌, inl, inr, ℕ, List, [], ◌∷◌, ◌++◌, Option, Some, None, refl, sym, ◌∙◌, ap, subst}
+use Rattle.std.proofs.Common.{◌≡◌, ◌⊎◌, inl, inr, ℕ, true, filter, List, [], ◌∷◌, ◌++◌, Option, Some, None, refl, sym, ◌∙◌, ap, subst, arith}
 use Rattle.std.proofs.Math.Logic.{⊎_elim}
 use Rattle.std.proofs.lemmas.List.{append-nil}
 use Rattle.arj_command.specs.Facts.{AreAsAsked, Facts, behind}
@@ -7,21 +7,31 @@ use Rattle.arj_command.specs.Outcome.{CameSoFar, Headline, Said, Shown, world_of
 use Rattle.arj_command.proofs.Asked.{asked_end, asked_half}
 use Rattle.arj_core.specs.declared.node.Core as core
 use Rattle.arj_disk.specs.declared.disk.Disk as disk
+use Rattle.arj_event_law.specs.Halts.{armed_node, halted_node}
 use Rattle.arj_journal.specs.declared.body.Line.{Line}
+use Rattle.arj_protocol.specs.Words.{Body}
+use Rattle.arj_protocol.specs.Words.body
+use Rattle.arj_protocol.specs.Words.which
+use Rattle.arj_world.specs.Tells.{halts}
 use Rattle.arj_loop.specs.Input.{Arrived, script_of}
 use Rattle.arj_loop.specs.Replayed.{Answer, Closes, EndsSo, Outside, StopsShort, answer}
-use Rattle.arj_loop.specs.Running.{Hand, Halfway, MachineRuns, Stage, Why, last_body, last_lines}
+use Rattle.arj_loop.specs.Running.{Hand, Halfway, MachineRuns, Stage, Why, last_body, last_lines, status_of}
 use Rattle.arj_loop.specs.declared.ending.End.{End}
 use Rattle.arj_loop.specs.declared.ending.End.TheVariants as ending
+use Rattle.arj_base.specs.Count.{Rose}
+use Rattle.arj_journal.specs.declared.header.Header.{Header}
+use Rattle.arj_loop.specs.declared.machine.Machine.{Ghosts}
 use Rattle.arj_nodes.specs.AllNodes.{RanAll, Task, task}
 use Rattle.arj_nodes.specs.AsMachine.{all_nodes}
 use Rattle.arj_nodes.specs.declared.all_nodes.AllNodes.{AllNodes}
-use Rattle.arj_nodes_law.specs.Last.{EndsBehind, IsLast}
+use Rattle.arj_nodes.specs.Told.{ArmsAreTold, HaltsHaveCause, tells_arm}
+use Rattle.arj_nodes.proofs.Telling.{arms_behind, arms_told, halts_behind, halts_told}
+use Rattle.arj_nodes_law.specs.Last.{EndsBehind, IsLast, ends_run}
 use Rattle.arj_nodes_law.specs.Promised.{ShowsThePromise}
 use Rattle.arj_nodes_law.specs.Readings.{Reads}
 use Rattle.arj_nodes_law.specs.Turns.{Came, CloseShows, SoFarShows, StopShows}
 use Rattle.arj_script.specs.Grammar.{Place}
-use Rattle.arj_script.specs.Input.{events_of}
+use Rattle.arj_script.specs.Input.{AtFault, Stopped, events_of}
 use Rattle.arj_world.specs.Stands.{hand}
 
 -- an end puts no line but one outside of events
@@ -35,6 +45,47 @@ is_last ending.Lines count event = refl
 is_last ending.Labels count event = refl
 is_last ending.Frames count event = tt
 is_last ending.Format count event = tt
+
+-- such a line tells of no disk
+no_halt : (b : Body) → ends_run b ≡ true → halted_node b ≡ None
+no_halt (body.Bad n) ends = refl
+no_halt (body.Limit which.Lines) ends = refl
+no_halt (body.Limit which.Labels) ends = refl
+no_halt _ ends = absurd (cc ends)
+
+no_halts : (last : List Line) → IsLast last → (n : ℕ) → halts n last ≡ 0
+no_halts [] is n = refl
+no_halts (l ∷ []) is n = let none = no_halt l.body is in rw none refl
+no_halts (l ∷ m ∷ ls) is n = absurd is
+
+no_arm : (b : Body) → ends_run b ≡ true → armed_node b ≡ None
+no_arm (body.Bad n) ends = refl
+no_arm (body.Limit which.Lines) ends = refl
+no_arm (body.Limit which.Labels) ends = refl
+no_arm _ ends = absurd (cc ends)
+
+no_arms : (last : List Line) → IsLast last → filter tells_arm last ≡ []
+no_arms [] is = refl
+no_arms (l ∷ []) is = let none = no_arm l.body is in rw none refl
+no_arms (l ∷ m ∷ ls) is = absurd is
+
+-- a read failed
+at_fault : {D M : Type 0} (m : Ghosts M D) (end : End) (stopped : Stopped) (rest : List (List ℕ)) (place : Place) (rack : List D) (at : Hand M) (header : Header) → status_of end ≡ 3 → Why m end stopped rest place rack at header → stopped ≡ AtFault
+at_fault m ending.Whole stopped rest place rack at header three why = absurd (omega (arith, three))
+at_fault m (ending.Bad w) stopped rest place rack at header three why = absurd (omega (arith, three))
+at_fault m ending.Fault stopped rest place rack at header three why = why.0
+at_fault m ending.Write stopped rest place rack at header three why = absurd (omega (arith, three))
+at_fault m ending.Memory stopped rest place rack at header three why = absurd (omega (arith, three))
+at_fault m ending.Lines stopped rest place rack at header three why = absurd (omega (arith, three))
+at_fault m ending.Labels stopped rest place rack at header three why = absurd (omega (arith, three))
+at_fault m ending.Frames stopped rest place rack at header three why = absurd (omega (arith, three))
+at_fault m ending.Format stopped rest place rack at header three why = absurd (omega (arith, three))
+
+pub read_failed : {D M : Type 0} (m : Ghosts M D) (before after : Outside D) (answer : Answer M) → Closes m before after answer → answer.status ≡ 3 → Rose before.faults after.faults
+read_failed m before after answer closes three =
+    let e = closes.ends in
+    let r = e.reached in
+    closes.reads.at_fault (at_fault m closes.end closes.given.stopped r.rest r.place e.mid e.at (let s = r.stage in s.header) (sym closes.status_is ∙ three) r.why)
 
 module _ {C D : Type 0} (c : core.Ghosts C) (d : disk.Ghosts D) where
   -- nothing stands behind the lines of events
@@ -75,8 +126,9 @@ module _ {C D : Type 0} (c : core.Ghosts C) (d : disk.Ghosts D) where
       outside = outside;
       ran = ran;
       promise = promise;
-      halts = halts_of c d t all.over (hand all.world rack core) journal ran outside;
-      armed = arms_of c d t all.over (hand all.world rack core) journal ran outside;
+      halts = subst (λ lines. HaltsHaveCause d t lines rack) (sym outside.2) (halts_behind d t core outside.0 rack (no_halts outside.0 outside.1) (halts_told c d t all.over (hand all.world rack core) ran));
+      armed = subst (λ lines. ArmsAreTold (let h = t.header in h.nodes) t.events lines) (sym outside.2)
+          (arms_behind (let h = t.header in h.nodes) t.events core outside.0 (no_arms outside.0 outside.1) (arms_told c d t all.over (hand all.world rack core) ran));
     }
 
     -- ---- a run that came to its end

@@ -53,6 +53,7 @@ fn run_command<S: Source, K: Sink, D: Disk, C: Core + Drop>(
     ensures command { result ≡ 1 → IsCommand words.now → ⊥ }
     ensures no_command { (IsCommand words.now → ⊥) → result ≡ 1 }
     ensures usage { result ≡ 1 → (source.new ≡ source.old) × (sink.new ≡ sink.old) × (rack.new ≡ rack.old) × (journal.new ≡ journal.old) × (why.new ≡ why.old) × (nodes.new ≡ nodes.old) }
+    ensures read_fault { result ≡ 3 → Rose (S.faults source.old) (S.faults source.new) }
     ensures write_fault { result ≡ 4 → Rose (K.faults sink.old) (K.faults sink.new) }
     ensures no_write_fault { result ≢ 4 → K.faults sink.new ≡ K.faults sink.old }
 {

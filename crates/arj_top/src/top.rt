@@ -15,6 +15,7 @@ use arj_journal::Lines;
 use arj_loop::BadLine;
 use arj_node::NodeCore;
 use arj_parts::NodeParts;
+use arj_parts_law::cores_say_their_readings;
 use arj_store::{ObjectStore, ShadowStore};
 use arj_world::World;
 use std::alloc::Global;
@@ -42,6 +43,24 @@ pub fn arjuna<S: Source, K: Sink, D: Disk>(
     requires ready { AreFresh D.Disk rack.old }
     requires fresh { journal.old ≡ [] }
     requires none { world.old ≡ None }
+
+    // A script: which bytes came and which of their lines were run, what each status means, what was written, and what the
+    // journal, the disks and the world show of the events.
+    ensures headline { IsReplay words.now → result ≢ 4 → result ≢ 5 → Headline ⟦<Node as Core>⟧ D.Disk (reading_of ⟦<ShadowStore as ObjectStore>⟧) (outside (S.left source.old) (S.faults source.old) (K.taken sink.old) rack.old) (outside (S.left source.new) (S.faults source.new) (K.taken sink.new) rack.new) (said result why.new journal.new world.new) }
+    // What still holds after a write that failed, or where memory was wanting.
+    ensures shown { IsReplay words.now → (result ≡ 4) ⊎ (result ≡ 5) → Shown ⟦<Node as Core>⟧ D.Disk (reading_of ⟦<ShadowStore as ObjectStore>⟧) (outside (S.left source.old) (S.faults source.old) (K.taken sink.old) rack.old) (outside (S.left source.new) (S.faults source.new) (K.taken sink.new) rack.new) result }
+    // A generated bank: what each status means, its summary, and the same of its events.
+    ensures bank { (n : ℕ) → IsGenerate words.now n → BankHeadline ⟦<Node as Core>⟧ D.Disk (reading_of ⟦<ShadowStore as ObjectStore>⟧) n (outside (S.left source.old) (S.faults source.old) (K.taken sink.old) rack.old) (outside (S.left source.new) (S.faults source.new) (K.taken sink.new) rack.new) (said result why.new journal.new world.new) }
+
+    // Which status, where no record above says it: 5 alone is free.
+    ensures statuses { result ≤ 7 }
+    ensures command { result ≡ 1 → IsCommand words.now → ⊥ }
+    ensures no_command { (IsCommand words.now → ⊥) → result ≡ 1 }
+    ensures usage { result ≡ 1 → (source.new ≡ source.old) × (sink.new ≡ sink.old) × (rack.new ≡ rack.old) × (journal.new ≡ journal.old) × (why.new ≡ why.old) × (world.new ≡ world.old) }
+    ensures read_fault { result ≡ 3 → Rose (S.faults source.old) (S.faults source.new) }
+    ensures write_fault { result ≡ 4 → Rose (K.faults sink.old) (K.faults sink.new) }
+    ensures no_write_fault { result ≢ 4 → K.faults sink.new ≡ K.faults sink.old }
 {
+    cores_say_their_readings();
     run_on::<S, K, D, Node>(alloc, words, source, sink, rack, journal, why, world)
 }

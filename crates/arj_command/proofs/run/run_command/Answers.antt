@@ -1,0 +1,65 @@
+-- a script, a bank, or no command
+use Rattle.std.proofs.Common.{arith, inl, inr, ap, refl}
+use Rattle.std.proofs.Math.Logic.{⊎_elim}
+use Rattle.arj_command.specs.Command.{IsGenerate, IsReplay}
+use Rattle.arj_command.proofs.Numbers.{generates_one, not_both}
+use Rattle.arj_command.proofs.Shows.{read_failed}
+use Rattle.arj_loop.specs.Replayed.{answer, outside}
+use Rattle.arj_nodes.specs.AsMachine.{all_nodes}
+use Rattle.arj_command.proofs.run.run_command.Goals as goal
+
+-- ---- a script
+
+pub returns-in-Replay-clause-generates : goal.returns-in-Replay-clause-generates
+returns-in-Replay-clause-generates g c n is = let says : IsReplay c.args.words.now = rw c.in-Replay.is at c.asked_for.ensures in absurd (not_both c.args.words.now _ is.1 says)
+
+pub returns-in-Replay-clause-closes : goal.returns-in-Replay-clause-closes
+returns-in-Replay-clause-closes g c _ four five = c.replay.ensures.closes four five
+
+pub returns-in-Replay-clause-short : goal.returns-in-Replay-clause-short
+returns-in-Replay-clause-short g c _ which = c.replay.ensures.short which
+
+pub returns-in-Replay-clause-read_fault : goal.returns-in-Replay-clause-read_fault
+returns-in-Replay-clause-read_fault g c three =
+    read_failed (all_nodes g.C.Core g.D.Disk) (outside (g.S.Source.left c.args.source.now) (g.S.Source.faults c.args.source.now) (g.K.Sink.taken c.args.sink.now) c.args.rack.now)
+    (outside (g.S.Source.left c.replay.new.source) (g.S.Source.faults c.replay.new.source) (g.K.Sink.taken c.replay.new.sink) c.replay.new.rack) (answer c.replay.result c.replay.new.why c.replay.new.journal c.replay.new.machine)
+    (c.replay.ensures.closes (λ e. omega (arith, e, three)) (λ e. omega (arith, e, three))) three
+
+-- ---- a bank
+
+pub returns-in-Bank-clause-read_fault : goal.returns-in-Bank-clause-read_fault
+returns-in-Bank-clause-read_fault g c three = let statuses = c.generated.ensures.statuses in absurd (statuses.3 three)
+
+pub returns-in-Bank-clause-closes : goal.returns-in-Bank-clause-closes
+returns-in-Bank-clause-closes g c is _ _ = let says : IsGenerate c.args.words.now c.in-Bank.n = rw c.in-Bank.is at c.asked_for.ensures in absurd (not_both c.args.words.now _ says.1 is)
+
+pub returns-in-Bank-clause-short : goal.returns-in-Bank-clause-short
+returns-in-Bank-clause-short g c is _ = let says : IsGenerate c.args.words.now c.in-Bank.n = rw c.in-Bank.is at c.asked_for.ensures in absurd (not_both c.args.words.now _ says.1 is)
+
+pub returns-in-Bank-clause-generates : goal.returns-in-Bank-clause-generates
+returns-in-Bank-clause-generates g c m is =
+    let says : IsGenerate c.args.words.now c.in-Bank.n = rw c.in-Bank.is at c.asked_for.ensures in
+    let e = c.generated.ensures in
+    let statuses = e.statuses in
+    generates_one (all_nodes g.C.Core g.D.Disk) g.D.Disk c.args.words.now c.in-Bank.n m says is
+    (outside (g.S.Source.left c.args.source.now) (g.S.Source.faults c.args.source.now) (g.K.Sink.taken c.args.sink.now) c.args.rack.now)
+    (outside (g.S.Source.left c.args.source.now) (g.S.Source.faults c.args.source.now) (g.K.Sink.taken c.generated.new.sink) c.generated.new.rack)
+    (answer c.generated.result c.args.why.now c.generated.new.journal c.generated.new.machine)
+    (record {
+      summed = e.summed;
+      front = e.front;
+      unwritten = λ whole front. ap g.K.Sink.taken (e.unwritten whole front);
+      memory = e.memory;
+      limit = e.limit;
+      stopped = e.stopped;
+      never = (statuses.1, statuses.2, statuses.3);
+      unread = (refl, refl);
+    })
+
+-- ---- no command
+
+pub returns-in-None-clause-closes : goal.returns-in-None-clause-closes
+returns-in-None-clause-closes g c is _ _ = absurd ((rw c.in-None.is at c.asked_for.ensures) (inl is))
+
+pub returns-in-None-clause-generates : goal.returns-in-None-clause-generates
+returns-in-None-clause-generates g c n is = absurd ((rw c.in-None.is at c.asked_for.ensures) (inr (n, is)))

@@ -1,0 +1,28 @@
+-- what the run of the command shows
+use Rattle.arj_command.specs.Outcome.{said}
+use Rattle.arj_command.proofs.Banks.{bank_headline}
+use Rattle.arj_command.proofs.Shows.{headline, shown}
+use Rattle.arj_loop.specs.Replayed.{answer, outside}
+use Rattle.arj_command.proofs.run.run_on.Goals as goal
+
+pub returns-clause-headline : goal.returns-clause-headline
+returns-clause-headline g c read says is four five =
+    let before = outside (g.S.Source.left c.args.source.now) (g.S.Source.faults c.args.source.now) (g.K.Sink.taken c.args.sink.now) c.args.rack.now in
+    let after = outside (g.S.Source.left c.run_command-status.new.source) (g.S.Source.faults c.run_command-status.new.source) (g.K.Sink.taken c.run_command-status.new.sink) c.run_command-status.new.rack in
+    let run = c.run_command-status.ensures.closes is four five in
+    headline g.C.Core g.D.Disk read before after (said c.run_command-status.result c.run_command-status.new.why c.run_command-status.new.journal c.world_of.result) c.run_command-status.new.nodes run
+    (c.nodes_show_what_is_promised.ensures.closes read says before after (answer c.run_command-status.result c.run_command-status.new.why c.run_command-status.new.journal c.run_command-status.new.nodes) run) c.world_of.ensures
+
+pub returns-clause-shown : goal.returns-clause-shown
+returns-clause-shown g c read says is which =
+    let before = outside (g.S.Source.left c.args.source.now) (g.S.Source.faults c.args.source.now) (g.K.Sink.taken c.args.sink.now) c.args.rack.now in
+    let after = outside (g.S.Source.left c.run_command-status.new.source) (g.S.Source.faults c.run_command-status.new.source) (g.K.Sink.taken c.run_command-status.new.sink) c.run_command-status.new.rack in
+    let run = c.run_command-status.ensures.short is which in
+    shown g.C.Core g.D.Disk read before after c.run_command-status.result run (c.nodes_show_what_is_promised.ensures.stops read says before after c.run_command-status.result run)
+
+pub returns-clause-bank : goal.returns-clause-bank
+returns-clause-bank g c read says n is =
+    let before = outside (g.S.Source.left c.args.source.now) (g.S.Source.faults c.args.source.now) (g.K.Sink.taken c.args.sink.now) c.args.rack.now in
+    let after = outside (g.S.Source.left c.run_command-status.new.source) (g.S.Source.faults c.run_command-status.new.source) (g.K.Sink.taken c.run_command-status.new.sink) c.run_command-status.new.rack in
+    bank_headline g.C.Core g.D.Disk read n before after (said c.run_command-status.result c.run_command-status.new.why c.run_command-status.new.journal c.world_of.result) c.run_command-status.new.nodes (c.run_command-status.ensures.generates n is) c.run_command-status.ensures.statuses
+    (c.banks_show_what_is_promised.ensures.whole read says) (c.banks_show_what_is_promised.ensures.limits read says) c.world_of.ensures
