@@ -4,7 +4,8 @@ use Rattle.arj_journal.specs.ScriptForm.{HeaderInForm}
 use Rattle.arj_lock.proofs.Members.{In, in_find_none, in_from, in_to}
 use Rattle.arj_model.specs.Actions.{Act, acts}
 use Rattle.arj_model.specs.Calls.{Top, tops}
-use Rattle.arj_model.specs.Clean.{Clean, Disks}
+use Rattle.arj_model.specs.Clean.{Clean}
+use Rattle.arj_model.specs.Disks.{Disks}
 use Rattle.arj_model.specs.Last.{first_values, increasing, is_among, joins_of, leaves_of, listed_from, object_line, serial_tops}
 use Rattle.arj_model.specs.Serial.{Values}
 use Rattle.arj_protocol.specs.Words.{Header, Line, ObjectLine}
@@ -45,7 +46,7 @@ use Rattle.arj_lock_whole_law.proofs.WholeRuns.{kept_call_objects, kept_include_
 use Rattle.arj_serial_law.proofs.Seeing.{locked_serial, locked_tied}
 use Rattle.arj_serial_law.proofs.Cleaning.{is_clean}
 use Rattle.arj_serial_law.proofs.Including.{are_decided, changers_turn}
-use Rattle.arj_serial_law.proofs.Shown.{files_clean}
+use Rattle.arj_serial_law.proofs.Shown.{readings_clean}
 use Rattle.arj_serial_law.proofs.Ties.{Ties, ties_of}
 use Rattle.arj_joint_law.proofs.NamedTops.{AreLockTied, AreNamed, disk_of, is_one_of, number_of}
 use Rattle.arj_joint_law.specs.Fit.{OpsFit}
@@ -54,7 +55,7 @@ use Rattle.arj_joint_law.specs.Cleaned.{RunsAreClean}
 use Rattle.arj_joint_law.proofs.JoinedRuns.{reached_joined}
 use Rattle.arj_joint_law.specs.Includers.{IncludersTakeTurns, JoinersAreNewestFirst, TakesTurnsSo}
 use Rattle.arj_joint_law.specs.Ordered.{AreSpared, AreTurnsOf, IsOrderedSo}
-use Rattle.arj_joint_law.specs.Shown.{FilesAre, IncludesAreThere}
+use Rattle.arj_joint_law.specs.Shown.{DisksAre, IncludesAreThere}
 use Rattle.arj_joint_law.specs.Writers.{WritersAreNewestFirst}
 use Rattle.arj_joint_law.proofs.Called.{decided_writers_stand, decision_of, number_is, one_number, those_of, wrote_something}
 use Rattle.arj_joint_law.proofs.FormRuns.{kept_have_form}
@@ -62,7 +63,7 @@ use Rattle.arj_joint_law.proofs.IdlePlaces.{added, all_idle, all_those, none_amo
 use Rattle.arj_joint_law.specs.Joined.{AreBareSo, AreWritten, IsJoinedSo, JoinedRunsAreSerial, JoinedRunsAreTied}
 use Rattle.arj_joint_law.proofs.JoinOrder.{decided_joiners_stand}
 use Rattle.arj_joint_law.proofs.Naming.{decided_named}
-use Rattle.arj_joint_law.proofs.Showing.{files_show_disks}
+use Rattle.arj_joint_law.proofs.Showing.{readings_show_pairs}
 use Rattle.arj_lock_law.specs.State.{State}
 use Rattle.arj_serial_law.specs.Seen.{IsSerialBy}
 use Rattle.arj_serial_law.specs.Tied.{AreTied, IsTied}
@@ -445,12 +446,12 @@ module _ (hd : Header) (w : World) (keeping : Keeping hd w) (joined : AreJoined 
   pub serial_so : IsSerialBy hd w.lines
   serial_so = locked_serial hd w (kept_right hd w keeping) (λ x called. let h = joined x (object_some hd x (kept_call_objects hd w keeping x called)) in let j = h.holds in record { sent = h.sent; stands = h.stands; holds = (j.begun, j.alike, (λ f apart a. let z = j.seen f (a.0, (a.1, apart)) in (z.0, z.1, z.2)), j.requests) })
 
-  pub clean_so : HeaderInForm hd → (disks : Disks) → FilesAre (see [] w) disks → Clean hd w.lines disks
-  clean_so form disks files =
+  pub clean_so : HeaderInForm hd → (disks : Disks) → DisksAre (see [] w) disks → Clean hd w.lines disks
+  clean_so form disks are =
       let r = kept_holds hd w keeping IsKept (lines_keep hd) in
-      files_clean hd w.lines (see r.sent w) disks
+      readings_clean hd w.lines (see r.sent w) disks
       (λ x there. let c = clean_of hd w keeping form lock_tied held_in decides_in x there in record { names = c.names; stores = c.stores })
-      (files_show_disks hd r.sent w disks form r.stands (includes_there hd w keeping) (record { stores = files.stores; names = files.names }))
+      (readings_show_pairs hd r.sent w disks form r.stands (includes_there hd w keeping) are)
 
 -- ---- in each world that is reached, where answered operations are in form
 
@@ -463,7 +464,7 @@ reached_tied hd form w reached fit = let t = lock_tied hd w reached.keeping (rea
 pub reached_serial : (hd : Header) → HeaderInForm hd → (w : World) → IsReached hd w → ((x : ℕ) → OpsFit x w.lines) → IsSerialBy hd w.lines
 reached_serial hd form w reached fit = serial_so hd w reached.keeping (reached_both hd form w reached fit)
 
-pub reached_clean : (hd : Header) → HeaderInForm hd → (w : World) → IsReached hd w → ((x : ℕ) → OpsFit x w.lines) → (disks : Disks) → FilesAre (see [] w) disks → Clean hd w.lines disks
+pub reached_clean : (hd : Header) → HeaderInForm hd → (w : World) → IsReached hd w → ((x : ℕ) → OpsFit x w.lines) → (disks : Disks) → DisksAre (see [] w) disks → Clean hd w.lines disks
 reached_clean hd form w reached fit = clean_so hd w reached.keeping (reached_both hd form w reached fit) form
 
 -- ---- runs

@@ -13,7 +13,7 @@ use Rattle.arj_lock.proofs.Members as members
 use Rattle.arj_lock.proofs.Members.{in_filter_map, in_from, in_to}
 use Rattle.arj_model.specs.Actions.{Placed, committed, recovered}
 use Rattle.arj_model.specs.Calls.{Call, Said, Top, committed_calls, kept, said, tops}
-use Rattle.arj_model.specs.Last.{first_values, is_among, last_state}
+use Rattle.arj_model.specs.Last.{entry_payload, first_values, is_among, last_state, object_line, servers_of_line}
 use Rattle.arj_model.specs.Serial.{Values, root_of, serial_calls, top_place, writes_on}
 use Rattle.arj_line_law.specs.Book.{new_book}
 use Rattle.arj_line_law.specs.Laws.{AreApart}
@@ -27,6 +27,7 @@ use Rattle.arj_protocol.specs.Step.{Node}
 use Rattle.arj_protocol.specs.Values.{state_entry}
 use Rattle.arj_protocol.proofs.Numbers.{number_tells}
 use Rattle.arj_protocol.specs.World as world
+use Rattle.arj_base.specs.declared.state.Class.TheVariants as class
 use Rattle.arj_disk_law.specs.Core.{Core}
 use Rattle.arj_disk_law.specs.Effects.{World}
 use Rattle.arj_disk_law.specs.Laws.{IsExcludedInTime}
@@ -40,7 +41,7 @@ use Rattle.arj_view_law.specs.Seen.{Post, Seen, see}
 use Rattle.arj_call_law.specs.Reached.{Keeping}
 use Rattle.arj_call_law.proofs.Reaching.{kept_holds, moves_keep}
 use Rattle.arj_disk_view_law.specs.Entries.{SeesEntry}
-use Rattle.arj_disk_view_law.specs.Pairs.{Among, Holder, IsOf, packed, packed_entry}
+use Rattle.arj_disk_view_law.specs.Pairs.{Among, Holder, IsOf, hold_of, packed, packed_entry}
 use Rattle.arj_disk_view_law.specs.Stores.{SeesStore}
 use Rattle.arj_serial_law.specs.Decided.{AreDecided, AreDecisions, AreNewestFirst, IsDecision, WroteSo, Wrote}
 use Rattle.arj_serial_law.specs.Runs.{IsSeenDecided}
@@ -55,7 +56,7 @@ use Rattle.arj_joint_law.specs.Excluded.{AreExcludedInTime, AreSeenByCalls, AreS
 use Rattle.arj_joint_law.proofs.CommitCalls.{commits_begin}
 use Rattle.arj_joint_law.proofs.NewWriters.{new_writers_last}
 use Rattle.arj_disk_run_law.specs.States.{Own}
-use Rattle.arj_joint_law.specs.Forms.{AreSo, kind_of, stored}
+use Rattle.arj_joint_law.specs.Forms.{AreSo, kind_of, listed as entered, stored}
 use Rattle.arj_joint_law.proofs.FormRuns.{kept_forms}
 
 pub all_among : (P : ObjectState → Type 0) (ss : List ObjectState) (st : ObjectState) → AllByRecursion P ss → Among st ss → P st
@@ -186,9 +187,11 @@ module _ (header : Header) (e : ℕ) (M : Seen) (right : AreRight new_book M.lin
         let k : Holder packed (object x) m.disk.store h = p.holder h pend in
         let who : k.action ≡ uid_of M.lines t = number_tells k.action (uid_of M.lines t) (ap (λ (y : Hold). y.top) k.is ∙ top) in
         let disk = (is.forms s m at_store).0 in
-        let class : k.state.class ≡ class_of (first_values header x) = (all_among (Own (stored (kind_of header x))) k.states k.state (all_at_uid (AllByRecursion (Own (stored (kind_of header x)))) k.action k.states m.disk.store.pend disk.store.pend k.prepared) k.of.0).1 k.of.1 in
-        let same : k.state ≡ last_state header M.lines x = one_state k.state (last_state header M.lines x) (ap (λ (y : Hold). y.new) k.is ∙ new_is ∙ last_is) k.of.1 (class ∙ sym (run_class (first_values header) (serial_calls M.lines) x)) in
-        inr (inl (k.states, subst (λ u. at_uid u m.disk.store.pend ≡ Some k.states) who k.prepared, subst (IsOf (object x) k.states) same k.of))
+        let same : (z : ObjectState) → IsOf (object x) k.states z → z ≡ last_state header M.lines x = (λ z of.
+        let hold : hold_of packed k.action z ≡ h = some_is (hold_of packed k.action z) h (sym (p.held_by k.action k.states z k.prepared of) ∙ pend) in
+        let class : z.class ≡ class_of (first_values header x) = (all_among (Own (stored (kind_of header x))) k.states z (all_at_uid (AllByRecursion (Own (stored (kind_of header x)))) k.action k.states m.disk.store.pend disk.store.pend k.prepared) of.0).1 of.1 in
+        one_state z (last_state header M.lines x) (ap (λ (y : Hold). y.new) hold ∙ new_is ∙ last_is) of.1 (class ∙ sym (run_class (first_values header) (serial_calls M.lines) x))) in
+        inr (inl (k.states, subst (λ u. at_uid u m.disk.store.pend ≡ Some k.states) who k.prepared, (subst (IsOf (object x) k.states) (same k.state k.of) k.of, same)))
 
     taken_out : IsExcused W.disk T s → IsTakenOut M.lines x n t s
     taken_out y = ⊎_elim
@@ -201,6 +204,24 @@ module _ (header : Header) (e : ℕ) (M : Seen) (right : AreRight new_book M.lin
         lacks : is_among (state_entry k.state).stores s ≡ false
         lacks = sym (has_among s (state_entry k.state).stores) ∙ ap (λ (q : Hold). has s q.new.content) k.is ∙ y.lacks
 
+        -- of states of the entry that are prepared by one action each is packed alike, and in form
+        only : (z : ObjectState) → IsOf (entry x) k.states z → z ≡ k.state
+        only z of =
+            let p = sees_entry.pair in
+            let disk = (is.forms 1 n at_naming).0 in
+            let form : (a : ObjectState) → IsOf (entry x) k.states a → (a.class ≡ class.Entry) × (a.payload ≡ entry_payload (servers_of_line (object_line header x)) (state_entry a).stores) = (λ a its.
+            all_among (Own (entered (kind_of header x))) k.states a (all_at_uid (AllByRecursion (Own (entered (kind_of header x)))) k.action k.states n.disk.names.pend disk.names.pend k.prepared) its.0 its.1) in
+            let hold : hold_of packed_entry k.action z ≡ hold_of packed_entry k.action k.state =
+            some_is (hold_of packed_entry k.action z) (hold_of packed_entry k.action k.state) (sym (p.held_by k.action k.states z k.prepared of) ∙ p.held_by k.action k.states k.state k.prepared k.of) in
+            let same : packed_entry z ≡ packed_entry k.state = ap (λ (y : Hold). y.new) hold in
+            (λ i. record {
+              uid = (of.1 ∙ sym k.of.1) i;
+              class = ((form z of).0 ∙ sym (form k.state k.of).0) i;
+              version = ap (λ (q : Packed). q.version) same i;
+              writer = number_tells z.writer k.state.writer (ap (λ (q : Packed). q.writer) same) i;
+              payload = ((form z of).1 ∙ ap (entry_payload (servers_of_line (object_line header x))) (ap (λ (q : Packed). q.content) same) ∙ sym (form k.state k.of).1) i;
+            })
+
         made : (b : Top) → Contains (tops M.lines) b → b.root ≡ t.root → uid_number (uid_of M.lines b) ≡ y.by_entry.top → IsTakenOut M.lines x n t s
         made b c root top = record {
           by_top = b;
@@ -209,7 +230,7 @@ module _ (header : Header) (e : ℕ) (M : Seen) (right : AreRight new_book M.lin
           states = k.states;
           prepared = subst (λ u. at_uid u n.disk.names.pend ≡ Some k.states) (number_tells k.action (uid_of M.lines b) (ap (λ (q : Hold). q.top) k.is ∙ sym top)) k.prepared;
           new = k.state;
-          there = k.of;
+          there = (k.of, only);
           lacks = lacks;
         }
 

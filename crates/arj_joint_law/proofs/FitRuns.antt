@@ -259,4 +259,4 @@ runs_in_form hd ms form = (moves_reached hd ms form.few, λ x. moves_fit hd x ms
 -- the moves of a script in form are in form
 pub scripts_in_form : (es : List Asked) (w : World) → AreEventsInForm es → AreMovesInForm (as_moves es w)
 scripts_in_form [] w all = tt
-scripts_in_form (e ∷ es) w all = (all.0, scripts_in_form es (run_event e w) all.1)
+scripts_in_form (e ∷ es) w all = (all.0.0, scripts_in_form es (run_event e w) all.1)

@@ -23,7 +23,7 @@ pub mod Sparing
 pub mod MarkTies
 pub mod Leaving
 pub mod RunsInTime
-pub mod FilesInTime
+pub mod DisksInTime
 pub mod ByMessage
 pub mod Restarting
 pub mod Mute
@@ -113,4 +113,5 @@ pub mod Fits
 pub mod FitCoords
 pub mod FitSteps
 pub mod FitRuns
+pub mod FitStops
 pub mod BookRuns

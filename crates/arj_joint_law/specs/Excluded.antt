@@ -52,9 +52,13 @@ IsNew e lines t = Contains (tops lines) t × (is_said (lines_before e lines) (ui
 abbrev pub HoldsLast : Header → List Line → ℕ → Node → Type 0
 HoldsLast header lines x n = held_at (object x) (let d = n.disk in d.store) ≡ Some (last_state header lines x)
 
--- or it has that prepared for the top
+-- the one state of the object in a list
+abbrev pub IsOnly : Uid → List ObjectState → ObjectState → Type 0
+IsOnly u states s = IsOf u states s × ((t : ObjectState) → IsOf u states t → t ≡ s)
+
+-- or it has that prepared for the top, and no other state of the object
 abbrev pub HasLastPrepared : Header → List Line → ℕ → Node → Top → Type 0
-HasLastPrepared header lines x n t = (states : List ObjectState) × (at_uid (uid_of lines t) (let d = n.disk in let p = d.store in p.pend) ≡ Some states) × IsOf (object x) states (last_state header lines x)
+HasLastPrepared header lines x n t = (states : List ObjectState) × (at_uid (uid_of lines t) (let d = n.disk in let p = d.store in p.pend) ≡ Some states) × IsOnly (object x) states (last_state header lines x)
 
 -- Or the naming node has prepared an entry of the object without it, for the top or for another committed constituent of its serializing
 -- action.
@@ -65,7 +69,7 @@ pub record IsTakenOut (lines : List Line) (x : ℕ) (n : Node) (t : Top) (s : �
   pub states : List ObjectState
   pub prepared : at_uid (uid_of lines by_top) (let d = n.disk in let p = d.names in p.pend) ≡ Some states
   pub new : ObjectState
-  pub there : IsOf (entry x) states new
+  pub there : IsOnly (entry x) states new
   pub lacks : is_among (let e = state_entry new in e.stores) s ≡ false
 
 -- one of the three

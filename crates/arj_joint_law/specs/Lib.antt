@@ -12,7 +12,7 @@ pub mod Outcome
 pub mod Samples
 pub mod Excluded
 pub mod InTime
-pub mod FilesInTime
+pub mod DisksInTime
 pub mod Loads
 pub mod Joined
 pub mod Recorded

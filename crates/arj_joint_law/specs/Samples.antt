@@ -10,12 +10,9 @@ use Rattle.arj_base.specs.declared.state.Class.TheVariants as class
 use Rattle.arj_base.specs.declared.state.ObjectState.{ObjectState}
 use Rattle.arj_class.specs.declared.op.Op.TheVariants.{Add}
 use Rattle.arj_class.specs.declared.value.Value.TheVariants.{Counter}
-use Rattle.arj_disk.specs.FileMap.{FileMap}
-use Rattle.arj_disk.specs.Formed.{prepared_bytes}
 use Rattle.arj_disk.specs.Says.{role_eq}
 use Rattle.arj_disk.specs.declared.slot.Role.{Role as Side}
 use Rattle.arj_disk.specs.declared.slot.Role.TheVariants as side
-use Rattle.arj_disk.specs.declared.slot.Slot.TheVariants.{Committed, Prepared, Shadow}
 use Rattle.arj_journal.specs.declared.body.Body.{Body}
 use Rattle.arj_journal.specs.declared.body.Body.TheVariants as body
 use Rattle.arj_journal.specs.declared.body.Kind.TheVariants as kind
@@ -23,7 +20,7 @@ use Rattle.arj_journal.specs.declared.body.Line.{Line}
 use Rattle.arj_journal.specs.declared.body.Role.TheVariants as role
 use Rattle.arj_journal.specs.declared.header.Header.{Header}
 use Rattle.arj_model.specs.Calls.{Top}
-use Rattle.arj_model.specs.Clean.{Disks}
+use Rattle.arj_model.specs.Disks.{Disks, Reading}
 use Rattle.arj_model.specs.Last.{entry_payload}
 use Rattle.arj_protocol.specs.Effect.{Pair}
 use Rattle.arj_protocol.specs.Step.{Node}
@@ -128,20 +125,27 @@ naming_node = node_with 1 empty (pair_with (entry 1) (entry_with 0 nobody (2 ∷
 abbrev pub naming_late : Node
 naming_late = node_with 1 empty (pair_with (entry 1) (entry_with 0 nobody (2 ∷ 3 ∷ [])) [])
 
--- ---- files, at the end of a journal
+-- ---- what disks say, at the end of a journal
 
--- files that hold a state, and have another one prepared for the top, or nothing
-abbrev pub files_with : Side → ObjectState → Option ObjectState → FileMap
-files_with r held new (Committed u) = if uid_eq u held.uid then Some (state_bytes held) else None
-files_with r held (Some new) (Shadow u) = if uid_eq u new.uid then Some (state_bytes new) else None
-files_with r held (Some new) (Prepared q a) = if role_eq q r && uid_eq a its_uid then Some (prepared_bytes its_uid (new.uid ∷ [])) else None
-files_with r held new q = None
+-- the new state that the top has prepared, if any
+abbrev pub prepared_with : Side → Option ObjectState → Side → Uid → Option (List (Uid × List ℕ))
+prepared_with r None q a = None
+prepared_with r (Some new) q a = if role_eq q r && uid_eq a its_uid then Some ((new.uid, state_bytes new) ∷ []) else None
+
+-- a disk with one state of a role, and another one prepared there for the top, or nothing
+abbrev pub reading_with : Side → ObjectState → Option ObjectState → Reading
+reading_with r held new = record {
+  committed = λ q u. if role_eq q r && uid_eq u held.uid then Some (state_bytes held) else None;
+  prepared = prepared_with r new;
+  records = λ a. None;
+  incarnation = 1;
+}
 
 -- The stores 2 and 3 hold the first state, and store 2 has the new one prepared; naming's entry is the old one, and this one is prepared, if any.
 abbrev pub disks_with : Option ObjectState → Disks
 disks_with new n =
-    if n == 1 then files_with side.Names (entry_with 0 nobody (2 ∷ 3 ∷ [])) new
-    else if n == 2 then files_with side.Store first_counter (Some (counter_state 1 its_uid 5)) else files_with side.Store first_counter None
+    if n == 1 then reading_with side.Names (entry_with 0 nobody (2 ∷ 3 ∷ [])) new
+    else if n == 2 then reading_with side.Store first_counter (Some (counter_state 1 its_uid 5)) else reading_with side.Store first_counter None
 
 -- the entry without store 3 is prepared
 abbrev pub disks_decided : Disks

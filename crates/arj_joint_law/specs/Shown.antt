@@ -1,23 +1,41 @@
--- What the files of nodes show of their disks.
-use Rattle.std.specs.Prelude.{◌≡◌, ◌&&◌, ℕ, true, List, Some, Contains, is_some, nat_le}
+-- Which readings are those of nodes' disks, and what they show of them.
+use Rattle.std.specs.Prelude.{◌≡◌, ◌&&◌, ℕ, true, List, Some, Contains, is_some, nat_le, option_map}
+use Rattle.arj_disk.specs.Says.{Record}
+use Rattle.arj_disk.specs.declared.slot.Role.{Role}
 use Rattle.arj_disk.specs.declared.slot.Role.TheVariants as role
 use Rattle.arj_journal.specs.ScriptForm.{HeaderInForm}
 use Rattle.arj_model.specs.Actions.{Placed}
-use Rattle.arj_model.specs.Clean.{Disks}
+use Rattle.arj_model.specs.Disks.{Disks, Reading, held, pend}
 use Rattle.arj_model.specs.Last.{Inclusion, included, is_among, listed, object_line}
+use Rattle.arj_protocol.specs.Effect.{Disk, Intent}
+use Rattle.arj_protocol.specs.Order.{at_uid}
 use Rattle.arj_protocol.specs.Step.{Node}
-use Rattle.arj_protocol.specs.Words.{Header, Line}
+use Rattle.arj_protocol.specs.Words.{Header, Line, Uid}
 use Rattle.arj_protocol.specs.World.{World}
-use Rattle.arj_store.specs.OfFiles.{pair_of}
+use Rattle.arj_store.specs.Pair.{Pair}
 use Rattle.arj_store_law.specs.Files.{IsPairOf}
 use Rattle.arj_view_law.specs.Keeps.{Stands}
 use Rattle.arj_view_law.specs.Seen.{Post, Seen, see}
-use Rattle.arj_serial_law.specs.Files.{AreShown}
+use Rattle.arj_serial_law.specs.Readings.{AreShown}
 
--- the files of each node are those of its pairs
-pub record FilesAre (M : Seen) (disks : Disks) : Type 0 where
-  pub stores : (s : ℕ) (n : Node) → M.nodes s ≡ Some n → IsPairOf (pair_of (disks s) role.Store) (let d = n.disk in d.store)
-  pub names : (n : Node) → M.nodes 1 ≡ Some n → IsPairOf (pair_of (disks 1) role.Names) (let d = n.disk in d.names)
+-- the pair of a role, as a disk is read
+abbrev pub pair_in : Reading → Role → Pair
+pair_in read r = record { held = held read r; pend = pend read r }
+
+-- a record of a commit, as it is read
+abbrev pub record_of : Intent → Record
+record_of i = record { root = i.root; nodes = i.nodes }
+
+-- A disk of the protocol is read so: the pairs of both roles, the records and the incarnation are its own.
+pub record IsReadingOf (read : Reading) (d : Disk) : Type 0 where
+  pub store : IsPairOf (pair_in read role.Store) d.store
+  pub names : IsPairOf (pair_in read role.Names) d.names
+  pub records : (top : Uid) → (let r = read in r.records top) ≡ option_map record_of (at_uid top d.intents)
+  pub incarnation : (let r = read in r.incarnation) ≡ d.inc
+
+-- so it is of the disk of each node
+abbrev pub DisksAre : Seen → Disks → Type 0
+DisksAre M disks = (s : ℕ) (n : Node) → M.nodes s ≡ Some n → IsReadingOf (disks s) (let m = n in m.disk)
 
 -- the header has the object, and the node
 abbrev pub AreThere : Header → ℕ → ℕ → Type 0
@@ -35,6 +53,6 @@ ListedAreThere hd lines = (x s : ℕ) → is_among (listed hd lines x) s ≡ tru
 abbrev pub IncludesAreListed : Type 0
 IncludesAreListed = (hd : Header) (lines : List Line) → HeaderInForm hd → IncludesAreThere hd lines → ListedAreThere hd lines
 
--- Files of pairs show the disks of a world that stands.
-abbrev pub FilesShowDisks : Type 0
-FilesShowDisks = (hd : Header) (sent : List Post) (w : World) (disks : Disks) → HeaderInForm hd → Stands hd sent w → IncludesAreThere hd w.lines → FilesAre (see sent w) disks → AreShown hd w.lines (see sent w) disks
+-- Readings of the disks of a world that stands show its pairs.
+abbrev pub ReadingsShowPairs : Type 0
+ReadingsShowPairs = (hd : Header) (sent : List Post) (w : World) (disks : Disks) → HeaderInForm hd → Stands hd sent w → IncludesAreThere hd w.lines → DisksAre (see sent w) disks → AreShown hd w.lines (see sent w) disks

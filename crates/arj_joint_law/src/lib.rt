@@ -6,8 +6,8 @@
 //! (`specs/Ordered.antt`), so that by the lock machine its decided writers stand as their commits were called (`specs/Writers.antt`), and
 //! by naming's half of it those that only include a store too (`specs/Includers.antt`), and what stands of the object on disks is of its
 //! class (`specs/Forms.antt`); both machines are there at once, so that decided tops gave to the stores what they wrote
-//! (`specs/Joined.antt`); so files are clean (`specs/Cleaned.antt`), and stores excluded in time
-//! (`specs/Excluded.antt`, `specs/InTime.antt`, by files `specs/FilesInTime.antt`). What one outcome is by a journal is in `specs/Outcome.antt`; what lines say of exclusions
+//! (`specs/Joined.antt`); so disks are clean (`specs/Cleaned.antt`), and stores excluded in time
+//! (`specs/Excluded.antt`, `specs/InTime.antt`, by what disks say `specs/DisksInTime.antt`). What one outcome is by a journal is in `specs/Outcome.antt`; what lines say of exclusions
 //! in `specs/Marked.antt`, and of includes in `specs/Joins.antt`; over which states copies and votes lie in `specs/Based.antt` and
 //! `specs/BasedSteps.antt`. What it gives upward: `runs_begin_as_the_header_says`,
 //! `decisions_come_behind_calls`, `writers_are_called_as_they_are_decided`, `runs_have_form`, `answered_operations_are_in_form`,

@@ -1,7 +1,7 @@
 // One outcome of each top, and that stores are excluded in time, by a journal.
 ghost use Rattle.std.specs.Prelude.{◌≡◌, false};
 ghost use Rattle.arj_joint_law.specs.Excluded.{IsInTime, IsNew, NewWritersAreLast, NodesHaveForm, RunsBeginWithCalls, RunsExcludeInTimeByCalls, SeenRunsExcludeInTime};
-ghost use Rattle.arj_joint_law.specs.FilesInTime.{FileIsInTime, Lists, RunsExcludeFilesInTime};
+ghost use Rattle.arj_joint_law.specs.DisksInTime.{DiskIsInTime, Lists, RunsExcludeInTimeOnDisks};
 ghost use Rattle.arj_joint_law.specs.InTime.{RunsExcludeInTime};
 ghost use Rattle.arj_joint_law.specs.Outcome.{CommitsAreBehind, ShowsOneOutcome, aborts_have_cause, commits_are_behind};
 ghost use Rattle.arj_joint_law.specs.Samples.{decided_lines, disks_decided, disks_late, found_commit, halted_abort, header, its_top, naming_late, naming_node, right_end, store_three, store_two, wrong_abort, wrong_commit, wrong_names_abort};
@@ -25,7 +25,7 @@ pub fn one_outcome_tells_journals_apart()
 
 /// The definition of stores that are excluded in time, tried on what nodes have at the end of a small journal: a store that has the state
 /// prepared and one that is about to be taken out are in time; where the entry without that one isn't prepared, it isn't. The top is new in
-/// the event with its `committed` line, and not later. So it is by the files of such disks. It does nothing when it runs.
+/// the event with its `committed` line, and not later. So it is by what such disks say. It does nothing when it runs.
 pub fn exclusion_in_time_tells_disks_apart()
     ensures prepared { IsInTime header decided_lines 1 naming_node store_two its_top 2 }
     ensures taken_out { IsInTime header decided_lines 1 naming_node store_three its_top 3 }
@@ -33,9 +33,9 @@ pub fn exclusion_in_time_tells_disks_apart()
     ensures new { IsNew 5 decided_lines its_top }
     ensures old { IsNew 6 decided_lines its_top → ⊥ }
     ensures lists { Lists (disks_late 1) 1 3 }
-    ensures file_prepared { FileIsInTime header decided_lines 1 disks_decided its_top 2 }
-    ensures file_taken_out { FileIsInTime header decided_lines 1 disks_decided its_top 3 }
-    ensures file_late { FileIsInTime header decided_lines 1 disks_late its_top 3 → ⊥ }
+    ensures disk_prepared { DiskIsInTime header decided_lines 1 disks_decided its_top 2 }
+    ensures disk_taken_out { DiskIsInTime header decided_lines 1 disks_decided its_top 3 }
+    ensures disk_late { DiskIsInTime header decided_lines 1 disks_late its_top 3 → ⊥ }
 {}
 
 /// Take a world in which each object's disk machine is seen with its decided tops tied to the journal, what stands of objects is of their
@@ -54,12 +54,12 @@ pub fn seen_runs_exclude_in_time()
 {}
 
 /// After each run whose header and events are in form, of at most 1,000,000 events, with all crashes and restarts, and stops wherever disks make
-/// them, stores are excluded in time, on what makes its files clean (`runs_are_clean`), with no premise: by what nodes' pairs have (`pairs`), and
-/// so by the files that are those of its nodes' pairs (`files`), whichever entry naming's hold. That decided tops which count for an object and
+/// them, stores are excluded in time, on what makes its disks clean (`runs_are_clean`), with no premise: by what nodes' pairs have (`pairs`), and
+/// so by what their disks say, however they are read (`disks`), whichever entry naming's holds. That decided tops which count for an object and
 /// only include a store of it had their commits called when whoever wrote the object before them had been said is given
 /// (`decisions_come_behind_calls`); that who has an entry prepared beside a new top, of its root, is committed is given here. So it is after each
 /// event too, since the front of a run is one. It does nothing when it runs.
 pub fn runs_exclude_in_time()
     ensures pairs { RunsExcludeInTime }
-    ensures files { RunsExcludeFilesInTime }
+    ensures disks { RunsExcludeInTimeOnDisks }
 {}

@@ -1,4 +1,4 @@
-// What an object's machine begins with and how it decides, in whole runs, and that files are clean after them.
+// What an object's machine begins with and how it decides, in whole runs, and that disks are clean after them.
 ghost use Rattle.arj_joint_law.specs.Alone.{RunsCallAlone};
 ghost use Rattle.arj_joint_law.specs.Begun.{ObjectsAreThere, RunsBeginSo};
 ghost use Rattle.arj_joint_law.specs.Cleaned.{RunsAreClean};
@@ -7,7 +7,7 @@ ghost use Rattle.arj_joint_law.specs.Joined.{JoinedRunsAreSerial, JoinedRunsAreT
 ghost use Rattle.arj_joint_law.specs.Joins.{RunsSayIncludes};
 ghost use Rattle.arj_joint_law.specs.Marked.{RunsAskMarks, RunsSayMarks};
 ghost use Rattle.arj_joint_law.specs.Ordered.{RunsAreOrdered};
-ghost use Rattle.arj_joint_law.specs.Shown.{FilesShowDisks, IncludesAreListed};
+ghost use Rattle.arj_joint_law.specs.Shown.{ReadingsShowPairs, IncludesAreListed};
 
 /// After each run whose header and events are in form, of at most 1,000,000 events, with all frames that came in any order, again or never,
 /// all crashes and restarts, and stops wherever disks make them, there is for each object of the header a state of its disk machine in which
@@ -35,15 +35,15 @@ pub fn decisions_come_behind_calls()
     ensures includers { RunsTakeTurns }
 {}
 
-/// After each run whose header and events are in form, of at most 1,000,000 events, wherever disks stop, files that are those of its nodes' pairs
-/// are clean, with no premise: of both machines of each object nothing is taken (`runs_have_both_machines`). That decided tops are the journal's,
+/// After each run whose header and events are in form, of at most 1,000,000 events, wherever disks stop, its nodes' disks are clean,
+/// however they are read (`DisksAre`), with no premise: of both machines of each object nothing is taken (`runs_have_both_machines`). That decided tops are the journal's,
 /// that machines began as the header says, that all states are of their class, that decided writers stand as their commits were called, that
 /// decided tops take those stores out of the list that their commits excluded and add those that they included, that who counts for nothing
-/// excludes no store that is listed in its place, and that each include names a node of the header (`listed`), is given here. Which files are
-/// those of the pairs `shown` says. It does nothing when it runs.
+/// excludes no store that is listed in its place, and that each include names a node of the header (`listed`), is given here. What such
+/// readings show of the pairs `shown` says. It does nothing when it runs.
 pub fn runs_are_clean()
     ensures clean { RunsAreClean }
-    ensures shown { FilesShowDisks }
+    ensures shown { ReadingsShowPairs }
     ensures listed { IncludesAreListed }
 {}
 

@@ -6,18 +6,13 @@ use Rattle.arj_base.specs.declared.uid.Uid.{Uid}
 use Rattle.arj_base.specs.State.{state_bytes}
 use Rattle.arj_base.specs.Uid.{object, entry}
 use Rattle.arj_disk.specs.declared.slot.Role.TheVariants.{Store, Names}
-use Rattle.arj_disk.specs.FileMap.{FileMap}
-use Rattle.arj_disk.specs.Says.{held, InDoubt}
 use Rattle.arj_journal.specs.declared.body.Line.{Line}
 use Rattle.arj_journal.specs.declared.header.Header.{Header}
 use Rattle.arj_model.specs.Actions.{Act, Placed, top_in, is_committed, ended, recovered}
 use Rattle.arj_model.specs.Calls.{committings, surviving}
+use Rattle.arj_model.specs.Disks.{Disks, InDoubt, held}
 use Rattle.arj_model.specs.Serial.{run, serial_calls, writes_on}
 use Rattle.arj_model.specs.Last.{first_values, last_state, writes_of, state_after, entry_state, listed, object_line, is_among}
-
--- the files of each node's disk
-abbrev pub Disks : Type 0
-Disks = ℕ → FileMap
 
 -- Naming stands on node 1. Where no prepared action names an object's entry there, it is the entry that the journal gives.
 abbrev pub EntriesAreLast : Header → List Line → Disks → Type 0
@@ -31,8 +26,7 @@ ListedStoresHoldLast header lines disks =
     (x s : ℕ) → is_among (listed header lines x) s ≡ true → (InDoubt (disks 1) Names (entry x) → ⊥) → (InDoubt (disks s) Store (object x) → ⊥)
     → held (disks s) Store (object x) ≡ Some (state_bytes (last_state header lines x))
 
--- Both: what the disks of a run over nodes hold. A run of one node has no entries on its disk today, and claims the second
--- alone.
+-- Both: what the disks of a run over nodes hold.
 pub record Clean (header : Header) (lines : List Line) (disks : Disks) : Type 0 where
   pub entries : EntriesAreLast header lines disks
   pub stores : ListedStoresHoldLast header lines disks

@@ -12,3 +12,4 @@ pub mod Follows
 pub mod Causes
 pub mod Arms
 pub mod Clean
+pub mod Disks

@@ -12,9 +12,10 @@ use Rattle.arj_binding_law.proofs.Events.{as_many}
 use Rattle.arj_call_law.proofs.Reaching.{moves_keep}
 use Rattle.arj_joint_law.proofs.BookRuns.{lists_nodes, runs_keep_the_book}
 use Rattle.arj_joint_law.proofs.Clean.{joined_runs_are_serial, runs_are_clean}
-use Rattle.arj_joint_law.proofs.FilesInTime.{runs_exclude_files}
+use Rattle.arj_joint_law.proofs.DisksInTime.{runs_exclude_on_disks}
 use Rattle.arj_joint_law.proofs.FitRuns.{scripts_in_form}
-use Rattle.arj_joint_law.specs.FitRuns.{IsInForm}
+use Rattle.arj_joint_law.proofs.FitStops.{script_stops}
+use Rattle.arj_joint_law.specs.FitRuns.{IsInForm, IsStoppedInForm}
 use Rattle.arj_held_law.proofs.AlongMoves.{runs_hold_each}
 use Rattle.arj_round_law.specs.Quiet.{AreGivenUp, NobodyWaits}
 use Rattle.arj_round_law.specs.Answered.{HasAnswer, IsPlainIn}
@@ -26,10 +27,10 @@ use Rattle.arj_settle_law.specs.Overtaken.{OnlyOvertakenWait, WaitsOvertaken}
 use Rattle.arj_settle_law.specs.Settled.{EndsQuiet, KnowsPrepared}
 use Rattle.arj_settle_law.proofs.Aborting.{runs_show}
 use Rattle.arj_settle_law.proofs.Idle.{line_tells, quiesces_idle, rounds_idle}
-use Rattle.arj_settle_law.proofs.Last.{idle_files_hold}
+use Rattle.arj_settle_law.proofs.Last.{idle_disks_hold}
 use Rattle.arj_settle_law.proofs.Settled.{handlers_settle}
 use Rattle.arj_settle_law.proofs.Waiting.{quiesces_answer_the_rest, runs_leave_overtaken}
-use Rattle.arj_promise_law.specs.Promise.{CalmQuiescesEndAtRest, EndsAtRest, EndsInQuiesce, EndsInRound, KeptAfterEveryEvent, QuiescesAnswerWhoWaits, QuiescesGiveUpNothing, QuiescesLeaveOvertaken, QuietFilesHoldAll, QuietLinesTell, RoundsEndAtRest, RunsKeepThePromise, ScriptsAreRuns}
+use Rattle.arj_promise_law.specs.Promise.{CalmQuiescesEndAtRest, EndsAtRest, EndsInQuiesce, EndsInRound, KeptAfterEveryEvent, QuiescesAnswerWhoWaits, QuiescesGiveUpNothing, QuiescesLeaveOvertaken, QuietDisksHoldAll, QuietLinesTell, RoundsEndAtRest, RunsKeepThePromise, ScriptsAreRuns}
 
 -- ---- the promise
 
@@ -39,7 +40,7 @@ runs_keep hd ms f = record {
   book = runs_keep_the_book hd ms f;
   held = runs_hold_each hd ms f;
   clean = λ disks are. runs_are_clean hd ms disks f are;
-  in_time = λ disks are. runs_exclude_files hd ms disks f are;
+  in_time = λ disks are. runs_exclude_on_disks hd ms disks f are;
   outcome = runs_show hd ms;
 }
 
@@ -54,6 +55,7 @@ front_in_form hd front rest f = record {
   header = f.header;
   events = all_front (λ (m : Move). let e = m.asked in EventInForm e.event) front rest f.events;
   few = omega (arith, f.few, length-append front rest);
+  stops = all_front IsStoppedInForm front rest f.stops;
 }
 
 pub fronts_keep : KeptAfterEveryEvent
@@ -61,21 +63,21 @@ fronts_keep hd front rest f = let g = front_in_form hd front rest f in (g, runs_
 
 pub scripts_run : ScriptsAreRuns
 scripts_run hd es form fit short = (
-  record { header = form; events = scripts_in_form es (format hd) fit; few = subst (λ n. n ≤ most_events) (sym (as_many es (format hd))) short },
+  record { header = form; events = scripts_in_form es (format hd) fit; few = subst (λ n. n ≤ most_events) (sym (as_many es (format hd))) short; stops = script_stops es (format hd) fit tt },
   scripts_are_moves hd es,
 )
 
 -- ---- quiesces
 
 -- where every node is idle, clean files hold the last states
-pub quiet_hold : QuietFilesHoldAll
+pub quiet_hold : QuietDisksHoldAll
 quiet_hold hd ms disks f idle are = record { entries = held.entries; stores = λ x s listed. held.stores x s listed (lists_nodes hd f.header (world_by hd ms) (moves_keep hd ms) x s listed).0 }
   where
     h : Holds hd (KnowsPrepared hd) (world_by hd ms)
     h = moves_asked hd (KnowsPrepared hd) (handlers_settle hd f.header).0 ms
 
     held : HoldTheLast hd (journal_by hd ms) disks
-    held = idle_files_hold hd (journal_by hd ms) h.sent (world_by hd ms) disks f.header h.stands idle are (runs_are_clean hd ms disks f are)
+    held = idle_disks_hold hd (journal_by hd ms) h.sent (world_by hd ms) disks f.header h.stands idle are (runs_are_clean hd ms disks f are)
 
 -- where the run has so ended
 at_rest : (hd : Header) (ms : List Move) → IsInForm hd ms → EndsQuiet (world_by hd ms) → EndsAtRest hd ms

@@ -2,7 +2,8 @@
 use Rattle.std.specs.Prelude.{◌≡◌, ◌≤◌, ◌⊎◌, ℕ, true, false, List, [], ◌∷◌, ◌++◌, Some, None, length}
 use Rattle.std.specs.List.{AllByRecursion}
 use Rattle.arj_journal.specs.ScriptForm.{HeaderInForm}
-use Rattle.arj_model.specs.Clean.{Clean, Disks}
+use Rattle.arj_model.specs.Clean.{Clean}
+use Rattle.arj_model.specs.Disks.{Disks}
 use Rattle.arj_model.specs.Last.{first_values}
 use Rattle.arj_protocol.specs.Words.{Header, Line, Uid}
 use Rattle.arj_protocol.specs.Words.body
@@ -16,10 +17,10 @@ use Rattle.arj_view_law.specs.Seen.{see}
 use Rattle.arj_binding_law.specs.Scripts.{most_events}
 use Rattle.arj_serial_law.specs.Seen.{IsSerialBy}
 use Rattle.arj_joint_law.specs.Booked.{KeepsTheBook}
-use Rattle.arj_joint_law.specs.FilesInTime.{FilesAreInTime}
+use Rattle.arj_joint_law.specs.DisksInTime.{DisksAreInTime}
 use Rattle.arj_joint_law.specs.FitRuns.{AreEventsInForm, IsInForm}
 use Rattle.arj_joint_law.specs.Outcome.{ShowsOneOutcome}
-use Rattle.arj_joint_law.specs.Shown.{FilesAre}
+use Rattle.arj_joint_law.specs.Shown.{DisksAre}
 use Rattle.arj_held_law.specs.Along.{HoldsEach}
 use Rattle.arj_round_law.specs.Quiet.{AreGivenUp, AreQuiet, IsGiveUp, NobodyWaits}
 use Rattle.arj_round_law.specs.Answered.{HasAnswer, IsPlainIn}
@@ -29,9 +30,9 @@ use Rattle.arj_settle_law.specs.Overtaken.{OnlyOvertakenWait, WaitsOvertaken}
 use Rattle.arj_settle_law.specs.Settled.{EndsQuiet}
 use Rattle.arj_promise_law.specs.Resting.{HoldAllStates}
 
--- these are the files that the nodes' disks have at its end
-abbrev pub HasFiles : Header → List Move → Disks → Type 0
-HasFiles hd ms disks = FilesAre (see [] (world_by hd ms)) disks
+-- these are the readings of the nodes' disks at its end
+abbrev pub HasDisks : Header → List Move → Disks → Type 0
+HasDisks hd ms disks = DisksAre (see [] (world_by hd ms)) disks
 
 -- ---- the promise
 
@@ -39,15 +40,15 @@ HasFiles hd ms disks = FilesAre (see [] (world_by hd ms)) disks
 -- commit; and the lock book is kept: calls that conflict stand in that order, each behind the call of the commit of the earlier one's top, or, within
 -- one top, behind the commits of the earlier one's actions; and each is answered by the writes before it. Until the commit of its unit's last member
 -- is called, each surviving call of a committed top is locked for by the journal's tables at each line, and its object's entry is locked by the
--- unit's root or a top of it, and for a surviving include for writing. The disks' files are clean. Of each object that a top wrote which the last
--- event committed, the files of each store that the entry in naming's files lists hold the last state, or have it prepared for that top, or it is
--- about to be taken out. And what is done as committed was decided before, while an abort of what was decided has a cause.
+-- unit's root or a top of it, and for a surviving include for writing. The disks are clean. Of each object that a top wrote which the last
+-- event committed, each store that the entry on naming's disk lists holds the last state, or has it prepared for that top, or is about to be
+-- taken out. And what is done as committed was decided before, while an abort of what was decided has a cause.
 pub record KeepsThePromise (hd : Header) (ms : List Move) : Type 0 where
   pub serial : IsSerialBy hd (journal_by hd ms)
   pub book : KeepsTheBook (first_values hd) (journal_by hd ms)
   pub held : HoldsEach (journal_by hd ms)
-  pub clean : (disks : Disks) → HasFiles hd ms disks → Clean hd (journal_by hd ms) disks
-  pub in_time : (disks : Disks) → HasFiles hd ms disks → FilesAreInTime hd (let w = world_by hd ms in w.event) (journal_by hd ms) disks
+  pub clean : (disks : Disks) → HasDisks hd ms disks → Clean hd (journal_by hd ms) disks
+  pub in_time : (disks : Disks) → HasDisks hd ms disks → DisksAreInTime hd (let w = world_by hd ms in w.event) (journal_by hd ms) disks
   pub outcome : ShowsOneOutcome (journal_by hd ms)
 
 -- so does every run in form
@@ -89,16 +90,16 @@ QuiescesAnswerWhoWaits = (hd : Header) (ms before : List Move) → IsInForm hd m
 abbrev pub QuiescesGiveUpNothing : Type 0
 QuiescesGiveUpNothing = (hd : Header) (ms before : List Move) → EndsInQuiesce hd ms before → (more : List Line) × (journal_by hd ms ≡ journal_by hd before ++ more) × AllByRecursion (IsPlainIn (world_by hd ms)) more
 
--- Wherever every node is idle, with no record and nothing prepared, files hold every entry and, at each listed store, every last state, with no
+-- Wherever every node is idle, with no record and nothing prepared, disks hold every entry and, at each listed store, every last state, with no
 -- exception.
-abbrev pub QuietFilesHoldAll : Type 0
-QuietFilesHoldAll = (hd : Header) (ms : List Move) (disks : Disks) → IsInForm hd ms → AreQuiet (world_by hd ms) → HasFiles hd ms disks → HoldAllStates hd (journal_by hd ms) disks
+abbrev pub QuietDisksHoldAll : Type 0
+QuietDisksHoldAll = (hd : Header) (ms : List Move) (disks : Disks) → IsInForm hd ms → AreQuiet (world_by hd ms) → HasDisks hd ms disks → HoldAllStates hd (journal_by hd ms) disks
 
--- There is nothing left to do: every node is idle, with no record and nothing prepared, and the journal's last line says so; files hold every entry
+-- There is nothing left to do: every node is idle, with no record and nothing prepared, and the journal's last line says so; disks hold every entry
 -- and, at each listed store, every last state, with no exception.
 pub record EndsAtRest (hd : Header) (ms : List Move) : Type 0 where
   pub quiet : EndsQuiet (world_by hd ms)
-  pub last : (disks : Disks) → HasFiles hd ms disks → HoldAllStates hd (journal_by hd ms) disks
+  pub last : (disks : Disks) → HasDisks hd ms disks → HoldAllStates hd (journal_by hd ms) disks
 
 -- nobody waits, and no frame is open
 abbrev pub IsCalm : World → Type 0

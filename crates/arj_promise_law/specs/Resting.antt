@@ -1,10 +1,9 @@
--- What files hold where a run ends at rest, with no exception.
+-- What disks hold where a run ends at rest, with no exception.
 use Rattle.std.specs.Prelude.{◌≡◌, ℕ, true, List, Some, is_some}
 use Rattle.arj_base.specs.State.{state_bytes}
 use Rattle.arj_base.specs.Uid.{entry, object}
-use Rattle.arj_disk.specs.Says.{held}
 use Rattle.arj_disk.specs.declared.slot.Role.TheVariants.{Names, Store}
-use Rattle.arj_model.specs.Clean.{Disks}
+use Rattle.arj_model.specs.Disks.{Disks, held}
 use Rattle.arj_model.specs.Last.{entry_state, is_among, last_state, listed, object_line}
 use Rattle.arj_protocol.specs.Words.{Header, Line}
 

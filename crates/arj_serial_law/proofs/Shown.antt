@@ -1,18 +1,19 @@
--- Files that show clean disks are clean.
+-- Readings that show clean disks are clean.
 use Rattle.std.proofs.Common.{◌≡◌, ℕ, true, List, is_some, ◌∙◌, ap}
 use Rattle.std.specs.Prelude.{option_map}
 use Rattle.arj_base.specs.State.{state_bytes}
 use Rattle.arj_base.specs.Uid.{entry, object}
 use Rattle.arj_journal.specs.declared.body.Line.{Line}
 use Rattle.arj_journal.specs.declared.header.Header.{Header}
-use Rattle.arj_model.specs.Clean.{Clean, Disks}
+use Rattle.arj_model.specs.Clean.{Clean}
+use Rattle.arj_model.specs.Disks.{Disks}
 use Rattle.arj_model.specs.Last.{object_line}
 use Rattle.arj_view_law.specs.Seen.{Seen}
 use Rattle.arj_serial_law.specs.Cleaned.{IsCleanIn}
-use Rattle.arj_serial_law.specs.Files.{AreShown}
+use Rattle.arj_serial_law.specs.Readings.{AreShown}
 
-pub files_clean : (header : Header) (lines : List Line) (M : Seen) (disks : Disks) → ((x : ℕ) → is_some (object_line header x) ≡ true → IsCleanIn header lines x M) → AreShown header lines M disks → Clean header lines disks
-files_clean header lines M disks clean shown = record {
+pub readings_clean : (header : Header) (lines : List Line) (M : Seen) (disks : Disks) → ((x : ℕ) → is_some (object_line header x) ≡ true → IsCleanIn header lines x M) → AreShown header lines M disks → Clean header lines disks
+readings_clean header lines M disks clean shown = record {
   entries = λ x has free.
       let n = shown.naming in
       let p = shown.names n.0 n.1 in

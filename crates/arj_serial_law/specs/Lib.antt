@@ -1,8 +1,8 @@
 pub mod Cleaned
 pub mod Codes
 pub mod Decided
-pub mod Files
 pub mod Locked
+pub mod Readings
 pub mod Runs
 pub mod Seen
 pub mod Tied

@@ -11,12 +11,13 @@ ghost use Rattle.arj_line_law.specs.Right.{AreRight};
 ghost use Rattle.arj_lock_law.specs.State.{State};
 ghost use Rattle.arj_model.specs.Actions.{acts};
 ghost use Rattle.arj_model.specs.Calls.{Top, tops};
-ghost use Rattle.arj_model.specs.Clean.{Clean, Disks};
+ghost use Rattle.arj_model.specs.Clean.{Clean};
+ghost use Rattle.arj_model.specs.Disks.{Disks};
 ghost use Rattle.arj_model.specs.Last.{entry_state, first_values, last_state, listed, object_line, uid_of_id};
 ghost use Rattle.arj_model.specs.Serial.{Values};
 ghost use Rattle.arj_serial_law.specs.Cleaned.{BeginsSo, IsCleanIn, HaveForm};
 ghost use Rattle.arj_serial_law.specs.Decided.{AreDecided, DecideChanges, VotedSo, WroteSo};
-ghost use Rattle.arj_serial_law.specs.Files.{AreShown};
+ghost use Rattle.arj_serial_law.specs.Readings.{AreShown};
 ghost use Rattle.arj_serial_law.specs.Tied.{AreTied, IsTied};
 ghost use Rattle.arj_view_law.specs.Seen.{Seen};
 
@@ -58,8 +59,8 @@ pub fn seen_disks_are_clean()
         → SeesDisks x kinds W M → AreDecided header lines x W.disk.tops → BeginsSo header x W.disk → HaveForm header x M → IsCleanIn header lines x M }
 {}
 
-/// And files that show such disks, of all objects of the header, are clean as `arj_model` has it. It does nothing when it runs.
-pub fn files_of_clean_disks_are_clean()
+/// And readings that show such disks, of all objects of the header, are clean as `arj_model` has it. It does nothing when it runs.
+pub fn readings_of_clean_disks_are_clean()
     ensures { (header : Header) (lines : List Line) (M : Seen) (disks : Disks) → ((x : ℕ) → is_some (object_line header x) ≡ true → IsCleanIn header lines x M)
         → AreShown header lines M disks → Clean header lines disks }
 {}

@@ -19,8 +19,9 @@ mod serial;
 mod turns;
 
 pub use decided::{
-    decisions_make_the_last_entry, decisions_make_the_last_state, files_of_clean_disks_are_clean,
-    locks_give_the_order_of_decisions, seen_disks_are_clean, votes_give_what_was_written,
+    decisions_make_the_last_entry, decisions_make_the_last_state,
+    locks_give_the_order_of_decisions, readings_of_clean_disks_are_clean, seen_disks_are_clean,
+    votes_give_what_was_written,
 };
 pub use locked::{
     tied_calls_are_locked_for, tied_includes_are_locked_for, tied_journals_hold_locks,

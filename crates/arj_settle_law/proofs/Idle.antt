@@ -49,7 +49,7 @@ line_said s = by s.full refl
     by true full over = let no_way : true ≡ false = (λ i. (cond (sym full i) (says (body.Limit which.Frames ∷ []) (record s { over = true })) s).over) ∙ over in absurd (cc no_way)
     by false full over = subst Said (λ i. cond (sym full i) (says (body.Limit which.Frames ∷ []) (record (says (body.Quiet (is_quiet s) ∷ []) s) { over = true })) (says (body.Quiet (is_quiet s) ∷ []) s)) (s.lines, refl)
 
-quiesce_said : (e : Asked) (w : World) → e.event ≡ event.Quiesce → w.over ≡ false → (run_event e w).over ≡ false → Said (run_event e w)
+pub quiesce_said : (e : Asked) (w : World) → e.event ≡ event.Quiesce → w.over ≡ false → (run_event e w).over ≡ false → Said (run_event e w)
 quiesce_said e w is over last = subst Said (sym run_is) (line_said (settle (tick_all (node_numbers (counted w)) (settle (counted w)))) (ap (λ (v : World). v.over) (sym run_is) ∙ last))
   where
     run_is : run_event e w ≡ limited (quiesce (counted w))

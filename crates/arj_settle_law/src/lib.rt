@@ -5,7 +5,7 @@
 //! what is known of records (`arj_disk_run_law`), of coordinators and what they sent (`arj_lock_fact_law`), of addresses
 //! (`arj_address_law`) and of whoever waits (`arj_wait_law`), and on what a round leaves where all this is taken as known
 //! (`arj_round_law`). It gives upward `whoever_is_prepared_settles`, `quiesces_leave_nodes_idle` and `rounds_leave_nodes_idle`
-//! (`specs/Settled.antt`), `only_overtaken_calls_wait` (`specs/Overtaken.antt`), and `files_of_idle_nodes_hold_the_last` (`specs/Last.antt`).
+//! (`specs/Settled.antt`), `only_overtaken_calls_wait` (`specs/Overtaken.antt`), and `disks_of_idle_nodes_hold_the_last` (`specs/Last.antt`).
 //! Of each store that a list names (naming's, an answer's, a call's) the object is committed, or a decided top includes it
 //! (`proofs/ListingRuns.antt`); and of a decided top each included store has the object committed, or has it prepared and the top's record
 //! lists it (`proofs/StockRuns.antt`). So a store that a call asks for a state has one.
@@ -22,6 +22,6 @@ mod settles;
 
 pub use outcomes::runs_show_one_outcome;
 pub use settles::{
-    files_of_idle_nodes_hold_the_last, only_overtaken_calls_wait, quiesces_leave_nodes_idle,
+    disks_of_idle_nodes_hold_the_last, only_overtaken_calls_wait, quiesces_leave_nodes_idle,
     rounds_leave_nodes_idle, whoever_is_prepared_settles,
 };

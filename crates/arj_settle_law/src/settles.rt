@@ -1,5 +1,5 @@
 // What a quiesce and the stated round leave, in every run.
-ghost use Rattle.arj_settle_law.specs.Last.{IdleFilesHoldTheLast};
+ghost use Rattle.arj_settle_law.specs.Last.{IdleDisksHoldTheLast};
 ghost use Rattle.arj_settle_law.specs.Overtaken.{QuiescesAnswerTheRest, RunsLeaveOvertaken};
 ghost use Rattle.arj_settle_law.specs.Settled.{HandlersSettle, QuiescesIdle, RoundsIdle};
 
@@ -33,8 +33,8 @@ pub fn rounds_leave_nodes_idle()
     ensures { RoundsIdle }
 {}
 
-/// Where every node is idle and files are clean, each entry and each listed store holds its last committed state, with no exception:
+/// Where every node is idle and disks are clean, each entry and each listed store holds its last committed state, with no exception:
 /// nothing is in doubt. It does nothing when it runs.
-pub fn files_of_idle_nodes_hold_the_last()
-    ensures { IdleFilesHoldTheLast }
+pub fn disks_of_idle_nodes_hold_the_last()
+    ensures { IdleDisksHoldTheLast }
 {}

@@ -1,4 +1,4 @@
-use Rattle.arj_joint_law.proofs.InTime.{file_lists, file_three_in_time, file_three_late, file_two_in_time, is_new, is_old, three_in_time, three_late, two_in_time}
+use Rattle.arj_joint_law.proofs.InTime.{disk_lists, disk_three_in_time, disk_three_late, disk_two_in_time, is_new, is_old, three_in_time, three_late, two_in_time}
 use Rattle.arj_joint_law.proofs.outcomes.exclusion_in_time_tells_disks_apart.Goals as goal
 
 pub returns-clause-prepared : goal.returns-clause-prepared
@@ -17,13 +17,13 @@ pub returns-clause-old : goal.returns-clause-old
 returns-clause-old c = is_old
 
 pub returns-clause-lists : goal.returns-clause-lists
-returns-clause-lists c = file_lists
+returns-clause-lists c = disk_lists
 
-pub returns-clause-file_prepared : goal.returns-clause-file_prepared
-returns-clause-file_prepared c = file_two_in_time
+pub returns-clause-disk_prepared : goal.returns-clause-disk_prepared
+returns-clause-disk_prepared c = disk_two_in_time
 
-pub returns-clause-file_taken_out : goal.returns-clause-file_taken_out
-returns-clause-file_taken_out c = file_three_in_time
+pub returns-clause-disk_taken_out : goal.returns-clause-disk_taken_out
+returns-clause-disk_taken_out c = disk_three_in_time
 
-pub returns-clause-file_late : goal.returns-clause-file_late
-returns-clause-file_late c = file_three_late
+pub returns-clause-disk_late : goal.returns-clause-disk_late
+returns-clause-disk_late c = disk_three_late

@@ -1,13 +1,13 @@
 use Rattle.arj_joint_law.proofs.Clean.{runs_are_clean}
 use Rattle.arj_joint_law.proofs.Listing.{all_there}
-use Rattle.arj_joint_law.proofs.Showing.{files_show_disks}
+use Rattle.arj_joint_law.proofs.Showing.{readings_show_pairs}
 use Rattle.arj_joint_law.proofs.runs.runs_are_clean.Goals as goal
 
 pub returns-clause-clean : goal.returns-clause-clean
 returns-clause-clean c = runs_are_clean
 
 pub returns-clause-shown : goal.returns-clause-shown
-returns-clause-shown c = files_show_disks
+returns-clause-shown c = readings_show_pairs
 
 pub returns-clause-listed : goal.returns-clause-listed
 returns-clause-listed c hd lines form includes x s among = all_there hd lines form includes x s among
