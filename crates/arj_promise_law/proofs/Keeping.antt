@@ -71,7 +71,7 @@ scripts_run hd es form fit short = (
 
 -- where every node is idle, clean files hold the last states
 pub quiet_hold : QuietDisksHoldAll
-quiet_hold hd ms disks f idle are = record { entries = held.entries; stores = λ x s listed. held.stores x s listed (lists_nodes hd f.header (world_by hd ms) (moves_keep hd ms) x s listed).0 }
+quiet_hold hd ms disks f idle are = record { entries = held.entries; stores = λ x s listed. held.stores x s listed (lists_nodes hd f.header (world_by hd ms) (moves_keep hd ms) x s listed).0; nothing = held.nothing }
   where
     h : Holds hd (KnowsPrepared hd) (world_by hd ms)
     h = moves_asked hd (KnowsPrepared hd) (handlers_settle hd f.header).0 ms
