@@ -1,4 +1,4 @@
--- What runs show, and that a line outside of events takes nothing of it.
+-- A line outside of events takes nothing of what a run shows.
 use Rattle.std.proofs.Common.{◌≡◌, ◌⊎◌, inl, inr, ⊎_elim, ◌<◌, ◌≤◌, ◌++◌, ◌==◌, ◌&&◌, nat_lt, ℕ, zero, suc, Bool, true, false, cond, not, List, [], ◌∷◌, Option, Some, None, map, length, refl, sym, ◌∙◌, ap, subst, append-nil, filter}
 use Rattle.std.specs.Prelude.{Contains, take}
 use Rattle.std.specs.List.{AllByRecursion, filter_map, list_all, list_any}
@@ -16,7 +16,8 @@ use Rattle.arj_law.proofs.Common.{all_map}
 use Rattle.arj_law.proofs.Reading.{quiet_calls, quiet_serial, quiet_tops, read_none}
 use Rattle.arj_model.specs.Actions.{Act, Placed, acts, acts_after, acts_from, begun_of, committed, committed_of, is_committed, recovered, recovered_of, top_in, chain_in, has_end, root_in}
 use Rattle.arj_model.specs.Calls.{Call, Top, committed_calls, said, said_of, tops}
-use Rattle.arj_model.specs.Clean.{Clean, Disks}
+use Rattle.arj_model.specs.Clean.{Clean}
+use Rattle.arj_model.specs.Disks.{Disks, Reading}
 use Rattle.arj_model.specs.Last.{changers, entry_payload, entry_state, excluded, excluded_of, first_values, included, included_of, increasing, is_among, joins_by, joins_of, last_changer, last_state, leaves_of, listed, listed_after, listed_from, object_line, same_list, serial_tops, servers_of_line, state_after, stores_of_line, uid_of_id, Inclusion}
 use Rattle.arj_model.specs.Serial.{Answers, Serial, Values, arrange, lex, run, serial_calls, serial_key, serial_less, root_of, top_place, unit_place, writes_on}
 use Rattle.arj_model.specs.Table.{table_from, table_step, up_step, path_by}
@@ -27,18 +28,18 @@ use Rattle.arj_serial_law.specs.Seen.{IsSerialBy}
 use Rattle.arj_joint_law.specs.Booked.{KeepsTheBook}
 use Rattle.arj_joint_law.specs.Outcome.{ShowsOneOutcome, aborts_have_cause, commits_are_behind, each_behind, has_cause_to_abort, is_behind_decision, is_said}
 use Rattle.arj_class.specs.Table.{is_write, writes}
-use Rattle.arj_disk.specs.FileMap.{FileMap}
+use Rattle.arj_disk.specs.declared.disk.Disk as disk
+use Rattle.arj_journal.specs.declared.event.Event.{Event}
+use Rattle.arj_nodes.specs.AllNodes.{Task}
+use Rattle.arj_promise_law.specs.Resting.{HoldAllStates}
 use Rattle.arj_disk.specs.declared.slot.Role.TheVariants as role
 use Rattle.arj_held_law.specs.Along.{HoldsEach}
 use Rattle.arj_serial_law.specs.Locked.{IsWrittenIn, caller_at, is_number, joins_top, joins_with, locks_call, locks_entry, writes_entry}
 use Rattle.arj_joint_law.specs.Excluded.{lines_before, uid_of}
-use Rattle.arj_joint_law.specs.FilesInTime.{FileTakesOut, FilesAreInTime, HasPrepared}
-use Rattle.arj_view_law.specs.Moves.{Move, journal_by, world_by}
-use Rattle.arj_view_law.specs.Seen.{see}
-use Rattle.arj_joint_law.specs.FitRuns.{IsInForm}
-use Rattle.arj_joint_law.specs.Shown.{FilesAre}
-use Rattle.arj_promise_law.proofs.Keeping.{runs_keep}
-use Rattle.arj_nodes_law.specs.Last.{EndsBehind, FilesStay, IsLast, LinesStay, ShowsByFiles, ShowsByLines, ends_run}
+use Rattle.arj_joint_law.specs.DisksInTime.{DiskTakesOut, DisksAreInTime, HasPrepared}
+use Rattle.arj_nodes_law.specs.Last.{EndsBehind, IsLast, ends_run}
+use Rattle.arj_nodes_law.specs.Promised.{EndsIdle, PromisesStay, ShowsThePromise}
+use Rattle.arj_nodes_law.specs.Readings.{Reads, readings_of}
 
 -- ---- what is read of the line
 
@@ -114,6 +115,19 @@ cut_more e (k ∷ lines) l = by (nat_lt k.event e) (cut_more e lines l)
         → (cond b (k ∷ lines_before e (more lines l)) [] ≡ cond b (k ∷ lines_before e lines) []) ⊎ (cond b (k ∷ lines_before e (more lines l)) [] ≡ more (cond b (k ∷ lines_before e lines) []) l)
     by true cut = ⊎_elim (λ same. inl (ap (λ ks. k ∷ ks) same)) (λ one. inr (ap (λ ks. k ∷ ks) one)) cut
     by false cut = inl refl
+
+-- lists that end alike have like fronts
+pub one_behind : {A : Type 0} (xs ys : List A) (x y : A) → xs ++ x ∷ [] ≡ ys ++ y ∷ [] → (xs ≡ ys) × (x ≡ y)
+one_behind [] [] x y same = (refl, cc same)
+one_behind [] (b ∷ []) x y same = absurd (cc same)
+one_behind [] (b ∷ c ∷ ys) x y same = absurd (cc same)
+one_behind (a ∷ []) [] x y same = absurd (cc same)
+one_behind (a ∷ c ∷ xs) [] x y same = absurd (cc same)
+one_behind (a ∷ xs) (b ∷ ys) x y same = let r = one_behind xs ys x y (cc same) in let first : a ≡ b = cc same in ((λ i. first i ∷ r.0 i), r.1)
+
+pub two_behind : {A : Type 0} (xs : List A) (x y : A) → xs ++ x ∷ y ∷ [] ≡ (xs ++ x ∷ []) ++ y ∷ []
+two_behind [] x y = refl
+two_behind (a ∷ xs) x y = ap (λ zs. a ∷ zs) (two_behind xs x y)
 
 module _ (lines : List Line) (l : Line) (is : ends_run l.body ≡ true) where
   acts_same : acts (more lines l) ≡ acts lines
@@ -285,19 +299,19 @@ module _ (lines : List Line) (l : Line) (is : ends_run l.body ≡ true) where
   uid_same : (t : Top) → uid_of (more lines l) t ≡ uid_of lines t
   uid_same t = (λ i. uid_of_id (acts_same lines l is i) t.id)
 
-  takes_more : (x : ℕ) (file : FileMap) (t : Top) (s : ℕ) → FileTakesOut lines x file t s → FileTakesOut (more lines l) x file t s
-  takes_more x file t s o = record {
+  takes_more : (x : ℕ) (read : Reading) (t : Top) (s : ℕ) → DiskTakesOut lines x read t s → DiskTakesOut (more lines l) x read t s
+  takes_more x read t s o = record {
     by_top = o.by_top;
     committed = subst (λ ts. Contains ts o.by_top) (sym tops_same) o.committed;
     unit = o.unit;
     new = o.new;
     form = o.form;
     of = o.of;
-    prepared = subst (λ u. HasPrepared file role.Names u o.new) (sym (uid_same o.by_top)) o.prepared;
+    prepared = subst (λ u. HasPrepared read role.Names u o.new) (sym (uid_same o.by_top)) o.prepared;
     lacks = o.lacks;
   }
 
-  time_more : (hd : Header) (e : ℕ) (disks : Disks) → FilesAreInTime hd e lines disks → FilesAreInTime hd e (more lines l) disks
+  time_more : (hd : Header) (e : ℕ) (disks : Disks) → DisksAreInTime hd e lines disks → DisksAreInTime hd e (more lines l) disks
   time_more hd e disks in_time t x s new wrote lists =
       ⊎_elim (λ holds. inl (holds ∙ (λ i. Some (state_bytes (sym (last_same hd x) i)))))
       (λ other. inr (⊎_elim (λ prepared. inl (subst (λ (p : Uid × ObjectState). HasPrepared (disks s) role.Store p.0 p.1) (λ i. (sym (uid_same t) i, sym (last_same hd x) i)) prepared)) (λ out. inr (takes_more x (disks 1) t s out)) other))
@@ -309,16 +323,45 @@ module _ (lines : List Line) (l : Line) (is : ends_run l.body ≡ true) where
       before : is_said (lines_before e lines) (uid_of lines t) ≡ false
       before = ⊎_elim (λ same. (λ i. is_said (sym same i) (uid_of lines t)) ∙ was) (λ one. sym (said_same_of (lines_before e lines) l is (uid_of lines t)) ∙ ((λ i. is_said (sym one i) (uid_of lines t)) ∙ was)) (cut_more e lines l)
 
-  lines_more : (hd : Header) → ShowsByLines hd lines → ShowsByLines hd (more lines l)
-  lines_more hd shows = record {
-    serial = serial_more hd shows.serial;
-    book = book_more (first_values hd) shows.book;
-    held = holds_more shows.held;
-    outcome = record { commits = each_more is_behind_decision ends_behind [] lines l is ∙ shows.outcome.commits; aborts = each_more has_cause_to_abort ends_cause [] lines l is ∙ shows.outcome.aborts };
+  outcome_more : ShowsOneOutcome lines → ShowsOneOutcome (more lines l)
+  outcome_more o = record { commits = each_more is_behind_decision ends_behind [] lines l is ∙ o.commits; aborts = each_more has_cause_to_abort ends_cause [] lines l is ∙ o.aborts }
+
+  -- ---- at rest
+
+  rest_more : (hd : Header) (disks : Disks) → HoldAllStates hd lines disks → HoldAllStates hd (more lines l) disks
+  rest_more hd disks held = record {
+    entries = λ x there. held.entries x there ∙ (λ i. Some (state_bytes (sym (entry_same hd x) i)));
+    stores = λ x s among. held.stores x s ((λ i. is_among (sym (listed_same hd x) i) s) ∙ among) ∙ (λ i. Some (state_bytes (sym (last_same hd x) i)));
+    nothing = held.nothing;
   }
 
-  files_more : (hd : Header) (e : ℕ) (disks : Disks) → ShowsByFiles hd e lines disks → ShowsByFiles hd e (more lines l) disks
-  files_more hd e disks shows = record { clean = clean_more hd disks shows.clean; in_time = time_more hd e disks shows.in_time }
+  -- whoever says that every node is idle says it before the line
+  idle_before : (events : List Event) → EndsIdle events (more lines l) → EndsIdle events lines
+  idle_before events e = by e.last e.outside e.line
+    where
+      by : (last : List Line) → IsLast last → more lines l ≡ e.front ++ record { event = e.number; body = body.Quiet true } ∷ last → EndsIdle events lines
+      by [] out same = let m : l ≡ record { event = e.number; body = body.Quiet true } = (one_behind lines e.front l (record { event = e.number; body = body.Quiet true }) same).1 in absurd (let no : true ≡ false = sym is ∙ ap (λ (z : Line). ends_run z.body) m in cc)
+      by (k ∷ []) out same = record {
+        before = e.before;
+        are = e.are;
+        front = e.front;
+        number = e.number;
+        last = [];
+        outside = tt;
+        line = (one_behind lines (e.front ++ record { event = e.number; body = body.Quiet true } ∷ []) l k (same ∙ two_behind e.front (record { event = e.number; body = body.Quiet true }) k)).0;
+      }
+      by (k ∷ m ∷ ks) out same = absurd out
+
+  promise_more : {D : Type 0} (d : disk.Ghosts D) (read : Reads) (t : Task D) (over : Bool) (rack : List D) → ShowsThePromise d read t over lines rack → ShowsThePromise d read t over (more lines l) rack
+  promise_more d read t over rack shows = record {
+    serial = serial_more t.header shows.serial;
+    book = book_more (first_values t.header) shows.book;
+    held = holds_more shows.held;
+    outcome = outcome_more shows.outcome;
+    clean = clean_more t.header (readings_of d read rack) shows.clean;
+    in_time = time_more t.header (length t.events) (readings_of d read rack) shows.in_time;
+    rest = λ going idle. rest_more t.header (readings_of d read rack) (shows.rest going (idle_before t.events idle));
+  }
 
 -- what holds of a journal, and of one with such a line more, holds of one that ends so
 ends_so : (P : List Line → Type 0) → ((lines : List Line) (l : Line) → ends_run l.body ≡ true → P lines → P (more lines l)) → (core journal : List Line) → EndsBehind core journal → P core → P journal
@@ -329,16 +372,5 @@ ends_so P one core journal (last, is, are) p = subst P (sym are) (by last is)
     by (l ∷ []) is = one core l is p
     by (l ∷ m ∷ ls) is = absurd is
 
-pub lines_stay : LinesStay
-lines_stay hd core journal ends shows = ends_so (ShowsByLines hd) (λ lines l is p. lines_more lines l is hd p) core journal ends shows
-
-pub files_stay : FilesStay
-files_stay hd events core journal disks ends shows = ends_so (λ ls. ShowsByFiles hd events ls disks) (λ lines l is p. files_more lines l is hd events disks p) core journal ends shows
-
--- ---- runs
-
-pub lines_show : (hd : Header) (ms : List Move) → IsInForm hd ms → ShowsByLines hd (journal_by hd ms)
-lines_show hd ms form = let k = runs_keep hd ms form in record { serial = k.serial; book = k.book; held = k.held; outcome = k.outcome }
-
-pub files_show : (hd : Header) (ms : List Move) (disks : Disks) → IsInForm hd ms → FilesAre (see [] (world_by hd ms)) disks → ShowsByFiles hd (let w = world_by hd ms in w.event) (journal_by hd ms) disks
-files_show hd ms disks form files = let k = runs_keep hd ms form in record { clean = k.clean disks files; in_time = k.in_time disks files }
+pub promises_stay : {D : Type 0} (d : disk.Ghosts D) → PromisesStay d
+promises_stay d read t over core journal rack ends shows = ends_so (λ ls. ShowsThePromise d read t over ls rack) (λ lines l is p. promise_more lines l is d read t over rack p) core journal ends shows

@@ -1,3 +1,4 @@
+pub mod Banking
 pub mod Ending
 pub mod Reading
 pub mod Turning

@@ -4,7 +4,7 @@ use Rattle.std.specs.List.{AllByRecursion}
 use Rattle.arj_journal.specs.declared.event.Event.{Event}
 use Rattle.arj_journal.specs.declared.header.ObjectLine.{ObjectLine}
 use Rattle.arj_journal.specs.ScriptForm.{EventInForm, HeaderInForm}
-use Rattle.arj_loop.specs.Built.{HaveFormsOf}
+use Rattle.arj_loop.specs.Forms.{HaveForms}
 use Rattle.arj_loop.specs.Input.{header_from}
 use Rattle.arj_protocol.specs.Words.{Header}
 use Rattle.arj_script.specs.Grammar.{Asks, Blank, Fits, Form, Nodes, Object, Objects, Place, PlaceInForm, Run, Running, Start, next_place}
@@ -31,13 +31,13 @@ place_next Running (Object o) fits p = absurd fits
 place_next Running Run fits p = absurd fits
 place_next Running (Asks e) fits p = tt
 
-header_so : (taken : Form → Bool) (lines : List (List ℕ)) (forms : List Form) (place end : Place) (n : ℕ) (os : List ObjectLine) → HaveFormsOf taken place lines forms end → PlaceInForm place → header_from place forms ≡ Some (n, os) → PlaceInForm (Objects n os)
-header_so taken [] [] place end n os have p is = absurd (cc is)
-header_so taken [] (form ∷ forms) place end n os have p is = absurd have
-header_so taken (line ∷ lines) [] place end n os have p is = absurd have
-header_so taken (line ∷ lines) (form ∷ forms) place end n os have p is =
-    let fits = (let h = have.0.has in h.fits) in
-    by place form fits p is (header_so taken lines forms (next_place place form) end n os have.1 (place_next place form fits p))
+header_so : (lines : List (List ℕ)) (forms : List Form) (place end : Place) (n : ℕ) (os : List ObjectLine) → HaveForms place lines forms end → PlaceInForm place → header_from place forms ≡ Some (n, os) → PlaceInForm (Objects n os)
+header_so [] [] place end n os have p is = absurd (cc is)
+header_so [] (form ∷ forms) place end n os have p is = absurd have
+header_so (line ∷ lines) [] place end n os have p is = absurd have
+header_so (line ∷ lines) (form ∷ forms) place end n os have p is =
+    let fits = (let h = have.0 in h.fits) in
+    by place form fits p is (header_so lines forms (next_place place form) end n os have.1 (place_next place form fits p))
   where
     by : (place : Place) (form : Form) → Fits place form → PlaceInForm place → header_from place (form ∷ forms) ≡ Some (n, os) → (header_from (next_place place form) forms ≡ Some (n, os) → PlaceInForm (Objects n os)) → PlaceInForm (Objects n os)
     by Start Blank fits p is rest = rest is
@@ -56,17 +56,17 @@ header_so taken (line ∷ lines) (form ∷ forms) place end n os have p is =
     by Running Run fits p is rest = rest is
     by Running (Asks e) fits p is rest = rest is
 
-pub header_in_form : (taken : Form → Bool) (lines : List (List ℕ)) (forms : List Form) (end : Place) (header : Header) → HaveFormsOf taken Start lines forms end → header_from Start forms ≡ Some (header.nodes, header.objects) → HeaderInForm header
-header_in_form taken lines forms end header have is = let so = header_so taken lines forms Start end header.nodes header.objects have tt is in record { nodes = so.0; objects = so.1 }
+pub header_in_form : (lines : List (List ℕ)) (forms : List Form) (end : Place) (header : Header) → HaveForms Start lines forms end → header_from Start forms ≡ Some (header.nodes, header.objects) → HeaderInForm header
+header_in_form lines forms end header have is = let so = header_so lines forms Start end header.nodes header.objects have tt is in record { nodes = so.0; objects = so.1 }
 
 -- ---- events
 
-pub events_in_form : (taken : Form → Bool) (lines : List (List ℕ)) (forms : List Form) (place end : Place) → HaveFormsOf taken place lines forms end → AllByRecursion EventInForm (events_of forms)
-events_in_form taken [] [] place end have = tt
-events_in_form taken [] (form ∷ forms) place end have = absurd have
-events_in_form taken (line ∷ lines) [] place end have = absurd have
-events_in_form taken (line ∷ lines) (form ∷ forms) place end have =
-    let fits = (let h = have.0.has in h.fits) in by place form fits (events_in_form taken lines forms (next_place place form) end have.1)
+pub events_in_form : (lines : List (List ℕ)) (forms : List Form) (place end : Place) → HaveForms place lines forms end → AllByRecursion EventInForm (events_of forms)
+events_in_form [] [] place end have = tt
+events_in_form [] (form ∷ forms) place end have = absurd have
+events_in_form (line ∷ lines) [] place end have = absurd have
+events_in_form (line ∷ lines) (form ∷ forms) place end have =
+    let fits = (let h = have.0 in h.fits) in by place form fits (events_in_form lines forms (next_place place form) end have.1)
   where
     asked : (place : Place) (e : Event) → Fits place (Asks e) → EventInForm e
     asked Start e fits = absurd fits

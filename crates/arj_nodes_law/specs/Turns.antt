@@ -1,23 +1,19 @@
 -- What nodes run over disks, as runs of moves.
-use Rattle.std.specs.Prelude.{◌≡◌, ◌≤◌, ◌++◌, ℕ, Bool, true, false, List, [], ◌∷◌, Option, Some, None, length, map}
+use Rattle.std.specs.Prelude.{◌≡◌, ◌≤◌, ◌⊎◌, inl, inr, ℕ, Bool, List, [], Some, None, length, map}
 use Rattle.std.specs.List.{AllByRecursion}
 use Rattle.arj_core.specs.declared.node.Core as core
-use Rattle.arj_disk.specs.FileMap.{FileMap}
 use Rattle.arj_disk.specs.declared.disk.Disk as disk
 use Rattle.arj_journal.specs.ScriptForm.{EventInForm, HeaderInForm}
 use Rattle.arj_journal.specs.declared.event.Event.{Event}
-use Rattle.arj_model.specs.Clean.{Disks}
-use Rattle.arj_loop.specs.Replayed.{Answer, Closes, Outside}
+use Rattle.arj_loop.specs.Input.{Arrived}
+use Rattle.arj_loop.specs.Replayed.{Answer, Closes, ComesSoFar, EndsSo, Outside, StopsShort}
 use Rattle.arj_loop.specs.Running as loop
 use Rattle.arj_loop.specs.Running.{Stage}
+use Rattle.arj_loop.specs.declared.ending.End.{End}
 use Rattle.arj_nodes.specs.AllNodes.{RanAll, Task, task}
 use Rattle.arj_nodes.specs.AsMachine.{all_nodes}
 use Rattle.arj_nodes.specs.declared.all_nodes.AllNodes.{AllNodes}
-use Rattle.arj_promise_law.specs.Resting.{HoldAllStates}
-use Rattle.arj_protocol.specs.Tree.{at_place}
 use Rattle.arj_protocol.specs.Words.{Header, Line}
-use Rattle.arj_protocol.specs.Words.body
-use Rattle.arj_protocol.specs.Words.event
 use Rattle.arj_script.specs.Grammar.{Place}
 use Rattle.arj_script.specs.Input.{events_of}
 use Rattle.arj_view_law.specs.Moves.{Move, journal_by, world_by}
@@ -26,9 +22,11 @@ use Rattle.arj_world.specs.Stands.{Hand, hand}
 use Rattle.arj_world.specs.Turns.{Turn, asked}
 use Rattle.arj_binding_law.specs.Scripts.{most_events}
 use Rattle.arj_joint_law.specs.FitRuns.{IsInForm}
-use Rattle.arj_joint_law.specs.Shown.{FilesAre}
-use Rattle.arj_nodes_law.specs.Cores.{SaysPairs}
-use Rattle.arj_nodes_law.specs.Last.{EndsBehind, IsLast, ShowsByFiles, ShowsByLines}
+use Rattle.arj_joint_law.specs.Shown.{DisksAre}
+use Rattle.arj_nodes_law.specs.Cores.{SaysReadings}
+use Rattle.arj_nodes_law.specs.Last.{EndsBehind, IsLast}
+use Rattle.arj_nodes_law.specs.Promised.{ShowsThePromise}
+use Rattle.arj_nodes_law.specs.Readings.{Reads, readings_of}
 
 -- ---- turns
 
@@ -40,17 +38,6 @@ as_move t = record { asked = asked t.event; falls = t.falls }
 abbrev pub event_of : Move → Event
 event_of m = let a = m.asked in a.event
 
--- ---- disks
-
--- the files of a disk, if one is there
-abbrev pub files_at : {D : Type 0} → disk.Ghosts D → Option D → FileMap
-files_at d None slot = None
-files_at d (Some one) slot = d.file one slot
-
--- the files of each node's disk
-abbrev pub files_of : {D : Type 0} → disk.Ghosts D → List D → Disks
-files_of d rack n = files_at d (at_place n rack)
-
 -- ---- what is run
 
 -- The header of what is run is in form, and so is each of its events, of which there are at most 1,000,000.
@@ -59,16 +46,16 @@ pub record IsTaskInForm {D : Type 0} (t : Task D) : Type 0 where
   pub events : AllByRecursion EventInForm t.events
   pub few : length t.events ≤ most_events
 
--- What is at hand is what a run in form makes of these events: its journal, its count of events and whether it is over, and, where cores say the pairs of their disks,
--- the files of its nodes.
+-- What is at hand is what a run in form makes of these events: its journal, its count of events and whether it is over; and the disks are those of
+-- its nodes, in whichever way of reading files cores say so.
 pub record HasMoved {C D : Type 0} (c : core.Ghosts C) (d : disk.Ghosts D) (t : Task D) (over : Bool) (now : Hand C D) : Type 0 where
   pub moves : List Move
   pub are : map event_of moves ≡ t.events
   pub form : IsInForm t.header moves
   pub journal : now.journal ≡ journal_by t.header moves
-  pub event : now.kept.event ≡ (let w = world_by t.header moves in w.event)
+  pub event : length t.events ≡ (let w = world_by t.header moves in w.event)
   pub is_over : (let w = world_by t.header moves in w.over) ≡ over
-  pub files : SaysPairs c → FilesAre (see [] (world_by t.header moves)) (files_of d now.disks)
+  pub readings : (read : Reads) → SaysReadings c read → DisksAre (see [] (world_by t.header moves)) (readings_of d read now.disks)
 
 -- so it is of all that nodes run over disks, whatever stops these make
 abbrev pub NodesMove : {C D : Type 0} → core.Ghosts C → disk.Ghosts D → Type 0
@@ -84,7 +71,7 @@ ScriptsMove {C} {D} c d = (first rack : List D) (lines : List (List ℕ)) (place
 -- So it is of what a run of a script leaves at each status but 4 and 5: where nodes were formatted its journal is that of the events
 -- that came, and the files of the disks that it leaves are theirs; a line outside of events may stand behind. Else there is that line at most.
 abbrev pub ClosesMove : {C D : Type 0} → core.Ghosts C → disk.Ghosts D → Type 0
-ClosesMove {C} {D} c d = (before after : Outside D) (answer : Answer) (closes : Closes (all_nodes c d) before after answer)
+ClosesMove {C} {D} c d = (before after : Outside D) (answer : Answer (AllNodes C)) (closes : Closes (all_nodes c d) before after answer)
     → ((let e = closes.ends in let at = e.at in at.machine) ≡ None → IsLast answer.journal)
     × ((nodes : AllNodes C) → (let e = closes.ends in let at = e.at in at.machine) ≡ Some nodes
     → (let e = closes.ends in let r = e.reached in let s = r.stage in let at = e.at in HasMoved c d (task before.rack s.header (events_of s.forms)) nodes.over (hand nodes.world after.rack at.journal))
@@ -92,30 +79,35 @@ ClosesMove {C} {D} c d = (before after : Outside D) (answer : Answer) (closes : 
 
 -- ---- what that shows
 
--- A journal shows what is promised of it, and, where cores say the pairs of their disks, so do the files of these disks.
-abbrev pub AreShown : {C D : Type 0} → core.Ghosts C → disk.Ghosts D → Header → ℕ → List Line → List D → Type 0
-AreShown c d header events journal rack = ShowsByLines header journal × (SaysPairs c → ShowsByFiles header events journal (files_of d rack))
+-- where cores say by their files, read so, what their nodes have on disk, all that nodes run over disks shows the promise
+abbrev pub RunsShow : {C D : Type 0} → core.Ghosts C → disk.Ghosts D → Reads → Type 0
+RunsShow {C} {D} c d read = (t : Task D) (over : Bool) (now : Hand C D) → IsTaskInForm t → RanAll c d t over now → ShowsThePromise d read t over now.journal now.disks
 
--- so do the journal of what was run of a script's lines, and the disks behind them
-abbrev pub ScriptsShow : {C D : Type 0} → core.Ghosts C → disk.Ghosts D → Type 0
-ScriptsShow {C} {D} c d = (first rack : List D) (lines : List (List ℕ)) (place : Place) (at : loop.Hand (AllNodes C)) (s : Stage (all_nodes c d) first rack lines place at) (nodes : AllNodes C)
-    → at.machine ≡ Some nodes → AreShown c d s.header (let k = nodes.world in k.event) at.journal rack
+-- What a run of a script leaves at each status but 4 and 5 shows it, once nodes were formatted.
+abbrev pub CloseShows : {C D : Type 0} (c : core.Ghosts C) (d : disk.Ghosts D) → Reads → (before after : Outside D) (answer : Answer (AllNodes C)) → Closes (all_nodes c d) before after answer → Type 0
+CloseShows {C} c d read before after answer closes = (nodes : AllNodes C) → (let e = closes.ends in let at = e.at in at.machine) ≡ Some nodes
+    → (let e = closes.ends in let r = e.reached in let s = r.stage in ShowsThePromise d read (task before.rack s.header (events_of s.forms)) nodes.over answer.journal after.rack)
 
--- and the journal and the disks that a run leaves
-abbrev pub ClosesShow : {C D : Type 0} → core.Ghosts C → disk.Ghosts D → Type 0
-ClosesShow {C} {D} c d = (before after : Outside D) (answer : Answer) (closes : Closes (all_nodes c d) before after answer) (nodes : AllNodes C)
-    → (let e = closes.ends in let at = e.at in at.machine) ≡ Some nodes → AreShown c d (let e = closes.ends in let r = e.reached in let s = r.stage in s.header) (let k = nodes.world in k.event) answer.journal after.rack
+-- so it does
+abbrev pub ClosesShow : {C D : Type 0} → core.Ghosts C → disk.Ghosts D → Reads → Type 0
+ClosesShow {C} {D} c d read = (before after : Outside D) (answer : Answer (AllNodes C)) (closes : Closes (all_nodes c d) before after answer) → CloseShows c d read before after answer closes
 
--- The last event is a quiesce, no frame was too many, and the journal's last line says that every node is idle.
-pub record EndsIdle (events : List Event) (over : Bool) (lines : List Line) : Type 0 where
-  pub before : List Event
-  pub are : events ≡ before ++ event.Quiesce ∷ []
-  pub going : over ≡ false
-  pub front : List Line
-  pub number : ℕ
-  pub line : lines ≡ front ++ record { event = number; body = body.Quiet true } ∷ []
+-- How far a run came that stopped short.
+abbrev pub Came : {C D : Type 0} → core.Ghosts C → disk.Ghosts D → Arrived → List D → List D → ℕ → List Line → Type 0
+Came c d given first after status journal = ComesSoFar (all_nodes c d) given first after journal ⊎ ((status ≡ 4) × ((end : End) × EndsSo (all_nodes c d) given first after end journal))
 
--- then the files of the disks hold every entry and, at each listed store, every last state
-abbrev pub ScriptsRest : {C D : Type 0} → core.Ghosts C → disk.Ghosts D → Type 0
-ScriptsRest {C} {D} c d = (first rack : List D) (lines : List (List ℕ)) (place : Place) (at : loop.Hand (AllNodes C)) (s : Stage (all_nodes c d) first rack lines place at) (nodes : AllNodes C)
-    → at.machine ≡ Some nodes → EndsIdle (events_of s.forms) nodes.over at.journal → HoldAllStates s.header at.journal (files_of d rack)
+-- Of a run that came so far the journal shows it, once nodes were formatted: with the disks as they were behind it, or with those that the run left
+-- where it came to its end.
+abbrev pub SoFarShows : {C D : Type 0} (c : core.Ghosts C) (d : disk.Ghosts D) → Reads → (given : Arrived) (first after : List D) (status : ℕ) (journal : List Line) → Came c d given first after status journal → Type 0
+SoFarShows {C} c d read given first after status journal (inl (at, half, is, went)) = (nodes : AllNodes C) → at.machine ≡ Some nodes
+    → (let h = half in let s = h.stage in ShowsThePromise d read (task first s.header (events_of s.forms)) nodes.over journal h.mid)
+SoFarShows {C} c d read given first after status journal (inr (is, end, ends)) = (nodes : AllNodes C) → (let e = ends in let at = e.at in at.machine) ≡ Some nodes
+    → (let e = ends in let r = e.reached in let s = r.stage in ShowsThePromise d read (task first s.header (events_of s.forms)) nodes.over journal after)
+
+-- so it is of the journal of which the sink took a front, at the status 4 and 5
+abbrev pub StopShows : {C D : Type 0} (c : core.Ghosts C) (d : disk.Ghosts D) → Reads → (before after : Outside D) (status : ℕ) → StopsShort (all_nodes c d) before after status → Type 0
+StopShows c d read before after status s = SoFarShows c d read s.given before.rack after.rack status s.journal s.run
+
+-- of every such run
+abbrev pub StopsShow : {C D : Type 0} → core.Ghosts C → disk.Ghosts D → Reads → Type 0
+StopsShow {C} {D} c d read = (before after : Outside D) (status : ℕ) (s : StopsShort (all_nodes c d) before after status) → StopShows c d read before after status s

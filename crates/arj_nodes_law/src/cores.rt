@@ -1,11 +1,12 @@
-// Cores that say the pairs of their disks.
-ghost use Rattle.arj_nodes_law.specs.Cores.{PartsSayPairs, SaysPairs};
+// Cores whose files say what their nodes have on disk.
+ghost use Rattle.arj_nodes_law.specs.Cores.{PartsSayReadings, SaysReadings};
+ghost use Rattle.arj_nodes_law.specs.Readings.{Reads};
 
 use arj_core::Core;
 use arj_node::{NodeCore, Parts};
 
-/// Where files say the pairs of the disk that a node's parts have by them, so they do for the node that a core over these parts is, up or
-/// down: those files are its node's. It does nothing when it runs.
+/// Where files say, read so, the disk that a node's parts have by them, so they do for the node that a core over these parts is, up or down.
+/// It does nothing when it runs.
 pub fn cores_say_what_their_parts_say<P: Parts + Drop>()
-    ensures { PartsSayPairs P.Parts → SaysPairs ⟦<NodeCore<P> as Core>⟧ }
+    ensures { (read : Reads) → PartsSayReadings P.Parts read → SaysReadings ⟦<NodeCore<P> as Core>⟧ read }
 {}

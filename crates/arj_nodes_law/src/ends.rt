@@ -1,9 +1,10 @@
-// What a line outside of events takes from a journal.
-ghost use Rattle.arj_nodes_law.specs.Last.{FilesStay, LinesStay};
+// What a line outside of events takes from what a run shows.
+ghost use Rattle.arj_nodes_law.specs.Promised.{PromisesStay};
 
-/// A line outside of events, which says that a line was bad or that a limit was met, takes nothing of what the journal that it stands behind
-/// shows of the promise, by its lines or with the files of disks. It does nothing when it runs.
-pub fn last_lines_take_nothing()
-    ensures lines { LinesStay }
-    ensures files { FilesStay }
+use arj_disk::Disk;
+
+/// A line outside of events, which says that a line was bad or that a limit of lines or labels was met, takes nothing of what the journal that it
+/// stands behind shows of the promise, by its lines or with what disks say. It does nothing when it runs.
+pub fn last_lines_take_nothing<D: Disk>()
+    ensures { PromisesStay D.Disk }
 {}
