@@ -125,11 +125,6 @@ nodes_move {C} {D} c d t over now form r =
     few : (a b m e : ℕ) → a ≡ b → m ≡ b → m ≡ e → e ≤ most_events → a ≤ most_events
     few a b m e x y z le = omega (arith, x, y, z, le)
 
--- what was run of a script's lines
-script_ran : {C D : Type 0} (c : core.Ghosts C) (d : disk.Ghosts D) (first rack : List D) (lines : List (List ℕ)) (place : Place) (at : loop.Hand (AllNodes C)) (s : Stage (all_nodes c d) first rack lines place at) (nodes : AllNodes C)
-    → at.machine ≡ Some nodes → RanAll c d (task first s.header (events_of s.forms)) nodes.over (hand nodes.world rack at.journal)
-script_ran c d first rack lines place at s nodes is = let runs = subst (MachineRuns (all_nodes c d) first rack s.forms place s.header at.journal) is s.machine_is in runs.2
-
 pub scripts_move : {C D : Type 0} (c : core.Ghosts C) (d : disk.Ghosts D) → ScriptsMove c d
 scripts_move {C} {D} c d first rack lines place at s nodes is =
     let runs = subst (MachineRuns (all_nodes c d) first rack s.forms place s.header at.journal) is s.machine_is in
@@ -162,8 +157,8 @@ ends_said hd ms front m are is going =
 
 module _ {C D : Type 0} (c : core.Ghosts C) (d : disk.Ghosts D) (read : Reads) (says : SaysReadings c read) where
   -- what is at hand shows the promise
-  moved_shows : (t : Task D) (over : Bool) (now : Hand C D) → RanAll c d t over now → HasMoved c d t over now → ShowsThePromise d read t over now.journal now.disks
-  moved_shows t over now ran h = record {
+  moved_shows : (t : Task D) (over : Bool) (now : Hand C D) → HasMoved c d t over now → ShowsThePromise d read t over now.journal now.disks
+  moved_shows t over now h = record {
     serial = subst (IsSerialBy t.header) (sym h.journal) k.serial;
     book = subst (KeepsTheBook (first_values t.header)) (sym h.journal) k.book;
     held = subst HoldsEach (sym h.journal) k.held;
@@ -171,7 +166,6 @@ module _ {C D : Type 0} (c : core.Ghosts C) (d : disk.Ghosts D) (read : Reads) (
     clean = subst (λ ls. Clean t.header ls disks) (sym h.journal) (k.clean disks are);
     in_time = subst (λ (p : ℕ × List Line). DisksAreInTime t.header p.0 p.1 disks) (λ i. (sym h.event i, sym h.journal i)) (k.in_time disks are);
     rest = at_rest;
-    halts = ran_halts c d t over now ran;
   }
     where
       k : KeepsThePromise t.header h.moves
@@ -204,12 +198,12 @@ module _ {C D : Type 0} (c : core.Ghosts C) (d : disk.Ghosts D) (read : Reads) (
           by (k ∷ m ∷ ks) out line = absurd out
 
   pub runs_show : RunsShow c d read
-  runs_show t over now form r = moved_shows t over now r (nodes_move c d t over now form r)
+  runs_show t over now form r = moved_shows t over now (nodes_move c d t over now form r)
 
   script_shows : (first rack : List D) (lines : List (List ℕ)) (place : Place) (at : loop.Hand (AllNodes C)) (s : Stage (all_nodes c d) first rack lines place at) (nodes : AllNodes C)
       → at.machine ≡ Some nodes → ShowsThePromise d read (task first s.header (events_of s.forms)) nodes.over at.journal rack
   script_shows first rack lines place at s nodes is =
-      moved_shows (task first s.header (events_of s.forms)) nodes.over (hand nodes.world rack at.journal) (script_ran c d first rack lines place at s nodes is) (scripts_move c d first rack lines place at s nodes is)
+      moved_shows (task first s.header (events_of s.forms)) nodes.over (hand nodes.world rack at.journal) (scripts_move c d first rack lines place at s nodes is)
 
 -- ---- what a run leaves
 

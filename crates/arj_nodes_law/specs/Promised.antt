@@ -9,7 +9,6 @@ use Rattle.arj_journal.specs.declared.event.Event.{Event}
 use Rattle.arj_model.specs.Clean.{Clean}
 use Rattle.arj_model.specs.Last.{first_values}
 use Rattle.arj_nodes.specs.AllNodes.{Task}
-use Rattle.arj_nodes.specs.Told.{HaltsHaveCause}
 use Rattle.arj_promise_law.specs.Resting.{HoldAllStates}
 use Rattle.arj_protocol.specs.Words.{Line}
 use Rattle.arj_protocol.specs.Words.body
@@ -45,8 +44,6 @@ pub record ShowsThePromise {D : Type 0} (d : disk.Ghosts D) (read : Reads) (t : 
   pub in_time : DisksAreInTime (let a = t in a.header) (let a = t in length a.events) journal (readings_of d read rack)
   -- and where the last event left nothing to do, and said so, disks hold all of these with no exception
   pub rest : over ≡ false → EndsIdle (let a = t in a.events) journal → HoldAllStates (let a = t in a.header) journal (readings_of d read rack)
-  -- each stop that the journal tells of a disk has counted, and nobody halts but nodes of the header
-  pub halts : HaltsHaveCause d t journal rack
 
 -- a line outside of events, behind a journal, takes nothing of what the journal shows
 abbrev pub PromisesStay : {D : Type 0} → disk.Ghosts D → Type 0

@@ -18,8 +18,8 @@ pub fn nodes_run_moves<C: Core, D: Disk>()
 
 /// Where cores say by their files, read so, what their nodes have on disk, whatever nodes run over disks shows the promise (`ShowsThePromise`): the
 /// journal is serial, keeps the lock book, holds calls at each line by its tables and shows one outcome of each top; disks are clean and exclude
-/// stores in time; where the last event was a quiesce whose line says that every node is idle, they hold every entry and, at each listed store,
-/// every last state, with no exception; and each halt has its cause (`runs`). So do the journal and the disks that a run of a script leaves at
+/// stores in time; and where the last event was a quiesce whose line says that every node is idle, they hold every entry and, at each listed store,
+/// every last state, with no exception (`runs`). So do the journal and the disks that a run of a script leaves at
 /// each status but 4 and 5 (`closes`), and at these the journal of which the sink took a front, with the disks as they were behind it (`stops`).
 /// It does nothing when it runs.
 pub fn nodes_show_what_is_promised<C: Core, D: Disk>()
