@@ -221,7 +221,7 @@ impl<C: Core> World<C> {
         }
     }
 
-    /// A node's disk is armed.
+    /// A node's disk is armed, also where memory is then wanting for the line.
     pub(crate) fn arm<D: Disk>(
         &mut self,
         rack: &mut Rack<D>,

@@ -41,7 +41,7 @@ fn format_node<C: Core, D: Disk>(
 
 impl<C: Core + Drop> World<C> {
     /// All nodes over empty disks, up in incarnation 1, with the header's states and entries, no frame and no label. Stopped:
-    /// a disk was stopped; at any other answer none was.
+    /// a disk was stopped; at any other answer none was. No disk was armed, and those of no node are as they were.
     pub fn format<D: Disk>(
         alloc: Global,
         header: Header,

@@ -169,7 +169,8 @@ impl<C: Core> World<C> {
     /// one label too many changes nothing. A line that says that a node halted stands for a stop of its disk, but in the event
     /// that crashes it; an event of a kind with a line of its own writes it, or why it doesn't, with the number of the refusal, and
     /// so does a commit, an abort, a giveup, and a delivery of a frame for a node of the header; and after a settle or a quiesce
-    /// each frame was delivered or lost.
+    /// each frame was delivered or lost. At every answer, also where memory was wanting, the disks of the header's nodes were armed
+    /// as the event asks for it and by nothing else, and all other disks are as they were.
     #[tactic(auto, using(crate::proofs::Disks::moved_none, crate::proofs::Tells::tells_none))]
     pub fn step<D: Disk>(
         &mut self,
