@@ -1,4 +1,6 @@
 // The class table at values from outside. Values are given as their payloads.
+ghost use Rattle.arj_class.specs.Forms.{OpInForm};
+
 use arj_base::{Bytes, Class, Numbers, Pairs};
 use arj_class::{Account, Answer, ApplyFault, Counter, Op, Queue, Register, Table, Value};
 use std::alloc::{AllocError, Global};
@@ -43,47 +45,97 @@ fn answer_text(alloc: Global, answer: &Result<Answer, ApplyFault>) -> Result<Str
     }
 }
 
+// The text of an answer, which is let go here alone.
+fn told(alloc: Global, value: &mut Value, op: &Op) -> Result<String, AllocError>
+    requires { OpInForm op.now }
+{
+    answer_text(alloc, &value.apply(op))
+}
+
+// Whether a copy of a value is saved so.
+fn has_payload(alloc: Global, value: &Value, payload: &[u8]) -> Result<bool, AllocError> {
+    let copy = value.copy(alloc)?;
+    Ok(copy.save_state(alloc)?.as_slice() == payload)
+}
+
+// Whether a value with the first payload answers so to the operation, and has the second payload then.
+fn answers(
+    alloc: Global,
+    class: Class,
+    payloads: (&[u8], &[u8]),
+    op: &Op,
+    want: &str,
+) -> Result<bool, Fail> {
+    if !op.is_in_form() {
+        return Ok(false);
+    }
+    let mut value = Value::restore_state(alloc, class, payloads.0)?;
+    let told = told(alloc, &mut value, op)?;
+    Ok(told.as_str() == want && has_payload(alloc, &value, payloads.1)?)
+}
+
+// A register is put.
+fn a_put_answers(alloc: Global) -> Result<bool, Fail> {
+    let op = Op::Put(bytes(alloc, &[0, 0xff])?);
+    answers(alloc, Class::Register, (b"any", &[0, 0xff]), &op, "done")
+}
+
+// A pair of the table takes another value.
+fn a_put_pair_answers(alloc: Global) -> Result<bool, Fail> {
+    let mut other_value = PAIRS;
+    other_value[1] = 5;
+    let pairs = words(alloc, &PAIRS)?;
+    let other_pairs = words(alloc, &other_value)?;
+    let payloads = (pairs.as_slice(), other_pairs.as_slice());
+    answers(alloc, Class::Table, payloads, &Op::PutPair(1, 5), "done")
+}
+
+// What leaves the value as it is, of these numbers: each with its answer.
+const ROWS: [(Class, &[u8], &str); 6] = [
+    (Class::Account, &[5], "short"),
+    (Class::Queue, &NUMBERS, "full"),
+    (Class::Queue, &[], "none"),
+    (Class::Table, &PAIRS, "full"),
+    (Class::Table, &PAIRS, "none"),
+    (Class::Counter, &[5], "the class lacks this operation"),
+];
+
+// The operation of the row at this place.
+fn op_at(place: usize) -> Op {
+    match place {
+        0 => Op::Withdraw(6),
+        1 => Op::Push(1),
+        2 => Op::Pop,
+        3 => Op::PutPair(17, 1),
+        4 => Op::Remove(17),
+        _ => Op::Push(1),
+    }
+}
+
+// Whether a value of these numbers answers so, and stays as it is.
+fn keeps(alloc: Global, class: Class, numbers: &[u8], op: &Op, want: &str) -> Result<bool, Fail> {
+    let payload = words(alloc, numbers)?;
+    answers(
+        alloc,
+        class,
+        (payload.as_slice(), payload.as_slice()),
+        op,
+        want,
+    )
+}
+
 #[test]
 fn classes_answer_as_the_table(rt: HostRuntime) -> Result<(), Fail> {
     let alloc = rt.alloc();
-    let five = words(alloc, &[5])?;
-    let numbers = words(alloc, &NUMBERS)?;
-    let pairs = words(alloc, &PAIRS)?;
-    let mut other_value = PAIRS;
-    other_value[1] = 5;
-    let other_pairs = words(alloc, &other_value)?;
-    let (five, numbers, pairs) = (five.as_slice(), numbers.as_slice(), pairs.as_slice());
-    let lacking = "the class lacks this operation";
-    let rows = [
-        (
-            Class::Register,
-            b"any".as_slice(),
-            Op::Put(bytes(alloc, &[0, 0xff])?),
-            "done",
-            [0, 0xff].as_slice(),
-        ),
-        (Class::Register, &[0, 0xff], Op::Get, "[0, 255]", &[0, 0xff]),
-        (Class::Account, five, Op::Withdraw(6), "short", five),
-        (Class::Queue, numbers, Op::Push(1), "full", numbers),
-        (Class::Queue, &[], Op::Pop, "none", &[]),
-        (Class::Table, pairs, Op::PutPair(17, 1), "full", pairs),
-        (
-            Class::Table,
-            pairs,
-            Op::PutPair(1, 5),
-            "done",
-            other_pairs.as_slice(),
-        ),
-        (Class::Table, pairs, Op::Remove(17), "none", pairs),
-        (Class::Counter, five, Op::Push(1), lacking, five),
-    ];
-    for (class, before, op, want, after) in &rows {
-        let mut value = Value::restore_state(alloc, *class, before)?;
-        assert!(rt; op.is_in_form());
-        let answer = value.apply(op);
-        assert_eq!(rt; answer_text(alloc, &answer)?.as_str(), *want);
-        let saved = value.copy(alloc)?.save_state(alloc)?;
-        assert_eq!(rt; saved.as_slice(), *after, "after {want}");
+    let bytes = [0, 0xff].as_slice();
+    assert!(rt; answers(alloc, Class::Register, (bytes, bytes), &Op::Get, "[0, 255]")?);
+    assert!(rt; a_put_answers(alloc)?);
+    assert!(rt; a_put_pair_answers(alloc)?);
+    for (place, (class, numbers, want)) in ROWS.iter().enumerate() {
+        assert!(rt;
+            keeps(alloc, *class, numbers, &op_at(place), want)?,
+            "{want}"
+        );
     }
     Ok(())
 }

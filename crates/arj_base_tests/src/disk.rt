@@ -108,42 +108,79 @@ fn sixteen(alloc: Global) -> Result<Vec<MemDisk>, AllocError>
     Ok(disks)
 }
 
+const ACTION: Uid = Uid {
+    node: 3,
+    inc: 2,
+    num: 1,
+};
+
+const ONE: Uid = Uid {
+    node: 0,
+    inc: 0,
+    num: 1,
+};
+
+const TWO: Uid = Uid {
+    node: 0,
+    inc: 0,
+    num: 2,
+};
+
+// Names in their order, and those that are left once a new state of object 1 has taken the place of the old one.
+const SLOTS: &[Slot] = &[
+    Slot::Incarnation,
+    Slot::Committed(ONE),
+    Slot::Committed(TWO),
+    Slot::Shadow(ONE),
+    Slot::Prepared(Role::Store, ACTION),
+    Slot::Prepared(Role::Names, ACTION),
+    Slot::Intent(ACTION),
+];
+
+const LEFT: &[Slot] = &[
+    Slot::Incarnation,
+    Slot::Committed(ONE),
+    Slot::Committed(TWO),
+    Slot::Prepared(Role::Names, ACTION),
+    Slot::Intent(ACTION),
+];
+
+fn are_in_order(slots: &[Slot]) -> bool {
+    for pair in slots.windows(2) {
+        if !comes_first(pair[0], pair[1]) {
+            return false;
+        }
+    }
+    true
+}
+
+// The disk with these files, and one removed that isn't there.
+fn begin(alloc: Global, slots: &[Slot]) -> Result<MemDisk, DiskFault> {
+    let mut disk = MemDisk::new(alloc);
+    write_each(&mut disk, slots)?;
+    remove_entry(&mut disk, 1)?;
+    Ok(disk)
+}
+
+// A new state of object 1 takes the place of the old one, and two files are removed, of which one isn't there.
+fn go_on<D: Disk>(disk: &mut D) -> Result<(), DiskFault> {
+    disk.write(Slot::Shadow(ONE), b"new".as_slice())?;
+    disk.rename(Slot::Shadow(ONE), Slot::Committed(ONE))?;
+    disk.remove(Slot::Prepared(Role::Store, ACTION))?;
+    disk.remove(Slot::Tmp)
+}
+
 #[test]
 fn calls_in_a_row(rt: HostRuntime) -> Result<(), Fail> {
     let alloc = rt.alloc();
-    let one = object_uid(1);
-    let two = object_uid(2);
-    let action = Uid {
-        node: 3,
-        inc: 2,
-        num: 1,
-    };
-    let slots = [
-        Slot::Incarnation,
-        Slot::Committed(one),
-        Slot::Committed(two),
-        Slot::Shadow(one),
-        Slot::Prepared(Role::Store, action),
-        Slot::Prepared(Role::Names, action),
-        Slot::Intent(action),
-    ];
-    for pair in slots.as_slice().windows(2) {
-        assert!(rt; comes_first(pair[0], pair[1]));
-    }
-    let mut disk = MemDisk::new(alloc);
-    few_known(one, two);
-    write_each(&mut disk, slots.as_slice())?;
-    remove_entry(&mut disk, 1)?;
-    assert!(rt; has_names(alloc, &mut disk, slots.as_slice())?);
-
-    disk.write(Slot::Shadow(one), b"new".as_slice())?;
-    disk.rename(Slot::Shadow(one), Slot::Committed(one))?;
-    disk.remove(Slot::Prepared(Role::Store, action))?;
-    disk.remove(Slot::Tmp)?;
-    assert!(rt; has(alloc, &mut disk, Slot::Committed(one), b"new".as_slice())?);
-    assert!(rt; has(alloc, &mut disk, Slot::Committed(two), b"old".as_slice())?);
-    let left = [slots[0], slots[1], slots[2], slots[5], slots[6]];
-    assert!(rt; has_names(alloc, &mut disk, left.as_slice())?);
+    assert!(rt; are_in_order(SLOTS));
+    few_known(ONE, TWO);
+    let mut disk = begin(alloc, SLOTS)?;
+    assert!(rt; has_names(alloc, &mut disk, SLOTS)?);
+    go_on(&mut disk)?;
+    assert!(rt; has(alloc, &mut disk, Slot::Committed(ONE), b"new".as_slice())?);
+    assert!(rt; has(alloc, &mut disk, Slot::Committed(TWO), b"old".as_slice())?);
+    assert!(rt; has_names(alloc, &mut disk, LEFT)?);
     Ok(())
 }
 
@@ -158,12 +195,43 @@ fn outcome(alloc: Global, kind: u8) -> Result<Outcome, AllocError> {
     }
 }
 
+// A disk with the old file of object 1, and an arm that names a call that many behind it.
+fn armed_disk(alloc: Global, calls: u32, kind: u8) -> Result<MemDisk, DiskFault>
+    requires { 1 ≤ calls }
+{
+    let outcome = outcome(alloc, kind)?;
+    let mut disk = MemDisk::new(alloc);
+    disk.write(Slot::Committed(ONE), b"old".as_slice())?;
+    disk.arm(calls, outcome);
+    Ok(disk)
+}
+
+// Whether a put is done as it should be. The arm of the third call still waits, for a call behind it.
+fn puts(disk: &mut MemDisk, should: bool) -> Result<bool, AllocError> {
+    let done = was_done(put(disk, Slot::Committed(ONE), b"new".as_slice()))?;
+    if done != should {
+        return Ok(false);
+    }
+    Ok(!done || !was_done(disk.remove(Slot::Committed(ONE)))?)
+}
+
+// Whether these two files are left; Tmp isn't there where it should have no bytes.
+fn has_left<D: Disk>(
+    alloc: Global,
+    disk: &mut D,
+    want: &[u8],
+    tmp: &[u8],
+) -> Result<bool, DiskFault> {
+    if has(alloc, disk, Slot::Tmp, tmp)? == tmp.is_empty() {
+        return Ok(false);
+    }
+    has(alloc, disk, Slot::Committed(ONE), want)
+}
+
 #[test]
 fn a_put_is_done_or_not(rt: HostRuntime) -> Result<(), Fail> {
-    let alloc = rt.alloc();
-    let slot = Slot::Committed(object_uid(1));
     // The call that the arm names, counted from it, its outcome, and the two files after a put: a write and a rename.
-    let cases = [
+    for (calls, kind, want, tmp) in [
         (1, 0, b"old".as_slice(), b"".as_slice()),
         (1, 1, b"old".as_slice(), b"new".as_slice()),
         (1, 2, b"old".as_slice(), b"xy".as_slice()),
@@ -171,22 +239,10 @@ fn a_put_is_done_or_not(rt: HostRuntime) -> Result<(), Fail> {
         (2, 1, b"new".as_slice(), b"".as_slice()),
         (2, 2, b"old".as_slice(), b"new".as_slice()),
         (3, 0, b"new".as_slice(), b"".as_slice()),
-    ];
-    for (calls, kind, want, tmp) in cases {
-        let mut disk = MemDisk::new(alloc);
-        disk.write(slot, b"old".as_slice())?;
-        disk.arm(calls, outcome(alloc, kind)?);
-        let done = was_done(put(&mut disk, slot, b"new".as_slice()))?;
-        assert_eq!(rt; done, calls == 3);
-        if done {
-            // The arm still waits, for this call.
-            assert!(rt; !was_done(disk.remove(slot))?);
-        }
-        assert!(rt; has(alloc, &mut disk, slot, want)?);
-        assert_eq!(rt;
-            has(alloc, &mut disk, Slot::Tmp, tmp)?,
-            tmp != b"".as_slice()
-        );
+    ] {
+        let mut disk = armed_disk(rt.alloc(), calls, kind)?;
+        assert!(rt; puts(&mut disk, calls == 3)?);
+        assert!(rt; has_left(rt.alloc(), &mut disk, want, tmp)?);
     }
     Ok(())
 }
@@ -207,16 +263,26 @@ fn one_disk_of_a_rack(rt: HostRuntime) -> Result<(), Fail> {
 }
 
 #[test]
+fn an_armed_disk_stops(rt: HostRuntime) -> Result<(), Fail> {
+    let mut disk = new_armed(rt.alloc(), Outcome::Undone);
+    assert!(rt; !was_done(put(&mut disk, Slot::Incarnation, b"1".as_slice()))?);
+    Ok(())
+}
+
+// Calls of a disk that never stops.
+fn call_surely(disk: &mut SureDisk) -> Result<(), DiskFault> {
+    put(disk, Slot::Incarnation, b"1".as_slice())?;
+    disk.rename(Slot::Incarnation, Slot::Incarnation)?;
+    put_surely(disk, Slot::Intent(object_uid(1)), b"2".as_slice())?;
+    disk.remove(Slot::Intent(object_uid(1)))
+}
+
+#[test]
 fn a_sure_disk_does_not_stop(rt: HostRuntime) -> Result<(), Fail> {
     let alloc = rt.alloc();
-    let mut stopping = new_armed(alloc, Outcome::Undone);
-    assert!(rt; !was_done(put(&mut stopping, Slot::Incarnation, b"1".as_slice()))?);
     let mut disk = SureDisk::new(alloc);
     disk.arm(1, Outcome::Undone);
-    put(&mut disk, Slot::Incarnation, b"1".as_slice())?;
-    disk.rename(Slot::Incarnation, Slot::Incarnation)?;
-    put_surely(&mut disk, Slot::Intent(object_uid(1)), b"2".as_slice())?;
-    disk.remove(Slot::Intent(object_uid(1)))?;
+    call_surely(&mut disk)?;
     assert!(rt; has(alloc, &mut disk, Slot::Incarnation, b"1".as_slice())?);
     assert!(rt; has_names(alloc, &mut disk, [Slot::Incarnation].as_slice())?);
     Ok(())

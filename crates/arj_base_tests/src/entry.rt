@@ -14,25 +14,41 @@ fn nodes(alloc: Global, numbers: &[u8]) -> Result<NodeList, AllocError>
     Ok(nodes)
 }
 
+fn entry(alloc: Global, servers: &[u8], stores: &[u8]) -> Result<Entry, AllocError>
+    ensures servers { IfOk result (λ entry. entry.servers ≡ servers.now) }
+    ensures stores { IfOk result (λ entry. entry.stores ≡ stores.now) }
+{
+    let servers = nodes(alloc, servers)?;
+    let stores = nodes(alloc, stores)?;
+    Ok(Entry { servers, stores })
+}
+
+// Whether an entry has these nodes.
+fn has(entry: &Entry, servers: &[u8], stores: &[u8]) -> bool {
+    entry.servers.as_slice() == servers && entry.stores.as_slice() == stores
+}
+
+// Whether an entry with these nodes is saved so and restored.
+fn is_saved(alloc: Global, servers: &[u8], stores: &[u8], payload: &[u8]) -> Result<bool, Fail> {
+    if servers.len() > 255 || stores.len() > 255 {
+        return Ok(false);
+    }
+    let entry = entry(alloc, servers, stores)?;
+    if entry.save(alloc)?.as_slice() != payload {
+        return Ok(false);
+    }
+    Ok(has(&Entry::restore(alloc, payload)?, servers, stores))
+}
+
 #[test]
 fn an_entry_has_these_bytes(rt: HostRuntime) -> Result<(), Fail> {
-    let alloc = rt.alloc();
-    let rows = [
+    for (servers, stores, payload) in [
         ([].as_slice(), [].as_slice(), [0, 0].as_slice()),
         (&[2], &[3, 4], &[1, 2, 2, 3, 4]),
         (&[4, 1, 3], &[16], &[3, 4, 1, 3, 1, 16]),
         (&[], &[7, 7], &[0, 2, 7, 7]),
-    ];
-    for (servers, stores, payload) in rows {
-        assert!(rt; servers.len() <= 255 && stores.len() <= 255);
-        let entry = Entry {
-            servers: nodes(alloc, servers)?,
-            stores: nodes(alloc, stores)?,
-        };
-        assert_eq!(rt; entry.save(alloc)?.as_slice(), payload);
-        let read = Entry::restore(alloc, payload)?;
-        assert_eq!(rt; read.servers.as_slice(), servers);
-        assert_eq!(rt; read.stores.as_slice(), stores);
+    ] {
+        assert!(rt; is_saved(rt.alloc(), servers, stores, payload)?);
     }
     Ok(())
 }
@@ -62,29 +78,23 @@ fn other_bytes_are_no_entry(rt: HostRuntime) -> Result<(), Fail> {
 
 #[test]
 fn stores_come_last_and_go(rt: HostRuntime) -> Result<(), Fail> {
-    let alloc = rt.alloc();
-    let mut entry = Entry {
-        servers: nodes(alloc, &[2])?,
-        stores: nodes(alloc, &[3, 4])?,
-    };
-    let rows = [
+    let mut entry = entry(rt.alloc(), &[2], &[3, 4])?;
+    for (store, included, after) in [
         (2, true, [3, 4, 2].as_slice()),
         (3, false, &[3, 4, 2]),
         (2, false, &[3, 4, 2]),
         (1, true, &[3, 4, 2, 1]),
-    ];
-    for (store, included, after) in rows {
-        assert_eq!(rt; entry.include(store)?, included);
-        assert_eq!(rt; entry.stores.as_slice(), after);
-        assert_eq!(rt; entry.servers.as_slice(), [2].as_slice());
+    ] {
+        let was_included = entry.include(store)? == included;
+        assert!(rt; was_included && has(&entry, &[2], after));
     }
     for (store, listed, after) in [
         (4, true, [3, 2, 1].as_slice()),
         (4, false, &[3, 2, 1]),
         (3, true, &[2, 1]),
     ] {
-        assert_eq!(rt; entry.exclude(store), listed);
-        assert_eq!(rt; entry.stores.as_slice(), after);
+        let was_listed = entry.exclude(store) == listed;
+        assert!(rt; was_listed && has(&entry, &[2], after));
     }
     Ok(())
 }

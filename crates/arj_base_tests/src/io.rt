@@ -28,46 +28,81 @@ fn next<S: Source>(source: &mut S) -> Result<(usize, [u8; 4]), Failed> {
     Ok((count, buf))
 }
 
+// Whether the next reads are these, one after another.
+fn gives<S: Source>(source: &mut S, reads: &[Result<(usize, [u8; 4]), Failed>]) -> bool {
+    for read in reads {
+        if next(source) != *read {
+            return false;
+        }
+    }
+    true
+}
+
 #[test]
 fn a_source_gives_pieces_and_fails_as_planned(rt: HostRuntime) -> Result<(), Fail> {
     let alloc = rt.alloc();
+    let reads = [
+        Ok((2, *b"ab..")),
+        Err(Failed),
+        Ok((2, *b"cd..")),
+        Ok((1, *b"e...")),
+        Ok((0, *b"....")),
+    ];
     let mut source = MemSource::new(bytes(alloc, b"abcde")?, 2, second(alloc)?);
-    assert_eq!(rt; next(&mut source), Ok((2, *b"ab..")));
-    assert_eq!(rt; next(&mut source), Err(Failed));
-    assert_eq!(rt; next(&mut source), Ok((2, *b"cd..")));
-    assert_eq!(rt; next(&mut source), Ok((1, *b"e...")));
-    assert_eq!(rt; next(&mut source), Ok((0, *b"....")));
-
-    let mut source = SureSource::new(bytes(alloc, b"abcde")?);
-    assert_eq!(rt; next(&mut source), Ok((4, *b"abcd")));
-    assert_eq!(rt; next(&mut source), Ok((1, *b"e...")));
-    assert_eq!(rt; next(&mut source), Ok((0, *b"....")));
+    assert!(rt; gives(&mut source, &reads));
     Ok(())
+}
+
+#[test]
+fn a_sure_source_fills_what_it_is_given(rt: HostRuntime) -> Result<(), Fail> {
+    let reads = [Ok((4, *b"abcd")), Ok((1, *b"e...")), Ok((0, *b"...."))];
+    let mut source = SureSource::new(bytes(rt.alloc(), b"abcde")?);
+    assert!(rt; gives(&mut source, &reads));
+    Ok(())
+}
+
+// Whether a sink takes these bytes, or fails to, and tells all that it has taken then.
+fn takes(sink: &mut MemSink, bytes: &[u8], end: Result<(), Failed>, taken: &[u8]) -> bool {
+    if write_all(sink, bytes) != end {
+        return false;
+    }
+    sink.taken() == Some(taken)
 }
 
 #[test]
 fn a_sink_fails_as_planned(rt: HostRuntime) -> Result<(), Fail> {
     let alloc = rt.alloc();
     let mut sink = MemSink::new(bytes(alloc, b"........")?, second(alloc)?);
-    assert_eq!(rt; write_all(&mut sink, b"abc"), Ok(()));
-    assert_eq!(rt; write_all(&mut sink, b""), Ok(()));
-    assert_eq!(rt; write_all(&mut sink, b"de"), Err(Failed));
-    assert_eq!(rt; sink.taken(), Some(b"abc".as_slice()));
-    assert_eq!(rt; write_all(&mut sink, b"f"), Ok(()));
-    assert_eq!(rt; sink.taken(), Some(b"abcf".as_slice()));
+    for (bytes, end, taken) in [
+        (b"abc".as_slice(), Ok(()), b"abc".as_slice()),
+        (b"", Ok(()), b"abc"),
+        (b"de", Err(Failed), b"abc"),
+        (b"f", Ok(()), b"abcf"),
+    ] {
+        assert!(rt; takes(&mut sink, bytes, end, taken));
+    }
     Ok(())
+}
+
+// Whether a sink that never fails takes this piece whole, and tells these bytes then, or none.
+fn takes_surely(sink: &mut SureSink, piece: &[u8], told: Option<&[u8]>) -> bool {
+    if piece.is_empty() || sink.write(piece) != Ok(piece.len()) {
+        return false;
+    }
+    sink.taken() == told
 }
 
 #[test]
 fn a_sink_tells_nothing_past_its_room(rt: HostRuntime) -> Result<(), Fail> {
     let mut sink = SureSink::new(bytes(rt.alloc(), b"....")?);
-    assert_eq!(rt; sink.write(b"ab"), Ok(2));
-    assert_eq!(rt; sink.write(b"cd"), Ok(2));
-    assert_eq!(rt; sink.taken(), Some(b"abcd".as_slice()));
-    assert_eq!(rt; sink.write(b"ef"), Ok(2));
-    assert_eq!(rt; sink.taken(), None);
-    assert_eq!(rt; sink.write(b"g"), Ok(1));
-    assert_eq!(rt; sink.taken(), None);
+    for (piece, told) in [
+        (b"ab".as_slice(), Some(b"ab".as_slice())),
+        (b"cd", Some(b"abcd")),
+        (b"ef", None),
+        (b"g", None),
+    ] {
+        assert!(rt; takes_surely(&mut sink, piece, told));
+    }
     Ok(())
 }
 

@@ -29,20 +29,6 @@ fn nested(outer: &Path, num: u64, top: bool) -> Result<Path, AllocError> {
     outer.push(action(num), top).ok_or(AllocError)
 }
 
-// What a request answered: whether the mode rose, or the holder and mode that conflict.
-fn answer(
-    table: &mut LockTable,
-    path: &Path,
-    object: u16,
-    mode: Mode,
-) -> Result<Result<bool, (Uid, Mode)>, AllocError> {
-    match table.request(path, object_uid(object), mode) {
-        Ok(rose) => Ok(Ok(rose)),
-        Err(LockFault::Conflict { holder, mode }) => Ok(Err((holder, mode))),
-        Err(LockFault::Memory) => Err(AllocError),
-    }
-}
-
 // Whether these are the tops that hold locks.
 fn are_held(alloc: Global, table: &LockTable, tops: &[Uid]) -> Result<bool, AllocError> {
     Ok(table.held(alloc)?.as_slice() == tops)
@@ -84,6 +70,29 @@ fn holds_after_close(table: &mut LockTable, object: Uid, action: Uid) -> bool
     table.holds(action)
 }
 
+// Whether a lock is free, and is then got.
+fn gets(table: &mut LockTable, path: &Path, object: u16) -> bool {
+    if !is_free(table, path, object_uid(object), Mode::Write) {
+        return false;
+    }
+    ask(table, path, object_uid(object), Mode::Write).is_ok()
+}
+
+// Whether action 1 holds a lock on 4, two that nest in it hold the others, and these go with action 3.
+fn two_go_with_the_third(alloc: Global, table: &mut LockTable) -> Result<bool, AllocError> {
+    if is_free(table, &Path::new(action(4)), object_uid(1), Mode::Read) {
+        return Ok(false);
+    }
+    let told = abort(alloc, table, action(3))?;
+    if told.as_slice() != [action(2), action(3)].as_slice() {
+        return Ok(false);
+    }
+    if !are_held(alloc, table, [action(1)].as_slice())? {
+        return Ok(false);
+    }
+    Ok(!holds_after_close(table, object_uid(4), action(1)))
+}
+
 #[test]
 fn callers_get_what_they_need(rt: HostRuntime) -> Result<(), Fail> {
     let alloc = rt.alloc();
@@ -92,73 +101,173 @@ fn callers_get_what_they_need(rt: HostRuntime) -> Result<(), Fail> {
     let below = nested(&first, 3, false)?;
     let deeper = nested(&below, 2, false)?;
     for (path, object) in [(&deeper, 1), (&below, 2), (&deeper, 3), (&first, 4)] {
-        assert!(rt; is_free(&table, path, object_uid(object), Mode::Write));
-        assert!(rt; ask(&mut table, path, object_uid(object), Mode::Write).is_ok());
+        assert!(rt; gets(&mut table, path, object));
     }
-    let other = Path::new(action(4));
-    assert!(rt; !is_free(&table, &other, object_uid(1), Mode::Read));
-    let told = abort(alloc, &mut table, action(3))?;
-    assert_eq!(rt; told.as_slice(), [action(2), action(3)].as_slice());
-    assert!(rt; are_held(alloc, &table, [action(1)].as_slice())?);
-    assert!(rt; !holds_after_close(&mut table, object_uid(4), action(1)));
+    assert!(rt; two_go_with_the_third(alloc, &mut table)?);
     Ok(())
 }
 
-#[test]
-fn two_readers_and_a_nested_writer(rt: HostRuntime) -> Result<(), Fail> {
-    let alloc = rt.alloc();
-    let mut table = LockTable::new(alloc);
-    let first = Path::new(action(1));
-    let second = Path::new(action(2));
-    let below = nested(&second, 3, false)?;
-    let read_1 = Err((action(1), Mode::Read));
-    let read_2 = Err((action(2), Mode::Read));
-    assert_eq!(rt; answer(&mut table, &first, 1, Mode::Read)?, Ok(true));
-    assert_eq!(rt; answer(&mut table, &second, 1, Mode::Read)?, Ok(true));
-    assert_eq!(rt; answer(&mut table, &first, 1, Mode::Read)?, Ok(false));
-    assert_eq!(rt; answer(&mut table, &first, 1, Mode::Write)?, read_2);
-    assert_eq!(rt; answer(&mut table, &below, 1, Mode::Write)?, read_1);
-    table.drop_action(action(1));
-    assert!(rt; !table.holds(action(1)));
-    assert_eq!(rt; answer(&mut table, &below, 1, Mode::Write)?, Ok(true));
-    table.pass_to_parent(action(3));
-    let write_2 = Err((action(2), Mode::Write));
-    assert_eq!(rt; answer(&mut table, &first, 1, Mode::Exclude)?, write_2);
-    assert!(rt; table.holds(action(2)) && !table.holds(action(3)));
-    assert!(rt; are_held(alloc, &table, [action(2)].as_slice())?);
-    Ok(())
+// A call of a table: a request for the path of an action, or whom it conflicts with, and what else is done and asked.
+#[derive(Clone, Copy)]
+enum Call {
+    Ask(u64, u16, Mode),
+    Conflict(u64, u16, Mode),
+    Drop(u64),
+    Pass(u64),
+    Lower(u64, u16),
+    Close(u16),
+    Holds(u64),
+    IsTop(u64),
+}
+
+// What a call answers: whether a lock rose, whom the request conflicts with, or whether it is so.
+#[derive(Clone, Copy, PartialEq, Eq)]
+enum Answer {
+    Rose,
+    Had,
+    By(u64, Mode),
+    Done,
+    Yes,
+    No,
+}
+
+// The paths of actions: 1, 2, 3 in 2, the serializing action 5, its constituent 6, and 7 in that.
+fn path_of(num: u64) -> Result<Path, AllocError> {
+    match num {
+        3 => nested(&Path::new(action(2)), 3, false),
+        6 => nested(&Path::new(action(5)), 6, true),
+        7 => nested(&nested(&Path::new(action(5)), 6, true)?, 7, false),
+        _ => Ok(Path::new(action(num))),
+    }
+}
+
+fn yes(holds: bool) -> Answer {
+    if holds { Answer::Yes } else { Answer::No }
+}
+
+fn asked(table: &mut LockTable, path: &Path, x: u16, mode: Mode) -> Result<Answer, AllocError> {
+    match table.request(path, object_uid(x), mode) {
+        Ok(true) => Ok(Answer::Rose),
+        Ok(false) => Ok(Answer::Had),
+        Err(LockFault::Conflict { holder, mode }) => Ok(Answer::By(holder.num, mode)),
+        Err(LockFault::Memory) => Err(AllocError),
+    }
+}
+
+fn conflict(table: &LockTable, path: &Path, x: u16, mode: Mode) -> Answer {
+    match table.conflict(path, object_uid(x), mode) {
+        Some((holder, mode)) => Answer::By(holder.num, mode),
+        None => Answer::No,
+    }
+}
+
+fn told(table: &mut LockTable, call: Call) -> Result<Answer, AllocError> {
+    match call {
+        Call::Ask(num, x, mode) => return asked(table, &path_of(num)?, x, mode),
+        Call::Conflict(num, x, mode) => return Ok(conflict(table, &path_of(num)?, x, mode)),
+        Call::Holds(num) => return Ok(yes(table.holds(action(num)))),
+        Call::IsTop(num) => return Ok(yes(table.is_top(action(num)))),
+        Call::Drop(num) => table.drop_action(action(num)),
+        Call::Pass(num) => table.pass_to_parent(action(num)),
+        Call::Lower(num, x) => table.lower(action(num), object_uid(x)),
+        Call::Close(x) => table.close(object_uid(x)),
+    }
+    Ok(Answer::Done)
+}
+
+// Calls with their answers, and the tops that hold locks behind them.
+type Part = (&'static [(Call, Answer)], &'static [u64]);
+
+// Two readers and a nested writer.
+const READERS: &[Part] = &[(
+    &[
+        (Call::Ask(1, 1, Mode::Read), Answer::Rose),
+        (Call::Ask(2, 1, Mode::Read), Answer::Rose),
+        (Call::Ask(1, 1, Mode::Read), Answer::Had),
+        (Call::Ask(1, 1, Mode::Write), Answer::By(2, Mode::Read)),
+        (Call::Ask(3, 1, Mode::Write), Answer::By(1, Mode::Read)),
+        (Call::Drop(1), Answer::Done),
+        (Call::Holds(1), Answer::No),
+        (Call::Ask(3, 1, Mode::Write), Answer::Rose),
+        (Call::Pass(3), Answer::Done),
+        (Call::Ask(1, 1, Mode::Exclude), Answer::By(2, Mode::Write)),
+        (Call::Holds(2), Answer::Yes),
+        (Call::Holds(3), Answer::No),
+    ],
+    &[2],
+)];
+
+// A constituent passes to its serializing action.
+const CONSTITUENT: &[Part] = &[
+    (
+        &[
+            (Call::Ask(7, 1, Mode::Write), Answer::Rose),
+            (Call::Ask(6, 2, Mode::Exclude), Answer::Rose),
+            (Call::Ask(2, 2, Mode::Read), Answer::Rose),
+            (
+                Call::Conflict(2, 2, Mode::Exclude),
+                Answer::By(6, Mode::Exclude),
+            ),
+        ],
+        &[2, 6],
+    ),
+    (
+        &[
+            (Call::IsTop(5), Answer::Yes),
+            (Call::IsTop(6), Answer::Yes),
+            (Call::IsTop(7), Answer::No),
+            (Call::Pass(7), Answer::Done),
+            (Call::Pass(6), Answer::Done),
+            (
+                Call::Conflict(2, 2, Mode::Write),
+                Answer::By(5, Mode::Exclude),
+            ),
+        ],
+        &[2, 5],
+    ),
+    (
+        &[
+            (Call::Lower(5, 1), Answer::Done),
+            (Call::Ask(2, 1, Mode::Read), Answer::Rose),
+            (Call::Close(1), Answer::Done),
+            (Call::Pass(5), Answer::Done),
+        ],
+        &[2],
+    ),
+];
+
+// Whether the calls have these answers, one after another.
+fn has_answers(table: &mut LockTable, calls: &[(Call, Answer)]) -> Result<bool, AllocError> {
+    for (call, want) in calls {
+        if told(table, *call)? != *want {
+            return Ok(false);
+        }
+    }
+    Ok(true)
+}
+
+// Whether the tops that hold locks are these.
+fn are_tops(held: &[Uid], nums: &[u64]) -> bool {
+    if held.len() != nums.len() {
+        return false;
+    }
+    for (top, num) in held.iter().zip(nums) {
+        if *top != action(*num) {
+            return false;
+        }
+    }
+    true
 }
 
 #[test]
-fn a_constituent_passes_to_its_serializing_action(rt: HostRuntime) -> Result<(), Fail> {
+fn calls_in_a_row(rt: HostRuntime) -> Result<(), Fail> {
     let alloc = rt.alloc();
-    let mut table = LockTable::new(alloc);
-    let serializing = Path::new(action(5));
-    let constituent = nested(&serializing, 6, true)?;
-    let below = nested(&constituent, 7, false)?;
-    let other = Path::new(action(2));
-    let exclude = Some((action(6), Mode::Exclude));
-    assert_eq!(rt; answer(&mut table, &below, 1, Mode::Write)?, Ok(true));
-    assert_eq!(rt;
-        answer(&mut table, &constituent, 2, Mode::Exclude)?,
-        Ok(true)
-    );
-    assert_eq!(rt; answer(&mut table, &other, 2, Mode::Read)?, Ok(true));
-    assert_eq!(rt;
-        table.conflict(&other, object_uid(2), Mode::Exclude),
-        exclude
-    );
-    assert!(rt; are_held(alloc, &table, [action(2), action(6)].as_slice())?);
-    assert!(rt; table.is_top(action(5)) && table.is_top(action(6)) && !table.is_top(action(7)));
-    table.pass_to_parent(action(7));
-    table.pass_to_parent(action(6));
-    let exclude = Some((action(5), Mode::Exclude));
-    assert_eq!(rt; table.conflict(&other, object_uid(2), Mode::Write), exclude);
-    assert!(rt; are_held(alloc, &table, [action(2), action(5)].as_slice())?);
-    table.lower(action(5), object_uid(1));
-    assert_eq!(rt; answer(&mut table, &other, 1, Mode::Read)?, Ok(true));
-    table.close(object_uid(1));
-    table.pass_to_parent(action(5));
-    assert!(rt; are_held(alloc, &table, [action(2)].as_slice())?);
+    for parts in [READERS, CONSTITUENT] {
+        let mut table = LockTable::new(alloc);
+        for (calls, tops) in parts {
+            assert!(rt; has_answers(&mut table, calls)?);
+            assert!(rt; are_tops(table.held(alloc)?.as_slice(), tops));
+        }
+    }
     Ok(())
 }

@@ -26,12 +26,37 @@ enum Change {
     Lose(u32),
 }
 
+// Whether this frame is one that was sent so.
+fn has_frame(net: &Net, k: u32, from: u8, to: u8) -> bool {
+    match net.get(k) {
+        Some(frame) => {
+            frame.from == from
+                && frame.to == to
+                && frame.bytes.as_slice() == [from, to, 7].as_slice()
+        }
+        None => false,
+    }
+}
+
+// Makes a change. Whether a frame that it sent is found under the number that it got.
+fn make(alloc: Global, net: &mut Net, change: Change) -> Result<bool, Fail> {
+    match change {
+        Change::Send(from, to) => {
+            let k = net.send(from, to, bytes(alloc, &[from, to, 7])?)?;
+            return Ok(has_frame(net, k, from, to));
+        }
+        Change::Deliver(k) => net.delivered(k),
+        Change::Lose(k) => net.lose(k),
+    }
+    Ok(true)
+}
+
 #[test]
 fn frames_are_told_apart_by_number(rt: HostRuntime) -> Result<(), Fail> {
     let alloc = rt.alloc();
     let mut net = Net::new(alloc);
     assert!(rt; !has_open(&net));
-    let rows = [
+    for (row, lowest) in [
         (Change::Send(1, 2), Some(1)),
         (Change::Send(2, 1), Some(1)),
         (Change::Send(1, 3), Some(1)),
@@ -44,26 +69,11 @@ fn frames_are_told_apart_by_number(rt: HostRuntime) -> Result<(), Fail> {
         (Change::Deliver(3), None),
         (Change::Send(3, 1), Some(4)),
         (Change::Lose(4), None),
-    ];
-    let mut number = 0;
-    for (change, lowest) in rows {
-        match change {
-            Change::Send(from, to) => {
-                number = net.send(from, to, bytes(alloc, &[from, to, 7])?)?;
-            }
-            Change::Deliver(k) => net.delivered(k),
-            Change::Lose(k) => net.lose(k),
-        }
-        assert_eq!(rt; net.lowest(), lowest);
+    ] {
+        assert!(rt; make(alloc, &mut net, row)? && net.lowest() == lowest);
     }
-    assert_eq!(rt; number, 4);
     for (k, from, to) in [(1, 1, 2), (2, 2, 1), (3, 1, 3), (4, 3, 1)] {
-        let Some(frame) = net.get(k) else {
-            return Err(Fail::new("no frame"));
-        };
-        assert_eq!(rt; frame.from, from);
-        assert_eq!(rt; frame.to, to);
-        assert_eq!(rt; frame.bytes.as_slice(), [from, to, 7].as_slice());
+        assert!(rt; has_frame(&net, k, from, to));
     }
     assert!(rt; net.get(0).is_none() && net.get(5).is_none());
     Ok(())

@@ -173,6 +173,28 @@ fn calls_of(alloc: Global, list: RecordList<u64>, commits: bool) -> Vec<Got> {
     scene.calls
 }
 
+// Whether a merged list has its six records and this one lock, and none of an object that is forgotten, unless it is 0.
+fn forgets(list: &mut RecordList<u64>, gone: u16) -> bool {
+    if list.len() != 6 || !is_write_locked(list.as_slice(), 2) {
+        return false;
+    }
+    list.forget(object_uid(gone));
+    gone == 0 || !has_record(list, object_uid(gone))
+}
+
+// Whether the scene gets these calls where such a list ends.
+fn ends_so(
+    alloc: Global,
+    mut list: RecordList<u64>,
+    gone: u16,
+    commits: bool,
+    want: &[Got],
+) -> bool {
+    let forgot = forgets(&mut list, gone);
+    let calls = calls_of(alloc, list, commits);
+    forgot && calls.as_slice() == want
+}
+
 #[test]
 fn two_merges_and_an_end(rt: HostRuntime) -> Result<(), Fail> {
     let alloc = rt.alloc();
@@ -199,13 +221,7 @@ fn two_merges_and_an_end(rt: HostRuntime) -> Result<(), Fail> {
         (1, true, &[Got::Pass(top), Got::Raise(two, top)]),
     ];
     for (gone, commits, want) in cases {
-        let mut list = merged_twice(alloc)?;
-        assert_eq!(rt; list.len(), 6);
-        assert!(rt; is_write_locked(list.as_slice(), 2));
-        list.forget(object_uid(gone));
-        assert!(rt; gone == 0 || !has_record(&list, object_uid(gone)));
-        let calls = calls_of(alloc, list, commits);
-        assert_eq!(rt; calls.as_slice(), want);
+        assert!(rt; ends_so(alloc, merged_twice(alloc)?, gone, commits, want));
     }
     assert!(rt; calls_of(alloc, RecordList::new(alloc), false).is_empty());
     assert!(rt; calls_of(alloc, RecordList::new(alloc), true).is_empty());
@@ -243,8 +259,34 @@ fn calls_of_one<R: AbstractRecord<u64>>(alloc: Global, one: R, operation: u8) ->
     scene.calls
 }
 
+// Whether the record of this order merges with those of its kind and object alone.
+fn merges_with_its_kind(alloc: Global, one: &Record<u64>, order: u8) -> bool {
+    for other in 1..4u8 {
+        if merges_with(alloc, one, other, 1) != (other == order) {
+            return false;
+        }
+        if merges_with(alloc, one, other, 2) {
+            return false;
+        }
+    }
+    true
+}
+
+// What a top-level commit stores, where the record has this order and may be nested.
+fn stored(one: &Record<u64>, order: u8) -> Option<Option<Uid>> {
+    if one.order() != order || !one.nested_prepare() {
+        return None;
+    }
+    Some(one.top_prepare())
+}
+
+// Whether the scene gets these calls where the record of this order ends so.
+fn ends_with(alloc: Global, order: u8, operation: u8, want: &[Got]) -> bool {
+    calls_of_one(alloc, record_of(order, 1), operation).as_slice() == want
+}
+
 #[test]
-fn each_record_by_itself(rt: HostRuntime) -> Result<(), Fail> {
+fn each_record_by_itself(rt: HostRuntime) {
     let alloc = rt.alloc();
     let object = object_uid(1);
     let top = action(1);
@@ -256,22 +298,11 @@ fn each_record_by_itself(rt: HostRuntime) -> Result<(), Fail> {
     ];
     for (order, stores, undone, kept) in cases {
         let one = record_of(order, 1);
-        assert_eq!(rt; one.order(), order);
-        assert_eq!(rt; one.top_prepare(), stores);
-        assert!(rt; one.nested_prepare());
-        for other in 1..4u8 {
-            assert_eq!(rt; merges_with(alloc, &one, other, 1), other == order);
-            assert!(rt; !merges_with(alloc, &one, other, 2));
-        }
-        assert_eq!(rt; calls_of_one(alloc, one, 0).as_slice(), undone);
-        assert_eq!(rt;
-            calls_of_one(alloc, record_of(order, 1), 1).as_slice(),
-            undone
-        );
-        assert_eq!(rt;
-            calls_of_one(alloc, record_of(order, 1), 2).as_slice(),
-            kept
-        );
+        assert!(rt; stored(&one, order) == Some(stores));
+        assert!(rt; merges_with_its_kind(alloc, &one, order));
+        calls_of_one(alloc, one, 0);
+        assert!(rt; ends_with(alloc, order, 0, undone));
+        assert!(rt; ends_with(alloc, order, 1, undone));
+        assert!(rt; ends_with(alloc, order, 2, kept));
     }
-    Ok(())
 }

@@ -1,5 +1,8 @@
 // The packed form of a state.
+ghost use Rattle.std.specs.Prelude.{◌≡◌};
+
 use arj_base::{Bytes, Class, ObjectState, Uid, object_uid, pack, unpack};
+use std::alloc::{AllocError, Global};
 use std::test::Fail;
 
 // Object 1, a counter of value 5, in its first version, written by the action 1.1.1.
@@ -8,34 +11,57 @@ const PACKED: [u8; 55] = [
     1, 0, 0, 0, 1, 0, 0, 0, 1, 0, 0, 0, 0, 0, 0, 0, 1, 0, 8, 0, 0, 0, 0, 0, 0, 0, 5,
 ];
 
-#[test]
-fn packs_and_unpacks(rt: HostRuntime) -> Result<(), Fail> {
-    let writer = Uid {
-        node: 1,
-        inc: 1,
-        num: 1,
-    };
-    let mut payload = Bytes::new(rt.alloc());
-    payload.extend(&[0, 0, 0, 0, 0, 0, 0, 5])?;
-    let state = ObjectState {
+const WRITER: Uid = Uid {
+    node: 1,
+    inc: 1,
+    num: 1,
+};
+
+fn state(payload: Bytes) -> ObjectState
+    ensures { result.payload ≡ payload }
+{
+    ObjectState {
         uid: object_uid(1),
         class: Class::Counter,
         version: 1,
-        writer,
+        writer: WRITER,
         payload,
-    };
-    assert_eq!(rt; state.payload.copy()?.as_slice(), &PACKED[47..]);
-    assert_eq!(rt; pack(rt.alloc(), &state)?.as_slice(), PACKED.as_slice());
-    let read = unpack(rt.alloc(), &PACKED)?;
-    assert_eq!(rt; read.uid, object_uid(1));
-    assert_eq!(rt; read.class, Class::Counter);
-    assert_eq!(rt; read.version, 1);
-    assert_eq!(rt; read.writer, writer);
-    assert_eq!(rt; read.payload.as_slice(), &PACKED[47..]);
+    }
+}
+
+// Whether a state is that one, field by field.
+fn is_that_state(state: &ObjectState) -> bool {
+    if state.uid != object_uid(1) || state.class != Class::Counter {
+        return false;
+    }
+    if state.version != 1 || state.writer != WRITER {
+        return false;
+    }
+    state.payload.as_slice() == &PACKED[47..]
+}
+
+// Whether a copy of these bytes is the end of the packed state.
+fn copies(payload: &Bytes) -> Result<bool, AllocError> {
+    Ok(payload.copy()?.as_slice() == &PACKED[47..])
+}
+
+#[test]
+fn packs(rt: HostRuntime) -> Result<(), Fail> {
+    let mut payload = Bytes::new(rt.alloc());
+    payload.extend(&[0, 0, 0, 0, 0, 0, 0, 5])?;
+    assert!(rt; copies(&payload)?);
     assert_eq!(rt;
-        read.writer.text(rt.alloc())?.as_slice(),
-        b"1.1.1".as_slice()
+        pack(rt.alloc(), &state(payload))?.as_slice(),
+        PACKED.as_slice()
     );
+    Ok(())
+}
+
+#[test]
+fn unpacks(rt: HostRuntime) -> Result<(), Fail> {
+    assert!(rt; is_that_state(&unpack(rt.alloc(), &PACKED)?));
+    let writer = WRITER.text(rt.alloc())?;
+    assert_eq!(rt; writer.as_slice(), b"1.1.1".as_slice());
     Ok(())
 }
 
