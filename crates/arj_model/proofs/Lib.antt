@@ -4,4 +4,5 @@ pub mod Order
 pub mod Read
 pub mod NodeRows
 pub mod Rows
+mod Junk
 mod Wrong

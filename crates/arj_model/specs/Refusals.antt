@@ -1,5 +1,5 @@
 -- Which events are refused: the nodes that are up, the actions that wait, and the causes by number.
-use Rattle.std.specs.Prelude.{ℕ, ◌+◌, List, [], ◌∷◌, length, filter, Bool, true, false, ◌==◌, ◌&&◌, ◌||◌, not, nat_lt, nat_le, if◌then◌else◌, Option, Some, None, is_some, is_none}
+use Rattle.std.specs.Prelude.{ℕ, ◌+◌, List, [], ◌∷◌, length, filter, Bool, true, false, ◌==◌, ◌&&◌, ◌||◌, not, nat_lt, nat_le, if◌then◌else◌, Option, Some, None, is_some, is_none, Result, Ok, Err}
 use Rattle.std.specs.List.{list_any}
 use Rattle.std.specs.Str.{bytes_eq}
 use Rattle.arj_base.specs.declared.uid.Uid.{Uid}
@@ -16,6 +16,8 @@ use Rattle.arj_journal.specs.declared.event.FrameNo.{FrameNo}
 use Rattle.arj_journal.specs.declared.event.FrameNo.TheVariants.{Number, Last}
 use Rattle.arj_journal.specs.declared.header.Header.{Header}
 use Rattle.arj_journal.specs.declared.header.ObjectLine.{ObjectLine}
+use Rattle.arj_msg.specs.declared.message.Message.{Message}
+use Rattle.arj_msg.specs.Layout.{message}
 use Rattle.arj_text.specs.Label.{name}
 use Rattle.arj_model.specs.Actions.{Act, Placed, acts, act_in, is_begun, is_over, is_serial, root_in, top_in, path}
 use Rattle.arj_model.specs.Calls.{committings}
@@ -247,6 +249,17 @@ abbrev pub frame_no : List Line → FrameNo → ℕ
 frame_no lines (Number k) = k
 frame_no lines Last = last_frame lines
 
+-- What is a message.
+
+-- a message was read, and no byte is left behind it
+abbrev pub is_whole : Result (Message × List ℕ) ℕ → Bool
+is_whole (Ok read) = length read.1 == 0
+is_whole (Err left) = false
+
+-- the bytes are the spelling of a message
+abbrev pub is_message : List ℕ → Bool
+is_message bytes = is_whole (message.read bytes)
+
 -- Causes.
 
 -- The conditions of the causes 5 and 6: no accepted event gave the label; its action is over.
@@ -255,8 +268,8 @@ asks_known past l rest = (5, not (is_begun past.lines l)) ∷ (6, has_ended past
 
 -- The causes for which an event may be refused, by number, each with its condition on the run so far: 1 unknown node,
 -- 2 node down, 3 node up, 4 label used, 5 unknown label, 6 ended, 7 waiting, 8 not waiting, 9 open children, 10 wrong
--- parent, 11 no calls, 13 unknown object, 14 wrong operation, 15 too deep, 16 too many, 17 no message. Cause 12, doomed, is
--- told apart, and that a junk event's bytes are a message (18) isn't told here.
+-- parent, 11 no calls, 13 unknown object, 14 wrong operation, 15 too deep, 16 too many, 17 no message, 18 a message. Cause
+-- 12, doomed, is told apart.
 abbrev pub causes : Header → Past → Event → List (ℕ × Bool)
 causes header past (event.Begin l n) = (1, not (is_node header n)) ∷ (2, is_down past.lines n) ∷ (4, is_begun past.lines (name l)) ∷ []
 causes header past (event.Serial l n) = (1, not (is_node header n)) ∷ (2, is_down past.lines n) ∷ (4, is_begun past.lines (name l)) ∷ []
@@ -283,7 +296,7 @@ causes header past (event.Tick n) = (1, not (is_node header n)) ∷ (2, is_down 
 causes header past (event.Crash n) = (1, not (is_node header n)) ∷ (2, is_down past.lines n) ∷ []
 causes header past (event.Restart n) = (1, not (is_node header n)) ∷ (3, not (is_down past.lines n)) ∷ []
 causes header past (event.Stop n calls k) = (1, not (is_node header n)) ∷ []
-causes header past (event.Junk n bytes) = (1, not (is_node header n)) ∷ []
+causes header past (event.Junk n bytes) = (1, not (is_node header n)) ∷ (18, is_message bytes) ∷ []
 causes header past (event.Show x) = (13, is_none (object_line header x)) ∷ []
 causes header past event.Settle = []
 causes header past event.Quiesce = []
