@@ -10,6 +10,16 @@ pub mod Refusals
 pub mod Own
 pub mod Follows
 pub mod Causes
+pub mod CauseSpans
+pub mod CauseCopies
+pub mod CausePends
+pub mod CauseAnswers
+pub mod CauseEnds
+pub mod CauseCommits
+pub mod Outcome
+pub mod CauseLocks
+pub mod CauseNodes
+pub mod Caused
 pub mod Arms
 pub mod Clean
 pub mod Disks

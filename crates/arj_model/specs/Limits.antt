@@ -13,6 +13,10 @@ most_objects = 16
 abbrev pub most_actions : ℕ
 most_actions = 64
 
+-- the most frames that a run sends
+abbrev pub most_frames : ℕ
+most_frames = 100000
+
 -- the most actions of a path
 abbrev pub most_on_path : ℕ
 most_on_path = 16

@@ -1,5 +1,5 @@
 -- A run so far: how many events were run, those of them that were accepted, and the lines.
-use Rattle.std.specs.Prelude.{◌≡◌, ℕ, ◌+◌, List, [], ◌∷◌, ◌++◌, map, Bool, true, false, if◌then◌else◌}
+use Rattle.std.specs.Prelude.{◌≡◌, ℕ, ◌+◌, List, [], ◌∷◌, ◌++◌, length, map, Bool, true, false, if◌then◌else◌}
 use Rattle.arj_journal.specs.declared.body.Body.{Body}
 use Rattle.arj_journal.specs.declared.body.Body.TheVariants as body
 use Rattle.arj_journal.specs.declared.body.Line.{Line}
@@ -8,10 +8,13 @@ use Rattle.arj_journal.specs.declared.event.Event.TheVariants as event
 use Rattle.arj_text.specs.Label.{name}
 use Rattle.arj_model.specs.Actions.{Act, acts, path}
 
--- An accepted event that names an action, with that action's path.
+-- An accepted event, by its number, with the path of the action that it names, where it names one, and how many lines
+-- stood before it.
 pub record Asked : Type 0 where
   pub path : List Act
   pub event : Event
+  pub number : ℕ
+  pub at : ℕ
 
 -- A run so far: how many events were run, those of them that were accepted, and the lines.
 pub record Past : Type 0 where
@@ -32,9 +35,9 @@ label_of (event.Abort l) = name l
 label_of (event.GiveUp l) = name l
 label_of _ = []
 
--- the event, with the path of the action that it names, as it is when the event comes
+-- the event as it comes
 abbrev pub asked_of : Past → Event → Asked
-asked_of past e = record { path = path (acts past.lines) (label_of e); event = e }
+asked_of past e = record { path = path (acts past.lines) (label_of e); event = e; number = past.count + 1; at = length past.lines }
 
 -- the lines of one event
 abbrev pub block : ℕ → List Body → List Line

@@ -1,6 +1,7 @@
 -- Which events are refused: the nodes that are up, the actions that wait, and the causes by number.
 use Rattle.std.specs.Prelude.{ℕ, ◌+◌, List, [], ◌∷◌, length, filter, Bool, true, false, ◌==◌, ◌&&◌, ◌||◌, not, nat_lt, nat_le, if◌then◌else◌, Option, Some, None, is_some, is_none, Result, Ok, Err}
 use Rattle.std.specs.List.{list_any}
+use Rattle.std.specs.Option.{option_map}
 use Rattle.std.specs.Str.{bytes_eq}
 use Rattle.arj_base.specs.declared.uid.Uid.{Uid}
 use Rattle.arj_class.specs.declared.op.Op.{Op}
@@ -94,10 +95,10 @@ is_answer_to l (body.Lost m n) = bytes_eq (name m) l
 is_answer_to l (body.Changed m n difference) = bytes_eq (name m) l
 is_answer_to l _ = false
 
--- the last of these events
-abbrev pub last_asked : List Asked → Option Event
+-- the last of these
+abbrev pub last_asked : List Asked → Option Asked
 last_asked [] = None
-last_asked (a ∷ []) = Some a.event
+last_asked (a ∷ []) = Some a
 last_asked (a ∷ b ∷ rest) = last_asked (b ∷ rest)
 
 -- the accepted calls and includes of the action
@@ -109,8 +110,12 @@ abbrev pub answers_to : List Line → List ℕ → List Line
 answers_to lines l = filter (λ line. is_answer_to l line.body) lines
 
 -- the accepted call or include of the action that isn't answered yet
+abbrev pub unanswered : List Asked → List Line → List ℕ → Option Asked
+unanswered accepted lines l = if nat_lt (length (answers_to lines l)) (length (asks_by accepted l)) then last_asked (asks_by accepted l) else None
+
+-- what it asks
 abbrev pub pending : List Asked → List Line → List ℕ → Option Event
-pending accepted lines l = if nat_lt (length (answers_to lines l)) (length (asks_by accepted l)) then last_asked (asks_by accepted l) else None
+pending accepted lines l = option_map (λ a. a.event) (unanswered accepted lines l)
 
 -- A Bool of an action, false where there is none.
 abbrev pub holds_of : (Act → Bool) → Option Act → Bool
