@@ -1,8 +1,10 @@
 -- Small wrong journals that the definitions refuse, each beside a right one.
-use Rattle.std.specs.Prelude.{◌≡◌, refl, ◌+◌, List, [], ◌∷◌, ◌++◌, map, take, replicate, get_or, codes, Bool, true, false, cond, nat_lt, Some, None}
+use Rattle.std.specs.List.{list_all}
+use Rattle.std.specs.Prelude.{◌≡◌, ◌⊎◌, refl, ℕ, ◌+◌, List, [], ◌∷◌, ◌++◌, map, take, replicate, get_or, codes, Bool, true, false, cond, nat_lt, Some, None}
 use Rattle.std.proofs.Common.{arith, inl, inr, ap, ◌∙◌}
 use Rattle.arj_base.specs.declared.state.Class.TheVariants as class
 use Rattle.arj_base.specs.Uid.{object}
+use Rattle.arj_base.specs.declared.uid.Uid.{Uid}
 use Rattle.arj_class.specs.declared.op.Op.TheVariants.{Get, Add}
 use Rattle.arj_class.specs.declared.op.Answer.TheVariants.{Done, Over}
 use Rattle.arj_class.specs.declared.value.Value.{Value}
@@ -22,7 +24,7 @@ use Rattle.arj_model.specs.Actions.{acts, act_in}
 use Rattle.arj_model.specs.Past.{Past, nothing_yet, block}
 use Rattle.arj_model.specs.Refusals.{refusal}
 use Rattle.arj_model.specs.Own.{Begins, aborted_of, may_stand, halts_fit}
-use Rattle.arj_model.specs.Follows.{Step, Accepted, AnswerFits, IsAnswerOf}
+use Rattle.arj_model.specs.Follows.{Step, Accepted, AnswerFits, AreEnding, IsAnswerOf, IsRefusedDoomed}
 use Rattle.arj_model.specs.Causes.{is_full, is_late}
 use Rattle.arj_model.specs.Clean.{undecided, next_state}
 use Rattle.arj_model.proofs.Journals.{A, B, C, D, N, S, T, uid, began, counter, lines_of, one_node, three_nodes, nested_abort_bodies, stop_at_decision_done_bodies, to_prepares}
@@ -152,6 +154,50 @@ kind_causes :
     ∷ event.Restart 1 ∷ event.Tick 2 ∷ event.Show 9 ∷ event.Abort D ∷ [])
     ≡ Some 9 ∷ Some 9 ∷ Some 9 ∷ None ∷ Some 11 ∷ Some 10 ∷ None ∷ None ∷ Some 8 ∷ Some 3 ∷ Some 1 ∷ Some 13 ∷ None ∷ []
 kind_causes = refl
+
+-- the Uid of the action that the first of these lines begins
+abbrev uid_first : List Body → Uid
+uid_first (body.Began l k u p ∷ rest) = u
+uid_first _ = uid 0
+
+abbrev num_first : List Body → ℕ
+num_first bodies = (uid_first bodies).num
+
+abbrev node_first : List Body → ℕ
+node_first bodies = (uid_first bodies).node
+
+-- A beginning has its one line: with the next Uid of the node, of the event's own kind, and nothing behind it.
+begins_so : (bodies : List Body) → Step (one_node 0) nothing_yet (event.Begin A 1) bodies → bodies ≡ began A kind.Top 1 None ∷ []
+begins_so bodies s = by s.lines
+  where
+    alone : (own others last : List Body) → list_all (may_stand (event.Begin A 1)) others ≡ true → last ≡ [] → own ≡ began A kind.Top 1 None ∷ []
+        → bodies ≡ own ++ (others ++ last) → bodies ≡ began A kind.Top 1 None ∷ []
+    alone own [] last only ends begins parts = parts ∙ (ap (λ (o : List Body). o ++ last) begins ∙ ap (λ (o : List Body). began A kind.Top 1 None ∷ o) ends)
+    alone own (b ∷ bs) last only ends begins parts = cc
+
+    by : (Accepted (one_node 0) nothing_yet (event.Begin A 1) bodies ⊎ IsRefusedDoomed (one_node 0) nothing_yet (event.Begin A 1) bodies) → bodies ≡ began A kind.Top 1 None ∷ []
+    by (inl a) = alone a.own a.others a.last a.only a.ends a.begins a.parts
+    by (inr d) = let e = d.about in cc
+
+-- so not without a line, and with no other Uid, node or kind, and no halt
+no_silent_begin : Step (one_node 0) nothing_yet (event.Begin A 1) [] → ⊥
+no_silent_begin s = let h = begins_so [] s in cc
+
+no_later_uid : Step (one_node 0) nothing_yet (event.Begin A 1) (began A kind.Top 2 None ∷ []) → ⊥
+no_later_uid s = let h : 2 ≡ 1 = ap num_first (begins_so (began A kind.Top 2 None ∷ []) s) in omega (arith, h)
+
+no_other_node : Step (one_node 0) nothing_yet (event.Begin A 1) (body.Began A kind.Top (record { node = 2; inc = 1; num = 1 }) None ∷ []) → ⊥
+no_other_node s = let h : 2 ≡ 1 = ap node_first (begins_so (body.Began A kind.Top (record { node = 2; inc = 1; num = 1 }) None ∷ []) s) in omega (arith, h)
+
+no_other_kind : Step (one_node 0) nothing_yet (event.Begin A 1) (began A kind.Nested 1 None ∷ []) → ⊥
+no_other_kind s = let h = begins_so (began A kind.Nested 1 None ∷ []) s in cc
+
+no_halt_behind : Step (one_node 0) nothing_yet (event.Begin A 1) (began A kind.Top 1 None ∷ body.Halted 1 ∷ []) → ⊥
+no_halt_behind s = let h = begins_so (began A kind.Top 1 None ∷ body.Halted 1 ∷ []) s in cc
+
+-- A line that can't be read is told with the number of the events that were run.
+no_early_end : AreEnding 3 (record { event = 0; body = body.Bad 3 } ∷ []) → ⊥
+no_early_end h = let e : 0 ≡ 3 = h.0 in omega (arith, e)
 
 -- Behind the limit of frames no event is run.
 no_event_behind : (bodies : List Body) → Step (one_node 0) (record begun { lines = begun.lines ++ block 2 (body.Limit which.Frames ∷ []) }) (event.Begin B 1) bodies → ⊥

@@ -16,7 +16,8 @@ use Rattle.arj_text.specs.Label.{name}
 use Rattle.arj_text.specs.Words.{answer_text}
 use Rattle.arj_model.specs.Past.{Past, Asked, asked_of, block, Along, nothing_yet}
 use Rattle.arj_model.specs.Refusals.{refusal, waits_for, is_committing, is_down, has_frame}
-use Rattle.arj_model.specs.Own.{Begins, Ends, may_stand, halts_fit, may_be_doomed}
+use Rattle.arj_model.specs.Own.{Begins, Ends, may_stand, halts_fit}
+use Rattle.arj_model.specs.CauseSpans.{is_doomed}
 
 -- Answers.
 
@@ -79,12 +80,11 @@ abbrev pub is_behind_doom : Option ℕ → Bool
 is_behind_doom None = true
 is_behind_doom (Some c) = nat_lt 12 c
 
--- A doomed action takes no more (12), where no lower number holds. Which action is doomed the journal tells in part: one
--- of which a call was lost at a server that was sent an Invoke.
+-- A doomed action takes no more (12), where no lower number holds.
 pub record IsRefusedDoomed (header : Header) (past : Past) (e : Event) (bodies : List Body) : Type 0 where
   pub label : List ℕ
   pub about : label_doomed e ≡ Some label
-  pub lost : may_be_doomed past.lines label ≡ true
+  pub lost : is_doomed past.accepted past.lines label ≡ true
   pub lowest : is_behind_doom (refusal header past e) ≡ true
   pub line : bodies ≡ body.Refused 12 ∷ []
 

@@ -7,10 +7,10 @@ pub mod OkTable
 pub mod Table
 pub mod Past
 pub mod Refusals
+pub mod CauseSpans
 pub mod Own
 pub mod Follows
 pub mod Causes
-pub mod CauseSpans
 pub mod CauseCopies
 pub mod CausePends
 pub mod CauseAnswers

@@ -19,8 +19,8 @@ use Rattle.arj_text.specs.declared.label.Label.{Label}
 use Rattle.arj_text.specs.Label.{name}
 use Rattle.arj_model.specs.Actions.{Act, acts, act_in, is_over, is_serial, path_in}
 use Rattle.arj_model.specs.Past.{Past}
-use Rattle.arj_model.specs.Last.{is_among}
-use Rattle.arj_model.specs.Refusals.{holds_of, is_answer_to, next_uid, incarnation, is_serializing, frame_no, last_frame}
+use Rattle.arj_model.specs.CauseSpans.{is_doomed}
+use Rattle.arj_model.specs.Refusals.{next_uid, incarnation, is_serializing, frame_no, last_frame}
 
 -- Nodes of events.
 
@@ -77,27 +77,6 @@ AreAborted [] [] = ⊤
 AreAborted (a ∷ as_begun) (body.Aborted l cause.Asked ∷ own) = (name l ≡ a.label) × AreAborted as_begun own
 AreAborted _ _ = ⊥
 
--- What the lines tell of dooms of an action: the servers to which its node has sent an Invoke since the action's last
--- answer, and whether a call of it was lost at one of these. Whether that Invoke was the action's own they don't tell.
-pub record Doom : Type 0 where
-  pub servers : List ℕ
-  pub told : Bool
-
--- An Invoke adds its server; an answer of the action begins anew, and one that tells of a loss at such a server tells of a doom.
-abbrev pub doom_step : ℕ → List ℕ → Body → Doom → Doom
-doom_step node l (body.Sent k from to frame.Invoke) d = if from == node then record d { servers = to ∷ d.servers } else d
-doom_step node l (body.Lost m n) d = if bytes_eq (name m) l then record { servers = []; told = d.told || is_among d.servers n } else d
-doom_step node l b d = if is_answer_to l b then record d { servers = [] } else d
-
--- the same over lines
-abbrev pub doom_from : ℕ → List ℕ → Doom → List Line → Doom
-doom_from node l d [] = d
-doom_from node l d (line ∷ lines) = doom_from node l (doom_step node l line.body d) lines
-
--- the action with this label may be doomed: a call of it was given up after an Invoke had gone to the server
-abbrev pub may_be_doomed : List Line → List ℕ → Bool
-may_be_doomed lines l = holds_of (λ a. (doom_from a.uid.node l (record { servers = []; told = false }) lines).told) (act_in (acts lines) l)
-
 -- the line that a commit begins with, by the kind of the action
 abbrev pub commit_line : Kind → Label → Body
 commit_line kind.Nested l = body.Committed l
@@ -105,11 +84,11 @@ commit_line kind.Serial l = body.Ended l
 commit_line _ l = body.Committing l
 
 -- a commit begins with that line, or a doomed action is aborted in its place
-abbrev pub BeginsCommit : List Line → Label → Option Act → List Body → Type 0
-BeginsCommit lines l None own = ⊥
-BeginsCommit lines l (Some a) own =
+abbrev pub BeginsCommit : Past → Label → Option Act → List Body → Type 0
+BeginsCommit past l None own = ⊥
+BeginsCommit past l (Some a) own =
     (own ≡ commit_line a.kind l ∷ [])
-    ⊎ ((own ≡ body.Aborted l cause.Doomed ∷ []) × (is_serial a.kind ≡ false) × (may_be_doomed lines (name l) ≡ true))
+    ⊎ ((own ≡ body.Aborted l cause.Doomed ∷ []) × (is_serial a.kind ≡ false) × (is_doomed past.accepted past.lines (name l) ≡ true))
 
 -- one line or more, each that this action gave up a node, the nodes increasing
 abbrev pub AreGiveUps : Label → List Body → Type 0
@@ -132,7 +111,7 @@ Begins header past (event.Serial l n) own = own ≡ body.Began l kind.Serial (ne
 Begins header past (event.BeginIn l p) own =
     BeginsBelow past.lines l p (if is_serializing past.lines (name p) then kind.Constituent else kind.Nested) own
 Begins header past (event.Top l p) own = BeginsBelow past.lines l p kind.Independent own
-Begins header past (event.Commit l) own = BeginsCommit past.lines l (act_in (acts past.lines) (name l)) own
+Begins header past (event.Commit l) own = BeginsCommit past l (act_in (acts past.lines) (name l)) own
 Begins header past (event.Abort l) own = AreAborted (aborted_of past.lines (act_in (acts past.lines) (name l))) own
 Begins header past (event.GiveUp l) own = AreGiveUps l own
 Begins header past (event.Deliver k) own = IsDelivery (frame_no past.lines k) own
