@@ -1,0 +1,93 @@
+-- Words for runs: their events with the lines that each wrote, changes of lines, and which lines lack a cause.
+use Rattle.std.specs.Prelude.{ℕ, zero, suc, ◌+◌, ◌-◌, List, [], ◌∷◌, ◌++◌, length, nat_le, replicate, refl, if◌then◌else◌}
+use Rattle.std.proofs.Common.{arith}
+use Rattle.arj_base.specs.declared.binding.Binding.{Binding}
+use Rattle.arj_base.specs.declared.uid.Uid.{Uid}
+use Rattle.arj_class.specs.declared.value.Value.{Value}
+use Rattle.arj_text.specs.declared.label.Label.{Label}
+use Rattle.arj_journal.specs.declared.body.Body.{Body}
+use Rattle.arj_journal.specs.declared.event.Event.{Event}
+use Rattle.arj_journal.specs.declared.header.Header.{Header}
+use Rattle.arj_journal.specs.declared.header.ObjectLine.{ObjectLine}
+use Rattle.arj_model.specs.Past.{Past, next, nothing_yet}
+use Rattle.arj_model.specs.CauseSpans.{Here, behind, here_at}
+use Rattle.arj_model.specs.Caused.{has_cause}
+
+-- a label of one letter
+abbrev pub l : ℕ → Label
+l letter = record { len = 1; text = letter ∷ replicate 15 0; whole = refl; short = omega arith; zeros = refl }
+
+-- a Uid of a node, an incarnation and a number
+abbrev pub u : ℕ → ℕ → ℕ → Uid
+u n i k = record { node = n; inc = i; num = k }
+
+-- a binding of an incarnation and a count
+abbrev pub b : ℕ → ℕ → Binding
+b i k = record { inc = i; count = k }
+
+-- an object of a header: its first value, servers and stores
+abbrev pub object_line : ℕ → Value → List ℕ → List ℕ → ObjectLine
+object_line x v servers stores = record { x = x; value = v; servers = servers; stores = stores }
+
+-- a header of so many nodes
+abbrev pub nodes : ℕ → List ObjectLine → Header
+nodes n objects = record { nodes = n; objects = objects }
+
+-- an event with the lines that it wrote
+abbrev pub Wrote : Type 0
+Wrote = Event × List Body
+
+-- a run
+pub record Run : Type 0 where
+  pub header : Header
+  pub wrote : List Wrote
+
+-- a run by its parts
+abbrev pub run : Header → List Wrote → Run
+run header wrote = record { header = header; wrote = wrote }
+
+-- the places of those lines of an event that lack a cause, from 1
+abbrev pub lacking_in : Here → List Body → List ℕ
+lacking_in h [] = []
+lacking_in h (body ∷ rest) = if has_cause h body then lacking_in (behind h body) rest else (length h.lines + 1) ∷ lacking_in (behind h body) rest
+
+-- the same over events
+abbrev pub lacking_from : Header → Past → List Wrote → List ℕ
+lacking_from header past [] = []
+lacking_from header past (w ∷ rest) = lacking_in (here_at header past w.0 w.1) w.1 ++ lacking_from header (next past w.0 w.1) rest
+
+-- the places of the lines of a run that lack a cause
+abbrev pub lacking : Run → List ℕ
+lacking r = lacking_from r.header nothing_yet r.wrote
+
+-- the lines with the one at this place, from 1, made into others
+abbrev pub change_in : ℕ → (Body → List Body) → List Body → List Body
+change_in zero f bodies = bodies
+change_in n f [] = []
+change_in (suc zero) f (body ∷ rest) = f body ++ rest
+change_in (suc (suc n)) f (body ∷ rest) = body ∷ change_in (suc n) f rest
+
+-- the same over events
+abbrev pub change_from : ℕ → (Body → List Body) → List Wrote → List Wrote
+change_from n f [] = []
+change_from n f (w ∷ rest) = if nat_le n (length w.1) then (w.0, change_in n f w.1) ∷ rest else w ∷ change_from (n - length w.1) f rest
+
+-- the run with the line at this place made into others
+abbrev pub change : ℕ → (Body → List Body) → Run → Run
+change n f r = run r.header (change_from n f r.wrote)
+
+-- the run without it
+abbrev pub without : ℕ → Run → Run
+without n r = change n (λ old. []) r
+
+-- with another in its stead
+abbrev pub instead : ℕ → Body → Run → Run
+instead n new r = change n (λ old. new ∷ []) r
+
+-- with others behind it
+abbrev pub after : ℕ → List Body → Run → Run
+after n new r = change n (λ old. old ∷ new) r
+
+-- with others before it
+abbrev pub before : ℕ → List Body → Run → Run
+before n new r = change n (λ old. new ++ old ∷ []) r
