@@ -48,6 +48,7 @@ core_begun S t p can c = record {
     done = λ a s d. same a (taken_begun a (c.coordinators.decided_taken a d)) (λ g q. target q s ≡ true → Known S (state_for q)) (c.history.done a s d);
     loaded = λ a s. put_cases (λ q. put t true S.begun a ≡ true → has s q.joins ≡ true → Known S q.loaded) t p S.plan a (λ e b j. can.loaded s j) (λ e b j. c.history.loaded a s (old a e b) j);
     chain = c.history.chain;
+    past = c.history.past;
   };
   firm = record {
     kept = λ a s u g. same a (c.fresh.got a s g) (λ st q. open_by (decided S a) st (S.intent a) ≡ true → S.pend s ≡ Some (record { top = a; new = state_for q })) (λ v. c.firm.kept a s v g) u;

@@ -10,7 +10,7 @@ use Rattle.arj_disk_law.specs.Names.{Names, Office, Kept, Answer, Bound, Loaded,
 use Rattle.arj_disk_law.specs.State.{State, Packed, Hold, Gone, naming, is_idle, is_gone, decided, undecided, lists, listed_by, target, list_after, entry_after, last, last_entry, Known, Below, Listed, IsExcused}
 use Rattle.arj_disk_law.specs.Words.{has, In, put}
 use Rattle.arj_disk_law.proofs.Base.{bool_cases, put_same, test_cases, test_is, test_same, differs, or_left, or_right, or_cases, never, some_is, open_done, open_made, falls_to}
-use Rattle.arj_disk_law.proofs.History.{known_last}
+use Rattle.arj_disk_law.proofs.History.{known_below, known_more}
 use Rattle.arj_disk_law.proofs.Keeps.{effect_keeps}
 use Rattle.arj_disk_law.proofs.Kin.{one_top, near, Kin, kin_of, kin_granted, not_over, open_untold}
 use Rattle.arj_disk_law.proofs.Listing.{list_from, list_keeps, list_joins, entry_content, plain_target, list_lacks}
@@ -280,7 +280,7 @@ module _ (A : Office) (c : Named A) (t : ℕ) (x : Allowed A.world (Effects.Deci
               newest : newer g (Some w) ≡ w
               newest = ⊎_elim
                   (λ (z : (nat_lt g.version w.version ≡ true) × (g.version < w.version)). ap (λ b. cond b w g) z.0)
-                  (λ (z : (nat_lt g.version w.version ≡ false) × (w.version ≤ g.version)). absurd (omega (arith, z.1, low (known_last S.first S.tops g core.history.chain known))))
+                  (λ (z : (nat_lt g.version w.version ≡ false) × (w.version ≤ g.version)). absurd (omega (arith, z.1, low (known_below S g core.history known))))
                   (less_cases g.version w.version)
 
           written : (o : Option Packed) → (S.plan t).writes ≡ o → S.conf t ≡ true → last V ≡ load_of V a g
@@ -305,7 +305,7 @@ module _ (A : Office) (c : Named A) (t : ℕ) (x : Allowed A.world (Effects.Deci
               by : (S.light t ≡ true) ⊎ (S.light t ≡ false) → last_entry V ≡ last_entry S
               by (inl l2) = entry_light l2
               by (inr l2) = entry_conf l2 ∙ core.covered.rest t (conf_of l2) open_t (λ h p e. write_clears A c a y.0 (idle a q) row h p)
-      answer (Loaded a i g) y = (y.0, y.1, inr y.2, λ q e u. let z = y.3 (idle a q) e u in (z.0, load a g y.2 z.1))
+      answer (Loaded a i g) y = (y.0, y.1, known_more S t g y.2, λ q e u. let z = y.3 (idle a q) e u in (z.0, load a g y.2 z.1))
 
       pub decided_named : (acked : (a : ℕ) → In (Acked a naming) A.world.sent → (N.told a ≡ true) ⊎ (had a N.inc ≡ false)) → (root : (r : ℕ) → S.serial r ≡ true → had r N.inc ≡ true → N.told r ≡ false → IsHeld V M r)
           → Named (record { world = after A.world (Effects.Decide t); names = M })

@@ -6,7 +6,7 @@ use Rattle.arj_disk_law.specs.State.{Done, State, Packed, Hold, Gone, naming, is
 use Rattle.arj_disk_law.specs.Words.{has, put, In}
 use Rattle.arj_disk_law.proofs.Base.{bool_cases, put_cases, put_same, test_cases, test_is, test_same, test_not, differs, or_cases, or_left, or_right, not_true, never, never_some, some_is, open_done, open_parts, open_made, below_both}
 use Rattle.arj_disk_law.proofs.Entries.{pending_last}
-use Rattle.arj_disk_law.proofs.History.{known_last, effective_none, effective_done}
+use Rattle.arj_disk_law.proofs.History.{known_below, known_more, effective_none, effective_done}
 use Rattle.arj_disk_law.proofs.Listing.{list_from, entry_content, plain_target}
 use Rattle.arj_disk_law.proofs.Stages.{Ages, ages_gone, coordinators_age, fresh_ages}
 
@@ -88,15 +88,16 @@ core_decided S t recorded undone c = by (bool_cases (S.light t)) (c.coordinators
 
     history : ((w : Packed) → (S.plan t).writes ≡ Some w → w.version ≡ (last S).version + 1) → History V
     history next = record {
-      held = λ s g h. inr (c.history.held s g h);
-      done = λ a s d goal. ⊎_elim (λ (e : t ≡ a). subst (λ n. target (S.plan n) s ≡ true → Known V (state_for (S.plan n))) e (mine s (S.plan t).writes refl) goal) (λ (e : decided S a ≡ true). inr (c.history.done a s e goal)) (cases a d);
-      loaded = λ a s b j. inr (c.history.loaded a s b j);
+      held = λ s g h. known_more S t g (c.history.held s g h);
+      done = λ a s d goal. ⊎_elim (λ (e : t ≡ a). subst (λ n. target (S.plan n) s ≡ true → Known V (state_for (S.plan n))) e (mine s (S.plan t).writes refl) goal) (λ (e : decided S a ≡ true). known_more S t (state_for (S.plan a)) (c.history.done a s e goal)) (cases a d);
+      loaded = λ a s b j. known_more S t (S.plan a).loaded (c.history.loaded a s b j);
       chain = (next, c.history.chain);
+      past = c.history.past;
     }
       where
-        mine : (s : ℕ) (o : Option Packed) → (S.plan t).writes ≡ o → target (S.plan t) s ≡ true → ((S.plan t).writes ≡ Some (state_for (S.plan t))) ⊎ Known S (state_for (S.plan t))
-        mine s None e goal = inr (subst (Known S) (sym (ap (λ x. unwrap_or x (S.plan t).loaded) e)) (c.history.loaded t s begun_t (plain_target (S.plan t) s e goal)))
-        mine s (Some w) e goal = inl (e ∙ ap Some (sym (ap (λ x. unwrap_or x (S.plan t).loaded) e)))
+        mine : (s : ℕ) (o : Option Packed) → (S.plan t).writes ≡ o → target (S.plan t) s ≡ true → Known V (state_for (S.plan t))
+        mine s None e goal = known_more S t (state_for (S.plan t)) (subst (Known S) (sym (ap (λ x. unwrap_or x (S.plan t).loaded) e)) (c.history.loaded t s begun_t (plain_target (S.plan t) s e goal)))
+        mine s (Some w) e goal = inl (inl (e ∙ ap Some (sym (ap (λ x. unwrap_or x (S.plan t).loaded) e))))
 
     journal : Journal V
     journal = record {
@@ -220,7 +221,7 @@ core_decided S t recorded undone c = by (bool_cases (S.light t)) (c.coordinators
             let sent = subst (λ n. target (S.plan n) s ≡ true) (sym e) (c.forms.sent s h p) in
             let known = c.history.loaded t s begun_t (plain_target (S.plan t) s plain sent) in
             let state = c.forms.state s h p ∙ (ap (λ n. state_for (S.plan n)) (sym e) ∙ ap (λ o. unwrap_or o (S.plan t).loaded) plain) in
-            let down = subst (λ (x : Packed). Below x (last S)) (sym state) (known_last S.first S.tops (S.plan t).loaded c.history.chain known) in
+            let down = subst (λ (x : Packed). Below x (last S)) (sym state) (known_below S (S.plan t).loaded c.history known) in
             effective_done (decided V) Some (Some h) h (S.held s) refl (subst (λ n. decided V n ≡ true) e now) ∙ ap Some (below_both h.new (last S) down up))
             (λ (e : (t == h.top) ≡ false). same_effective (Option Packed) Some (Some h) (S.held s) (λ k q. differs_hold k q e) ∙ (ap (λ o. effective_by (decided S) Some o (S.held s)) (sym p) ∙ c.effective.store s i))
             (test_cases t h.top)

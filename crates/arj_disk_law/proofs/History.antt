@@ -1,7 +1,8 @@
 -- Known states, and the last one.
 use Rattle.std.proofs.Common.{◌≡◌, ◌⊎◌, ℕ, ◌+◌, ◌<◌, List, [], ◌∷◌, Bool, true, false, cond, ◌==◌, Option, Some, None, refl, sym, ◌∙◌, ap, subst, inl, inr, arith, unwrap_or}
-use Rattle.arj_disk_law.specs.Core.{Chain}
-use Rattle.arj_disk_law.specs.State.{Packed, Hold, Done, last_in, KnownIn, Below, effective_by, decided_in, is_latest_in}
+use Rattle.arj_disk_law.specs.Core.{Chain, History}
+use Rattle.arj_disk_law.specs.Effects.{Decide, changed}
+use Rattle.arj_disk_law.specs.State.{State, Packed, Hold, Done, last_in, last, KnownIn, Known, Below, effective_by, decided_in, is_latest_in, IsPast}
 use Rattle.arj_disk_law.specs.Words.{In}
 use Rattle.arj_disk_law.proofs.Base.{test_same, test_is, or_left, or_right}
 
@@ -22,6 +23,38 @@ known_last first (d ∷ ds) g chain known = by (known_last first ds g chain.1) d
         above : Below g (last_in first ds) → g.version < w.version
         above (inl less) = omega (arith, less, next)
         above (inr is) = omega (arith, ap (λ x. x.version) is, next)
+
+-- where nothing is older
+pub nothing_past : (first : Packed) → IsPast first []
+nothing_past first = record { below = λ g i. absurd i; version = λ g h i. absurd i; writer = by }
+  where
+    by : (g h : Packed) → In g (first ∷ []) → In h (first ∷ []) → g.writer ≡ h.writer → g ≡ h
+    by g h (inl a) (inl b) same = sym a ∙ b
+    by g h (inl a) (inr j) same = absurd j
+    by g h (inr i) _ same = absurd i
+
+-- the first state was the last one
+first_known : (first : Packed) (ds : List Done) → KnownIn first ds first
+first_known first [] = refl
+first_known first (d ∷ ds) = inr (first_known first ds)
+
+-- a known state, and an older one, isn't above the last one
+pub below_last : (first : Packed) (past : List Packed) (ds : List Done) (g : Packed) → Chain first ds → IsPast first past → KnownIn first ds g ⊎ In g past → Below g (last_in first ds)
+below_last first past ds g chain older (inl known) = known_last first ds g chain known
+below_last first past ds g chain older (inr old) = inl (by (known_last first ds first chain (first_known first ds)))
+  where
+    by : Below first (last_in first ds) → g.version < (last_in first ds).version
+    by (inl less) = omega (arith, older.below g old, less)
+    by (inr is) = omega (arith, older.below g old, ap (λ (x : Packed). x.version) is)
+
+-- so it is of an object
+pub known_below : (S : State) (g : Packed) → History S → Known S g → Below g (last S)
+known_below S g h known = below_last S.first S.past S.tops g h.chain h.past known
+
+-- what is known stays so when a top is decided
+pub known_more : (S : State) (t : ℕ) (g : Packed) → Known S g → Known (changed S (Decide t)) g
+known_more S t g (inl known) = inl (inr known)
+known_more S t g (inr old) = inr old
 
 -- the last state was the last one
 pub last_known : (first : Packed) (ds : List Done) → KnownIn first ds (last_in first ds)

@@ -9,7 +9,7 @@ use Rattle.arj_disk_law.specs.Words.{In}
 use Rattle.arj_disk_law.proofs.Acts.{runs_keep, front_runs}
 use Rattle.arj_disk_law.proofs.Base.{never, never_some, open_parts}
 use Rattle.arj_disk_law.proofs.Booking.{agree_locked, enter_locked, changes_part, enter_free}
-use Rattle.arj_disk_law.proofs.History.{known_last}
+use Rattle.arj_disk_law.proofs.History.{known_below}
 use Rattle.arj_disk_law.proofs.Listing.{plain_target}
 use Rattle.arj_disk_law.proofs.Results.{first_is_whole}
 
@@ -33,7 +33,7 @@ old_needs_restart A c t s g u goal next held old present = old (by (S.plan t).wr
     core = c.whole.core
 
     low : Below g (last S)
-    low = known_last S.first S.tops g core.history.chain (core.history.held s g held)
+    low = known_below S g core.history (core.history.held s g held)
 
     above : (w : Packed) → w.version ≡ (last S).version + 1 → Below g (last S) → Below g w
     above w e (inl less) = inl (omega (arith, e, less))

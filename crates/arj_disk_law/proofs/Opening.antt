@@ -7,7 +7,7 @@ use Rattle.arj_disk_law.specs.Guards.{IsUntold, IsPresent, HasPart, MayBegin}
 use Rattle.arj_disk_law.specs.Messages.{IsOver}
 use Rattle.arj_disk_law.specs.Named.{Named, IsHeld, IsLeaving, IsWide, IsLoad, AnswerMeans}
 use Rattle.arj_disk_law.specs.Names.{Names, Office, Kept, Answer, Bound, Loaded, acted, Do, load_of, newer, written_in}
-use Rattle.arj_disk_law.specs.State.{State, Packed, Plan, Preparing, is_idle, is_gone, open_by, decided, undecided, last, Known}
+use Rattle.arj_disk_law.specs.State.{State, Packed, Plan, Preparing, is_idle, is_gone, open_by, decided, undecided, last, IsNew, Known}
 use Rattle.arj_disk_law.specs.Words.{has, In, put}
 use Rattle.arj_disk_law.proofs.Base.{put_cases, put_true, put_rises, put_other, put_same, test_cases, test_not, never, falls_to}
 use Rattle.arj_disk_law.proofs.Keeps.{effect_keeps}
@@ -22,7 +22,7 @@ newer_known S t g k = by (written_in S.root (S.root t) S.tops) refl
     by (Some x) e = at (nat_lt g.version x.version)
       where
         at : (b : Bool) → Known S (cond b x g)
-        at true = written_known S.root (S.root t) S.first S.tops x e
+        at true = inl (written_known S.root (S.root t) S.first S.tops x e)
         at false = k
 
 -- a commit's beginning is allowed, as an effect
@@ -73,8 +73,8 @@ begun_named A t p may c = record {
   };
   answers = λ a m. answer a (c.answers a m);
   plans = record {
-    writer = λ x w b. put_cases (λ (q : Plan). q.writes ≡ Some w → (w.writer ≡ x) × (S.first.writer ≡ x → ⊥)) t p S.plan x
-        (λ e h. let y = may.writer w h in (y.0 ∙ sym e, λ f. y.1 (f ∙ e)))
+    writer = λ x w b. put_cases (λ (q : Plan). q.writes ≡ Some w → (w.writer ≡ x) × IsNew S x) t p S.plan x
+        (λ e h. let y = may.writer w h in (y.0 ∙ sym e, λ g i f. y.1 g i (f ∙ e)))
         (λ e h. c.plans.writer x w (begun_old x e b) h);
     asked = λ x s b. put_cases (λ (q : Plan). has s q.joins ≡ true → (i : ℕ) × (N.had x i ≡ true) × (i ≡ N.inc → IsUntold S N x → N.asked x ≡ true)) t p S.plan x
         (λ e j. let y = may.loaded s j in (y.0, ap (λ n. N.had n y.0) e ∙ y.3, λ f u. ap N.asked e ∙ ((c.answers (Loaded t y.0 y.1) y.2).3 (ap is_idle may.idle) f (subst (IsUntold S N) e u)).0))

@@ -9,7 +9,7 @@ use Rattle.arj_disk_law.specs.Laws.{FirstIsWhole, StopsStayWhole, IsClean, IsExc
 use Rattle.arj_disk_law.specs.State.{State, Packed, Plan, Done, naming, is_open, decided, decided_in, undecided, lists, state_for, hold, list_after, last_in, entry_in, last, last_entry, Known, KnownIn, Below, is_latest, IsExcused}
 use Rattle.arj_disk_law.specs.Words.{has, In}
 use Rattle.arj_disk_law.proofs.Base.{never, never_some, below_both, open_done, open_made, test_same, falls_to, or_left}
-use Rattle.arj_disk_law.proofs.History.{known_last, effective_none, latest_is, in_decided}
+use Rattle.arj_disk_law.proofs.History.{known_below, effective_none, latest_is, in_decided}
 use Rattle.arj_disk_law.proofs.Keeps.{effect_keeps, run_keeps, front_follows}
 use Rattle.arj_disk_law.proofs.Listing.{plain_target}
 use Rattle.arj_disk_law.proofs.Mail.{decide_falls}
@@ -52,7 +52,7 @@ in_time W w t s l wrote i = by (S.plan t).writes refl wrote
         let h = (c.firm.went t s went).1 in
         let state : state_for (S.plan t) ≡ last S = ap (λ o. unwrap_or o (S.plan t).loaded) e ∙ sym (r.2 x e) in
         let up = subst (λ (y : Packed). Below y h.0) state h.2 in
-        let down = known_last S.first S.tops h.0 c.history.chain (c.history.held s h.0 h.1) in
+        let down = known_below S h.0 c.history (c.history.held s h.0 h.1) in
         h.1 ∙ ap Some (below_both h.0 (last S) down up)
 
     by : (o : Option Packed) → (S.plan t).writes ≡ o → is_some (S.plan t).writes ≡ true → IsExcludedInTime S t s
@@ -148,7 +148,7 @@ known_above first (d ∷ ds) g c (inr k) = known_above first ds g c.1 k
 known_above first (d ∷ ds) g c (inl e) = inr (omega (arith, state_version first ds c.1, c.0 g e))
 
 pub old_is_committed : (W : World) → Whole W → OldIsCommitted W.disk
-old_is_committed W w t s g begun sent based held old = (low (known_above S.first S.tops g c.history.chain known), high (known_last S.first S.tops g c.history.chain known))
+old_is_committed W w t s g begun sent based late held old = (low known, high (known_below S g c.history known))
   where
     S : State
     S = W.disk
@@ -161,7 +161,7 @@ old_is_committed W w t s g begun sent based held old = (low (known_above S.first
 
     -- the first state is below each that is sent
     first_below : (o : Option Packed) → (S.plan t).writes ≡ o → Below S.first (state_for (S.plan t))
-    first_below None e = subst (λ o. Below S.first (unwrap_or o (S.plan t).loaded)) (sym e) (at (known_above S.first S.tops (S.plan t).loaded c.history.chain (c.history.loaded t s begun (plain_target (S.plan t) s e sent))))
+    first_below None e = subst (λ o. Below S.first (unwrap_or o (S.plan t).loaded)) (sym e) (⊎_elim (λ k. at (known_above S.first S.tops (S.plan t).loaded c.history.chain k)) (λ i. absurd (late i)) (c.history.loaded t s begun (plain_target (S.plan t) s e sent)))
       where
         at : (S.first ≡ (S.plan t).loaded) ⊎ (S.first.version < (S.plan t).loaded.version) → Below S.first (S.plan t).loaded
         at (inl is) = inr is
@@ -172,9 +172,17 @@ old_is_committed W w t s g begun sent based held old = (low (known_above S.first
         at (inl is) = inl (omega (arith, ap (λ (y : Packed). y.version) is, (based x e).above))
         at (inr less) = inl (omega (arith, less, (based x e).above))
 
-    low : (S.first ≡ g) ⊎ (S.first.version < g.version) → S.first.version < g.version
-    low (inl is) = absurd (old (subst (λ (y : Packed). Below y (state_for (S.plan t))) is (first_below (S.plan t).writes refl)))
-    low (inr less) = less
+    first_under : Below S.first (state_for (S.plan t))
+    first_under = first_below (S.plan t).writes refl
+
+    -- an older one is below it
+    past_under : In g S.past → Below S.first (state_for (S.plan t)) → Below g (state_for (S.plan t))
+    past_under i (inl less) = inl (omega (arith, c.history.past.below g i, less))
+    past_under i (inr is) = inl (omega (arith, c.history.past.below g i, ap (λ (y : Packed). y.version) is))
+
+    low : Known S g → S.first.version < g.version
+    low (inr i) = absurd (old (past_under i first_under))
+    low (inl k) = ⊎_elim (λ (is : S.first ≡ g). absurd (old (subst (λ (y : Packed). Below y (state_for (S.plan t))) is first_under))) (λ (less : S.first.version < g.version). less) (known_above S.first S.tops g c.history.chain k)
 
     high : Below g (last S) → g.version ≤ S.first.version + writes_in S.tops
     high (inl less) = omega (arith, less, state_version S.first S.tops c.history.chain)
@@ -229,10 +237,11 @@ first_is_whole S f = record { core = core; mail = λ m i. absurd i }
       bare = record { gone = λ t h. none (f.none_bare t) h; no_record = λ t h. none (f.none_bare t) h; undone = λ t h. none (f.none_bare t) h; untouched = λ t h. none (f.none_bare t) h; taken = λ t h. none (f.none_bare t) h };
       forms = record { state = λ s h p. none_some (f.free s) p; sent = λ s h p. none_some (f.free s) p; below = λ s h g p. none_some (f.free s) p };
       history = record {
-        held = λ s g h. subst (λ ds. KnownIn S.first ds g) (sym f.undecided) (f.no_other s g h);
+        held = λ s g h. ⊎_elim (λ (is : S.first ≡ g). inl (subst (λ ds. KnownIn S.first ds g) (sym f.undecided) is)) (λ (i : In g S.past). inr i) (f.no_other s g h);
         done = λ t s d. undone t d;
         loaded = λ t s b. none (f.unbegun t) b;
         chain = subst (Chain S.first) (sym f.undecided) tt;
+        past = f.past;
       };
       journal = record { plan = λ d i. nowhere d i; got = λ d i. nowhere d i; plain = λ d i. nowhere d i; counted = λ d i. nowhere d i };
       firm = record { kept = λ t s u g. none (f.none_got t s) g; done = λ t s d. undone t d; listed = λ t s d. undone t d; went = λ t s h. none (f.none_went t s) h };

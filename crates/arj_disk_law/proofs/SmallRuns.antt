@@ -1,10 +1,10 @@
 -- The guards of small runs.
-use Rattle.std.proofs.Common.{◌≡◌, ◌⊎◌, ℕ, [], ◌∷◌, true, false, ◌==◌, ◌||◌, Option, Some, refl, sym, subst, inl, inr, ⊎_elim, arith, le_refl}
+use Rattle.std.proofs.Common.{◌≡◌, ◌⊎◌, ℕ, [], ◌∷◌, true, false, ◌==◌, ◌||◌, Option, Some, refl, sym, ◌∙◌, ap, subst, inl, inr, ⊎_elim, arith, le_refl}
 use Rattle.std.proofs.lemmas.Bool.Decides.{nat_tests}
 use Rattle.arj_disk_law.specs.Guards.{Runs}
 use Rattle.arj_disk_law.specs.Messages.{Acked}
-use Rattle.arj_disk_law.specs.Samples.{first_office, serial_office, zero_state, state_by, in_doubt, recorded, without_three, first_constituent, excluding, stopped_before, stopped_after, naming_restarts, excluded, removed, including, serializing, retaining}
-use Rattle.arj_disk_law.specs.State.{Packed, Hold, Below, undecided}
+use Rattle.arj_disk_law.specs.Samples.{first_state, first_office, serial_office, state_by, in_doubt, recorded, without_three, first_constituent, excluding, stopped_before, stopped_after, naming_restarts, excluded, removed, including, serializing, retaining}
+use Rattle.arj_disk_law.specs.State.{Packed, Hold, Below, IsNew, undecided}
 use Rattle.arj_disk_law.specs.Words.{In}
 use Rattle.arj_disk_law.proofs.Base.{test_is, or_cases}
 
@@ -15,6 +15,11 @@ some_that {v} {w} e P p = let is : v ≡ w = cc in subst P is p
 -- what holds of one hold holds of the same one
 one_hold : {v w : Hold} → ◌≡◌ {A = Option Hold} (Some v) (Some w) → (P : Hold → Type 0) → P v → P w
 one_hold {v} {w} e P p = let is : v ≡ w = cc in subst P is p
+
+-- nobody but 0 wrote the first state
+zero_new : (t : ℕ) → (0 ≡ t → ⊥) → IsNew first_state t
+zero_new t other g (inl is) e = other (ap (λ (x : Packed). x.writer) is ∙ e)
+zero_new t other g (inr i) e = absurd i
 
 -- what the top 5 was when the naming node restarted
 five_taken : (t : ℕ) → (t == 5) ≡ true → (recorded.world.disk.begun t ≡ true) × (undecided recorded.world.disk t ≡ true → (recorded.world.disk.conf t ≡ true) ⊎ (recorded.world.disk.light t ≡ true))
@@ -37,7 +42,7 @@ excluding_runs = (
       (
         record { held = refl; had = refl; clear = λ a h e. cc },
         (
-          record { idle = refl; root = refl; top = refl; first = λ z e. refl; writer = λ w e. some_that e (λ x. (x.writer ≡ 5) × (zero_state.writer ≡ 5 → ⊥)) (refl, λ n. cc); list = λ w. (1, inl refl, λ q. (5, inl refl, record { since = 1; list = 2 ∷ 3 ∷ [] }, refl, λ s i. i)); loaded = λ s j. cc },
+          record { idle = refl; root = refl; top = refl; first = λ z e. refl; writer = λ w e. some_that e (λ x. (x.writer ≡ 5) × IsNew first_state 5) (refl, zero_new 5 (λ e. cc)); list = λ w. (1, inl refl, λ q. (5, inl refl, record { since = 1; list = 2 ∷ 3 ∷ [] }, refl, λ s i. i)); loaded = λ s j. cc },
           (
             ((refl, refl), tt),
             (
@@ -256,7 +261,7 @@ serializing_runs = (
       (
         record { held = refl; had = refl; clear = λ a h e. cc },
         (
-          record { idle = refl; root = refl; top = refl; first = λ z e. refl; writer = λ w e. some_that e (λ x. (x.writer ≡ 6) × (zero_state.writer ≡ 6 → ⊥)) (refl, λ n. cc); list = λ w. (1, inl refl, λ q. (6, inl refl, record { since = 1; list = 2 ∷ 3 ∷ [] }, refl, λ s i. i)); loaded = λ s j. cc },
+          record { idle = refl; root = refl; top = refl; first = λ z e. refl; writer = λ w e. some_that e (λ x. (x.writer ≡ 6) × IsNew first_state 6) (refl, zero_new 6 (λ e. cc)); list = λ w. (1, inl refl, λ q. (6, inl refl, record { since = 1; list = 2 ∷ 3 ∷ [] }, refl, λ s i. i)); loaded = λ s j. cc },
           (
             ((refl, refl), tt),
             (
@@ -326,7 +331,7 @@ serializing_runs = (
 
 pub retaining_runs : Runs first_constituent retaining
 retaining_runs = (
-  record { idle = refl; root = refl; top = refl; first = λ z e. grind (arith, nat_tests); writer = λ w e. some_that e (λ x. (x.writer ≡ 7) × (zero_state.writer ≡ 7 → ⊥)) (refl, λ n. cc); list = λ w. (1, inr refl, λ q. (9, inr refl, record { since = 1; list = 2 ∷ 3 ∷ [] }, refl, λ s i. i)); loaded = λ s j. cc },
+  record { idle = refl; root = refl; top = refl; first = λ z e. grind (arith, nat_tests); writer = λ w e. some_that e (λ x. (x.writer ≡ 7) × IsNew first_state 7) (refl, zero_new 7 (λ e. cc)); list = λ w. (1, inr refl, λ q. (9, inr refl, record { since = 1; list = 2 ∷ 3 ∷ [] }, refl, λ s i. i)); loaded = λ s j. cc },
   (
     ((refl, refl), tt),
     (

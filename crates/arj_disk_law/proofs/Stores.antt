@@ -5,7 +5,7 @@ use Rattle.arj_disk_law.specs.Effects.{changed, Keep, Move, Finish, Drop}
 use Rattle.arj_disk_law.specs.State.{State, Packed, Hold, decided, undecided, lists, target, state_for, hold, last, last_entry, effective_by, Known, Below}
 use Rattle.arj_disk_law.specs.Words.{has, put, put2}
 use Rattle.arj_disk_law.proofs.Base.{bool_cases, put_cases, put2_true, put2_rises, put2_same, open_done, never, never_some, some_is, below_trans, below_both}
-use Rattle.arj_disk_law.proofs.History.{known_last, effective_none, effective_done, effective_open}
+use Rattle.arj_disk_law.proofs.History.{known_below, effective_none, effective_done, effective_open}
 
 pub core_kept : (S : State) (t s : ℕ) → S.begun t ≡ true → target (S.plan t) s ≡ true → S.pend s ≡ None → ((g : Packed) → S.held s ≡ Some g → Below g (state_for (S.plan t))) → Core S → Core (changed S (Keep t s))
 core_kept S t s begun sent free below c = record {
@@ -68,7 +68,7 @@ core_kept S t s begun sent free below c = record {
     here m e i = ⊎_elim
         (λ (d : decided S t ≡ true).
         let up = below (last S) (ap S.held (sym e) ∙ free_held m e i) in
-        let down = known_last S.first S.tops (state_for (S.plan t)) c.history.chain (c.history.done t s d sent) in
+        let down = known_below S (state_for (S.plan t)) c.history (c.history.done t s d sent) in
         effective_done (decided S) Some (Some (hold S t)) (hold S t) (S.held m) refl d ∙ ap Some (below_both (state_for (S.plan t)) (last S) down up))
         (λ (d : decided S t ≡ false). effective_open (decided S) Some (Some (hold S t)) (hold S t) (S.held m) refl d ∙ free_held m e i)
         (bool_cases (decided S t))
@@ -89,6 +89,7 @@ core_moved S s h prepared done c = record {
     done = c.history.done;
     loaded = c.history.loaded;
     chain = c.history.chain;
+    past = c.history.past;
   };
   firm = record {
     kept = c.firm.kept;

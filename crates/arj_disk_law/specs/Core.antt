@@ -1,6 +1,6 @@
 -- What holds of one object at every moment: the invariant of disks, records and decisions, in groups by what they read.
 use Rattle.std.specs.Prelude.{◌≡◌, ◌⊎◌, ℕ, ◌+◌, List, [], ◌∷◌, true, false, Option, Some, None, is_some, ⊤}
-use Rattle.arj_disk_law.specs.State.{State, Packed, Hold, Done, naming, is_open, is_sealed, is_idle, is_gone, decided, undecided, lists, target, state_for, hold, entry_after, last_in, last, last_entry, effective, effective_entry, Known, Below, is_latest, Listed, IsExcused}
+use Rattle.arj_disk_law.specs.State.{State, Packed, Hold, Done, naming, is_open, is_sealed, is_idle, is_gone, decided, undecided, lists, target, state_for, hold, entry_after, last_in, last, last_entry, effective, effective_entry, Known, IsPast, Below, is_latest, Listed, IsExcused}
 use Rattle.arj_disk_law.specs.Words.{has, In}
 
 -- Coordinators: who was confirmed or has a record has ended its prepare step; who is decided was confirmed; a record lists
@@ -54,13 +54,14 @@ abbrev pub Chain : Packed → List Done → Type 0
 Chain first [] = ⊤
 Chain first (d ∷ ds) = ((w : Packed) → d.plan.writes ≡ Some w → w.version ≡ (last_in first ds).version + 1) × Chain first ds
 
--- Every state about was the last one at some time.
+-- Every state about was the last one at some time, or is older than the first.
 abbrev pub History : State → Type 0
 History S = record {
   held : (s : ℕ) (g : Packed) → S.held s ≡ Some g → Known S g;
   done : (t s : ℕ) → decided S t ≡ true → target (S.plan t) s ≡ true → Known S (state_for (S.plan t));
   loaded : (t s : ℕ) → S.begun t ≡ true → has s (S.plan t).joins ≡ true → Known S (S.plan t).loaded;
   chain : Chain S.first S.tops;
+  past : IsPast S.first S.past;
 }
 
 -- The journal's decisions: each has its top's plan and answers; one that doesn't count didn't write; one that does was

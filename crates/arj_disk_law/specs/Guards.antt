@@ -3,7 +3,7 @@ use Rattle.std.specs.Prelude.{◌≡◌, ◌⊎◌, ℕ, ◌+◌, ◌≤◌, ◌
 use Rattle.arj_disk_law.specs.Effects.{Effect, Begin, Take, Seal, Intend, Decide, Remove, EndBare, Halt, Keep, Move, Finish, Drop, Agree, Pass, Enter, MoveEntry, FinishEntry, DropEntry, Forget, Send, Allowed, MaySend, IsNot, IsUnlisted, NoneIsListed, new_list}
 use Rattle.arj_disk_law.specs.Messages.{Message, Prepare, Prepared, Confirm, Confirmed, ToldCommit, ToldBare, ToldAbort, Acked, ToldSerial}
 use Rattle.arj_disk_law.specs.Names.{Names, Office, Kept, Bound, Loaded, Act, Do, Commit, CommitBare, Read, Write, Exclude, Lower, Unbind, EndTop, EndSerial, Restart, Hear, KeepList, AnswerLoad, acted, load_of}
-use Rattle.arj_disk_law.specs.State.{State, Packed, Plan, Hold, Idle, naming, is_gone, last, undecided, target}
+use Rattle.arj_disk_law.specs.State.{State, Packed, Plan, Hold, Idle, naming, is_gone, last, undecided, target, IsNew}
 use Rattle.arj_disk_law.specs.Words.{has, In}
 
 -- the holder has a lock of at least this mode
@@ -42,7 +42,7 @@ pub record MayBegin (A : Office) (t : ℕ) (p : Plan) : Type 0 where
   pub root : is_gone (A.world.disk.stage (A.world.disk.root t)) ≡ false
   pub top : A.world.disk.serial t ≡ false
   pub first : (z : ℕ) → A.world.disk.root z ≡ A.world.disk.root t → undecided A.world.disk z ≡ false
-  pub writer : (w : Packed) → p.writes ≡ Some w → (w.writer ≡ t) × (A.world.disk.first.writer ≡ t → ⊥)
+  pub writer : (w : Packed) → p.writes ≡ Some w → (w.writer ≡ t) × IsNew A.world.disk t
   pub list : is_some p.writes ≡ true → (i : ℕ) × ((A.names.had t i ≡ true) ⊎ (A.names.had (A.world.disk.root t) i ≡ true))
       × (IsPresent A.world.disk A.names t → (h : ℕ) × ((h ≡ t) ⊎ (h ≡ A.world.disk.root t)) × (k : Kept) × (A.names.kept h ≡ Some k) × ((s : ℕ) → has s k.list ≡ true → has s p.list ≡ true))
   pub loaded : (s : ℕ) → has s p.joins ≡ true → (i : ℕ) × (g : Packed) × In (Loaded t i g) A.names.answers × (A.names.had t i ≡ true) × (p.loaded ≡ load_of A.world.disk t g)

@@ -1,10 +1,10 @@
 -- What follows from what holds at every moment: clean disks, exclusion in time, one outcome.
 use Rattle.std.specs.Prelude.{◌≡◌, ◌⊎◌, ℕ, ◌+◌, ◌<◌, ◌≤◌, List, [], ◌∷◌, take, map, true, false, ◌&&◌, not, Some, None, is_some, if◌then◌else◌, bytes_eq}
 use Rattle.arj_disk_law.specs.Effects.{World, Effect, Decide, Move, Finish, Drop, MoveEntry, FinishEntry, DropEntry, Forget, Allowed, Follows, Whole, run}
-use Rattle.arj_disk_law.specs.State.{State, Packed, Hold, Done, Idle, decided, target, state_for, list_after, entry_in, last, last_entry, KnownIn, Below, is_latest, IsExcused}
+use Rattle.arj_disk_law.specs.State.{State, Packed, Hold, Done, Idle, decided, target, state_for, list_after, entry_in, last, last_entry, KnownIn, IsPast, Below, is_latest, IsExcused}
 use Rattle.arj_disk_law.specs.Words.{has, In}
 
--- The object as a format leaves it: each listed store holds the first state, and nothing has happened.
+-- The object as it begins: each listed store holds the first state, others may hold an older one, and nothing has happened.
 pub record IsFirst (S : State) : Type 0 where
   pub idle : (t : ℕ) → S.stage t ≡ Idle
   pub unbegun : (t : ℕ) → S.begun t ≡ false
@@ -20,9 +20,10 @@ pub record IsFirst (S : State) : Type 0 where
   pub entry : S.entry ≡ S.first_entry
   pub stores : (s : ℕ) × (has s S.entry.content ≡ true)
   pub held : (s : ℕ) → has s S.entry.content ≡ true → S.held s ≡ Some S.first
-  pub no_other : (s : ℕ) (g : Packed) → S.held s ≡ Some g → S.first ≡ g
+  pub no_other : (s : ℕ) (g : Packed) → S.held s ≡ Some g → In g (S.first ∷ S.past)
+  pub past : IsPast S.first S.past
 
--- what a format leaves is whole
+-- what has so begun is whole
 abbrev pub FirstIsWhole : Type 0
 FirstIsWhole = (S : State) → IsFirst S → Whole (record { disk = S; sent = [] })
 
@@ -84,7 +85,8 @@ pub record BasedIn (first : Packed) (tops : List Done) (w : Packed) : Type 0 whe
 abbrev pub IsBased : State → Packed → Type 0
 IsBased S w = BasedIn S.first S.tops w
 
--- An answer that a store holds a version not below the one sent names one that was committed, and not the first.
+-- An answer that a store holds a version not below the one sent names one that was committed, and not the first; as long as
+-- no older state was loaded.
 abbrev pub OldIsCommitted : State → Type 0
 OldIsCommitted S = (t s : ℕ) (g : Packed) → S.begun t ≡ true → target (S.plan t) s ≡ true → ((w : Packed) → (S.plan t).writes ≡ Some w → IsBased S w)
-    → S.held s ≡ Some g → (Below g (state_for (S.plan t)) → ⊥) → (S.first.version < g.version) × (g.version ≤ S.first.version + writes_in S.tops)
+    → (In (S.plan t).loaded S.past → ⊥) → S.held s ≡ Some g → (Below g (state_for (S.plan t)) → ⊥) → (S.first.version < g.version) × (g.version ≤ S.first.version + writes_in S.tops)

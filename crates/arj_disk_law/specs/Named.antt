@@ -4,7 +4,7 @@ use Rattle.arj_disk_law.specs.Effects.{Whole}
 use Rattle.arj_disk_law.specs.Guards.{HasRow, IsUntold, IsPresent, HasPart}
 use Rattle.arj_disk_law.specs.Messages.{Message, Acked, IsOver}
 use Rattle.arj_disk_law.specs.Names.{Names, Office, Kept, Answer, Bound, Loaded, load_of}
-use Rattle.arj_disk_law.specs.State.{State, Packed, Hold, naming, is_idle, is_gone, decided, undecided, lists, last, last_entry, Known, Listed}
+use Rattle.arj_disk_law.specs.State.{State, Packed, Hold, naming, is_idle, is_gone, decided, undecided, lists, last, last_entry, Known, IsNew, Listed}
 use Rattle.arj_disk_law.specs.Words.{has, In}
 
 -- one action is the other, or its root
@@ -90,7 +90,7 @@ AnswerMeans S N (Loaded t i g) = (S.serial t ≡ false) × (i ≤ N.inc) × Know
 -- in an incarnation, and as long as that is the present one, the loaded state is the last, and nobody else is confirmed.
 abbrev pub Plans : State → Names → Type 0
 Plans S N = record {
-  writer : (t : ℕ) (w : Packed) → S.begun t ≡ true → (S.plan t).writes ≡ Some w → (w.writer ≡ t) × (S.first.writer ≡ t → ⊥);
+  writer : (t : ℕ) (w : Packed) → S.begun t ≡ true → (S.plan t).writes ≡ Some w → (w.writer ≡ t) × IsNew S t;
   asked : (t s : ℕ) → S.begun t ≡ true → has s (S.plan t).joins ≡ true → (i : ℕ) × (N.had t i ≡ true) × (i ≡ N.inc → IsUntold S N t → N.asked t ≡ true);
   loaded : (t s : ℕ) → undecided S t ≡ true → has s (S.plan t).joins ≡ true → IsPresent S N t → ((S.plan t).loaded ≡ last S) × ((z : ℕ) → S.conf z ≡ true → undecided S z ≡ true → z ≡ t);
 }

@@ -23,6 +23,7 @@ no_plan = record { writes = None; list = []; joins = []; loaded = zero_state }
 abbrev pub first_state : State
 first_state = record {
   first = zero_state;
+  past = [];
   first_entry = zero_entry;
   root = λ t. t;
   serial = λ t. false;
@@ -152,6 +153,21 @@ retaining =
     Do (Begin 7 (writing (state_by 2 7) (2 ∷ 3 ∷ []))) ∷ Do (Send (Prepare 7 2)) ∷ Do (Send (Prepare 7 3)) ∷ Do (Keep 7 2) ∷
     Do (Send (Prepared 7 2)) ∷ Do (Take 7 2) ∷ Do (Keep 7 3) ∷ Do (Send (Prepared 7 3)) ∷ Do (Take 7 3) ∷ Do (Seal 7) ∷
     Do (Send (Confirm 7)) ∷ Do (Agree 7) ∷ Do (Send (Confirmed 7)) ∷ Do (Intend 7 (1 ∷ 2 ∷ 3 ∷ [])) ∷ Commit 7 ∷ []
+
+-- The same object begun after the store 3 was excluded: it holds the older state.
+abbrev pub older_office : Office
+older_office = record first_office {
+  world = record {
+    disk = record first_state {
+      first = state_by 1 5;
+      past = zero_state ∷ [];
+      first_entry = entry_of_five.new;
+      held = λ s. if s == 2 then Some (state_by 1 5) else if s == 3 then Some zero_state else None;
+      entry = entry_of_five.new;
+    };
+    sent = [];
+  };
+}
 
 -- where these runs end
 abbrev pub in_doubt : Office

@@ -25,6 +25,7 @@ pub record Several : Type 0 where
   pub tops : List Decision
   pub went : ℕ → ℕ → Bool
   pub first : ℕ → Packed
+  pub past : ℕ → List Packed
   pub first_entry : ℕ → Packed
   pub plan : ℕ → ℕ → Plan
   pub held : ℕ → ℕ → Option Packed
@@ -48,6 +49,7 @@ abbrev pub view : ℕ → Several → World
 view x M = record {
   disk = record {
     first = M.first x;
+    past = M.past x;
     first_entry = M.first_entry x;
     root = M.root;
     serial = M.serial;

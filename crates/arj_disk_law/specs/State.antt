@@ -1,6 +1,6 @@
 -- One object and its entry, as the disks and the coordinators have them.
 use Rattle.std.specs.Prelude.{◌≡◌, ◌⊎◌, ℕ, ◌+◌, ◌<◌, List, [], ◌∷◌, ◌++◌, filter, Bool, true, false, ◌==◌, ◌||◌, ◌&&◌, not, if◌then◌else◌, Option, Some, None, is_some, unwrap_or, bytes_eq}
-use Rattle.arj_disk_law.specs.Words.{has}
+use Rattle.arj_disk_law.specs.Words.{has, In}
 
 -- A packed state, or a packed entry: its version, the action that wrote it, and what it holds. An entry holds the list of
 -- its stores.
@@ -35,8 +35,10 @@ pub record Done : Type 0 where
 
 -- one object: what is fixed, what the coordinators, the journal, the stores and the naming node's disk have of it
 pub record State : Type 0 where
-  -- fixed: the first state and entry, the root of each action, and which actions are serializing
+  -- fixed: the first state, what stores may hold that is older, the first entry, the root of each action, and which actions
+  -- are serializing
   pub first : Packed
+  pub past : List Packed
   pub first_entry : Packed
   pub root : ℕ → ℕ
   pub serial : ℕ → Bool
@@ -174,14 +176,24 @@ effective S s = effective_by (decided S) Some (S.pend s) (S.held s)
 abbrev pub effective_entry : State → Packed
 effective_entry S = effective_by (decided S) (λ e. e) S.entry_pend S.entry
 
--- a state that was the last one at some time
+-- a state that was the last one at some time, since the first
 abbrev pub KnownIn : Packed → List Done → Packed → Type 0
 KnownIn first [] g = first ≡ g
 KnownIn first (d ∷ ds) g = (d.plan.writes ≡ Some g) ⊎ KnownIn first ds g
 
--- the same, of an object
+-- the same, of an object, or an older one
 abbrev pub Known : State → Packed → Type 0
-Known S g = KnownIn S.first S.tops g
+Known S g = KnownIn S.first S.tops g ⊎ In g S.past
+
+-- What is older is below the first state, and each is known by its version and by its writer.
+pub record IsPast (first : Packed) (past : List Packed) : Type 0 where
+  pub below : (g : Packed) → In g past → g.version < first.version
+  pub version : (g h : Packed) → In g past → In h past → g.version ≡ h.version → g ≡ h
+  pub writer : (g h : Packed) → In g (first ∷ past) → In h (first ∷ past) → g.writer ≡ h.writer → g ≡ h
+
+-- the action wrote neither the first state nor an older one
+abbrev pub IsNew : State → ℕ → Type 0
+IsNew S t = (g : Packed) → In g (S.first ∷ S.past) → g.writer ≡ t → ⊥
 
 -- a lower version, or the same state
 abbrev pub Below : Packed → Packed → Type 0

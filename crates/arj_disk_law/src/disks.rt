@@ -2,8 +2,8 @@
 ghost use Rattle.arj_disk_law.specs.Effects.{World, Whole};
 ghost use Rattle.arj_disk_law.specs.Laws.{AreExcludedInTime, FirstIsWhole, HasOneOutcome, IsClean, OldIsCommitted, OneCounts, StopsStayWhole, VersionsCount};
 
-/// A formatted object is whole, and every list of allowed effects, stopped anywhere, leaves it whole. It does nothing when
-/// it runs.
+/// An object as it begins is whole, with older states at stores that aren't listed; and every list of allowed effects,
+/// stopped anywhere, leaves it whole. It does nothing when it runs.
 pub fn disks_stay_whole()
     ensures first { FirstIsWhole }
     ensures effects { StopsStayWhole }
@@ -29,7 +29,8 @@ pub fn outcomes_are_one()
 {}
 
 /// The versions of the last state and the last entry count the decided tops that wrote and that changed the list; so an
-/// answer that a store holds a version not below the one sent names one that was committed. It does nothing when it runs.
+/// answer that a store holds a version not below the one sent names one that was committed, as long as no older state was
+/// loaded. It does nothing when it runs.
 pub fn versions_count_decisions()
     ensures versions { (W : World) → Whole W → VersionsCount W.disk }
     ensures old { (W : World) → Whole W → OldIsCommitted W.disk }

@@ -3,7 +3,7 @@ ghost use Rattle.arj_disk_law.specs.Named.{Named};
 ghost use Rattle.arj_disk_law.specs.Names.{Office};
 ghost use Rattle.arj_disk_law.specs.NamingLaws.{ActsAreAllowed, EntryStays, FirstIsNamed, IsBooked, LoadsTheLast, OldNeedsRestart, PlainEffectsAreActs, StopsStayNamed};
 
-/// What holds of a formatted object with the naming node's half holds after every list of acts that may be done, stopped
+/// What holds of an object as it begins, with the naming node's half, holds after every list of acts that may be done, stopped
 /// anywhere; for tops with locks of their own and for constituents that use what their serializing action retains. What
 /// may be done is allowed on the disks; and what is allowed there in which naming has no part may be done. It does nothing when
 /// it runs.

@@ -2,13 +2,14 @@
 ghost use Rattle.std.specs.Prelude.{◌≡◌, None, false};
 ghost use Rattle.arj_disk_law.specs.Guards.{end_of, MayConfirm, Runs};
 ghost use Rattle.arj_disk_law.specs.Named.{Named};
-ghost use Rattle.arj_disk_law.specs.Samples.{Holds, entry_of_five, entry_of_six, excluded, excluding, first_constituent, first_office, in_doubt, including, naming_restarts, removed, retaining, serial_office, serializing, state_by, stopped_after, stopped_before, with_three, without_three, zero_entry, zero_state};
+ghost use Rattle.arj_disk_law.specs.Samples.{Holds, entry_of_five, entry_of_six, excluded, excluding, first_constituent, first_office, in_doubt, including, naming_restarts, older_office, removed, retaining, serial_office, serializing, state_by, stopped_after, stopped_before, with_three, without_three, zero_entry, zero_state};
 
-/// Runs of one object, act by act: a store is excluded; the coordinator stops before its record, and after it; the naming
-/// node restarts with the exclusion in doubt; the question that comes again is no new one; the store is included again; and
-/// a constituent writes by what its serializing action retains. It does nothing when it runs.
+/// Objects as they begin, one of them with an older state at a store that isn't listed. Runs of one object, act by act: a
+/// store is excluded; the coordinator stops before its record, and after it; the naming node restarts with the exclusion in
+/// doubt; the question that comes again is no new one; the store is included again; and a constituent writes by what its
+/// serializing action retains. It does nothing when it runs.
 pub fn guards_can_be_met()
-    ensures first { Named first_office × Named serial_office }
+    ensures first { Named first_office × Named serial_office × Named older_office }
     ensures excluding { Runs first_office excluding }
     ensures stopped_before { Runs in_doubt stopped_before × Holds (end_of in_doubt stopped_before) zero_entry zero_state zero_state }
     ensures stopped_after { Runs in_doubt stopped_after × Holds (end_of in_doubt stopped_after) zero_entry (state_by 1 5) zero_state }

@@ -1,19 +1,19 @@
 -- Copies agree in what the disk machine is seen in.
-use Rattle.std.proofs.Common.{◌≡◌, ◌⊎◌, ℕ, List, [], ◌∷◌, true, Option, Some, None, refl, sym, ◌∙◌, ap, inl, inr, ⊎_elim, arith}
+use Rattle.std.proofs.Common.{◌≡◌, ◌⊎◌, ℕ, List, [], ◌∷◌, true, Option, Some, None, refl, sym, ◌∙◌, ap, inl, inr, ⊎_elim, arith, ◌<◌}
 use Rattle.std.specs.Prelude.{option_map}
 use Rattle.arj_protocol.specs.Words.{ObjectState, Uid, entry, is_listed, object}
 use Rattle.arj_protocol.specs.Effect.{held_at, holder_of}
 use Rattle.arj_protocol.specs.Step.{Node}
 use Rattle.arj_protocol.specs.Values.{state_entry}
 use Rattle.arj_protocol.proofs.Numbers.{number_tells}
-use Rattle.arj_disk_law.specs.Core.{Chain}
+use Rattle.arj_disk_law.specs.Core.{Chain, History}
 use Rattle.arj_disk_law.specs.Effects.{World}
 use Rattle.arj_disk_law.specs.State as disk
 use Rattle.arj_disk_law.specs.State.{Below, Done, Hold, KnownIn, Packed, last_in}
-use Rattle.arj_disk_law.specs.Words.{has}
+use Rattle.arj_disk_law.specs.Words.{has, In}
 use Rattle.arj_disk_law.proofs.Base.{bool_cases, some_is}
-use Rattle.arj_disk_law.proofs.History.{effective_done, effective_none, effective_open, known_last}
-use Rattle.arj_disk_law.proofs.Results.{clean}
+use Rattle.arj_disk_law.proofs.History.{effective_done, effective_none, effective_open, known_last, known_below}
+use Rattle.arj_disk_law.proofs.Results.{clean, known_above}
 use Rattle.arj_view_law.specs.Seen.{Seen}
 use Rattle.arj_disk_view_law.specs.Entries.{SeesEntry}
 use Rattle.arj_disk_view_law.specs.Pairs.{hold_of, packed, packed_entry}
@@ -39,6 +39,21 @@ known_one first (d ∷ ds) g h chain (inr a) (inl b) same = absurd (newer (known
     newer (inl less) = omega (arith, less, same, chain.0 h b)
     newer (inr is) = omega (arith, ap (λ (z : Packed). z.version) is, same, chain.0 h b)
 
+-- and none of them has the version of an older one
+not_older : (S : disk.State) (g h : Packed) → History S → KnownIn S.first S.tops g → In h S.past → g.version ≡ h.version → ⊥
+not_older S g h its a j same = by (known_above S.first S.tops g its.chain a)
+  where
+    by : (S.first ≡ g) ⊎ (S.first.version < g.version) → ⊥
+    by (inl is) = omega (arith, its.past.below h j, same, ap (λ (z : Packed). z.version) is)
+    by (inr less) = omega (arith, its.past.below h j, same, less)
+
+-- so it is of older ones too
+known_same : (S : disk.State) (g h : Packed) → History S → disk.Known S g → disk.Known S h → g.version ≡ h.version → g ≡ h
+known_same S g h its (inl a) (inl b) same = known_one S.first S.tops g h its.chain a b same
+known_same S g h its (inr i) (inr j) same = its.past.version g h i j same
+known_same S g h its (inl a) (inr j) same = absurd (not_older S g h its a j same)
+known_same S g h its (inr i) (inl b) same = absurd (not_older S h g its b i (sym same))
+
 pub has_state : (x : ℕ) (last : Packed) (m : Node) (o : Option ObjectState) → held_at (object x) m.disk.store ≡ o → option_map packed o ≡ Some last → HasState x last m
 has_state x last m None is h = absurd (cc h)
 has_state x last m (Some st) is h = (st, is, (let same : packed st ≡ last = cc h in same))
@@ -60,10 +75,10 @@ agrees_on x tops W M s = record { listed = each; kept = kept; stored = stored; b
     known m j st there held = let o : SeesStore x j m.disk.store W.disk = s.stores j m there in s.whole.core.history.held j (packed st) (sym o.pair.held_is ∙ ap (option_map packed) held)
 
     below : (m : Node) (j : ℕ) (st : ObjectState) → M.nodes j ≡ Some m → held_at (object x) m.disk.store ≡ Some st → Below (packed st) (disk.last W.disk)
-    below m j st there held = known_last W.disk.first W.disk.tops (packed st) s.whole.core.history.chain (known m j st there held)
+    below m j st there held = known_below W.disk (packed st) s.whole.core.history (known m j st there held)
 
     one : (m n : Node) (j r : ℕ) (st su : ObjectState) → M.nodes j ≡ Some m → M.nodes r ≡ Some n → held_at (object x) m.disk.store ≡ Some st → held_at (object x) n.disk.store ≡ Some su → st.version ≡ su.version → packed st ≡ packed su
-    one m n j r st su here there held held_there same = known_one W.disk.first W.disk.tops (packed st) (packed su) s.whole.core.history.chain (known m j st here held) (known n r su there held_there) same
+    one m n j r st su here there held held_there same = known_same W.disk (packed st) (packed su) s.whole.core.history (known m j st here held) (known n r su there held_there) same
 
     entry_is : (n : Node) (q : ObjectState) → M.nodes 1 ≡ Some n → held_at (entry x) n.disk.names ≡ Some q → packed_entry q ≡ W.disk.entry
     entry_is n q is held = let e : SeesEntry x n.disk.names W.disk = s.entry n is in some_is refl (ap (option_map packed_entry) (sym held) ∙ e.pair.held_is)

@@ -14,10 +14,10 @@ use Rattle.arj_protocol.specs.Effect.{Disk, Do, Effect, Say, Send, worked}
 use Rattle.arj_protocol.specs.Node.{Parts}
 use Rattle.arj_protocol.specs.Order.{uid_number}
 use Rattle.arj_protocol.specs.World.{Labelled, most_labels, numbered}
-use Rattle.arj_disk_law.specs.Core.{Chain}
+use Rattle.arj_disk_law.specs.Core.{Chain, History}
 use Rattle.arj_disk_law.specs.Effects.{Whole}
 use Rattle.arj_disk_law.specs.Names.{Office}
-use Rattle.arj_disk_law.specs.State.{Done, Known, KnownIn, Packed, decided, decided_in, last_in}
+use Rattle.arj_disk_law.specs.State.{Done, Known, KnownIn, Packed, decided, decided_in, last_in, State}
 use Rattle.arj_disk_law.specs.Words.{In}
 use Rattle.arj_disk_law.proofs.Base.{never, or_cases, or_left, test_same}
 use Rattle.std.proofs.lemmas.Slice.Eq.{bytes_eq-Decides}
@@ -95,6 +95,11 @@ known_low : (first : Packed) (ds : List Done) → Chain first ds → (g : Packed
 known_low first [] c g is = let e : first.version ≡ g.version = ap (λ (p : Packed). p.version) is in omega (arith, e)
 known_low first (d ∷ ds) c g (inl is) = let l = last_low first ds c.1 in let e = c.0 g is in omega (arith, l, e)
 known_low first (d ∷ ds) c g (inr is) = let l = known_low first ds c.1 g is in omega (arith, l)
+
+-- and an older one is lower yet
+known_few : (S : State) → History S → (g : Packed) → Known S g → g.version ≤ S.first.version + length S.tops
+known_few S its g (inl known) = known_low S.first S.tops its.chain g known
+known_few S its g (inr old) = omega (arith, its.past.below g old)
 
 -- ---- decided tops, actions and labels
 
@@ -186,7 +191,7 @@ module _ (x : ℕ) (tops : Kinds) (A : Office) (M : Seen) (both : SeesBoth x top
 
   -- versions that were known are short
   pub known_short : HasFewLabels M → (g : Packed) → Known A.world.disk g → g.version < most_version
-  known_short few g known = short (length A.world.disk.tops) (length (book M.lines).acts) (length M.labels) g.version A.world.disk.first.version (known_low A.world.disk.first A.world.disk.tops (let c = whole.core in c.history.chain) g known) its.first few_tops few_acts few
+  known_short few g known = short (length A.world.disk.tops) (length (book M.lines).acts) (length M.labels) g.version A.world.disk.first.version (known_few A.world.disk (let c = whole.core in c.history) g known) its.first few_tops few_acts few
     where
       short : (a b c v f : ℕ) → v ≤ f + a → f ≡ 0 → a ≤ b → b ≤ c → c ≤ most_labels → v < most_version
       short a b c v f low none one two few = omega (arith, low, none, one, two, few)

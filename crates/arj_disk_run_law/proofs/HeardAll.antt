@@ -11,6 +11,7 @@ use Rattle.arj_protocol.specs.Step.{Node}
 use Rattle.arj_protocol.specs.Tree.{is_own}
 use Rattle.arj_disk_law.specs.Names.{Office}
 use Rattle.arj_disk_law.specs.State.{Packed}
+use Rattle.arj_disk_law.specs.Words as words
 use Rattle.arj_view_law.specs.Seen as seen
 use Rattle.arj_view_law.specs.Seen.{AreQuiet, Post, Seen, at, down, posted, said, up}
 use Rattle.arj_view_law.specs.Walks.{Walks, halted}
@@ -37,7 +38,7 @@ module _ (x : ℕ) (tops : Kinds) (A B : Office) (M N : Seen) (f : IsFixed tops 
       → ((j : ℕ) (n : Node) (u : Uid) → N.nodes j ≡ Some n → u.node ≡ j → tops.root (uid_number u) ≡ uid_number u → (let d = n.disk in d.inc) < u.inc → HasNoneOf tops (uid_number u) B) → SeesHeard x tops B N
   heard_goes said claims asked coords future = record {
     kinds = p.kinds;
-    first = ap (λ (w : Packed). w.writer) (let l = on.later in l.first) ∙ p.first;
+    first = λ w i. p.first w (subst (words.In w) (λ j. let l = on.later in l.first j ∷ l.past j) i);
     coords = λ j n t there live. ⊎_elim
         (λ (w : WasAt j t). subst (λ c. SeesHeardAt x j tops N.sent c B) w.same
         (at_goes x tops A B f h on j M.sent N.sent (let q = w.parts in q.coord) (λ u q s does now of r to. said j w.node w.parts w.there w.live u q s does now of r to)

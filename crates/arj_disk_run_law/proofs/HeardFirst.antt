@@ -1,5 +1,5 @@
 -- What coordinators have of naming's answers, as a format leaves it; and a root of which the machine has nothing.
-use Rattle.std.proofs.Common.{◌≡◌, ℕ, zero, suc, ◌==◌, if◌then◌else◌, Bool, true, false, List, [], Some, None, refl, sym, ◌∙◌, ap, subst, inl, inr, map}
+use Rattle.std.proofs.Common.{◌≡◌, ℕ, zero, suc, ◌==◌, if◌then◌else◌, Bool, true, false, List, [], Some, None, refl, sym, ◌∙◌, ap, subst, inl, inr, map, ◌∷◌}
 use Rattle.std.proofs.lemmas.Bool.{and_parts}
 use Rattle.arj_lock.proofs.Members.{in_from}
 use Rattle.arj_protocol.specs.Words.{Header, Uid, nobody}
@@ -12,6 +12,8 @@ use Rattle.arj_protocol.specs.Tree.{at_place, is_own}
 use Rattle.arj_protocol.specs.World.{format}
 use Rattle.arj_disk_law.specs.Names.{Office, written_in}
 use Rattle.arj_disk_law.specs.NamingLaws.{IsFirstNames}
+use Rattle.arj_disk_law.specs.State.{Packed}
+use Rattle.arj_disk_law.specs.Words as words
 use Rattle.arj_disk_law.proofs.Base.{never, some_is, test_is}
 use Rattle.arj_view_law.specs.Seen.{Post, see}
 use Rattle.arj_disk_view_law.specs.Formats.{HasObject}
@@ -70,7 +72,7 @@ new_seen x k inc tops sent telling B h none = record {
 pub first_entries : (hd : Header) → AreEntries (first_disk hd 1).names
 first_entries hd e c = put_entries 0 hd.objects [] (λ z i. absurd i) e (in_from e (put_states (map first_entry hd.objects) []) c)
 
-module _ (hd : Header) (x : ℕ) (tops : Kinds) (kinds : KnowsKinds tops) (A : Office) (both : SeesBoth x tops A (see [] (format hd))) (first : IsFirstNames A.names) (undecided : A.world.disk.tops ≡ []) (writer : A.world.disk.first.writer ≡ uid_number nobody) where
+module _ (hd : Header) (x : ℕ) (tops : Kinds) (kinds : KnowsKinds tops) (A : Office) (both : SeesBoth x tops A (see [] (format hd))) (first : IsFirstNames A.names) (undecided : A.world.disk.tops ≡ []) (writer : (g : Packed) → words.In g (A.world.disk.first ∷ A.world.disk.past) → g.writer ≡ uid_number nobody) where
   fixed : IsFixed tops A.world.disk
   fixed = let s = both.disks in s.fixed
 

@@ -22,7 +22,7 @@ use Rattle.arj_call_law.specs.Runs.{KnowsFew}
 use Rattle.arj_disk_law.specs.Guards.{IsPresent}
 use Rattle.arj_disk_law.specs.Names as machine
 use Rattle.arj_disk_law.specs.Names.{Kept, Office, load_of, newer, written_in}
-use Rattle.arj_disk_law.specs.State.{Packed, undecided}
+use Rattle.arj_disk_law.specs.State.{Packed, undecided, IsNew}
 use Rattle.arj_disk_law.specs.Words.{In, has}
 use Rattle.arj_disk_law.proofs.Base.{bool_cases, falls_to, never, or_left, or_right, some_is}
 use Rattle.arj_view_law.specs.Seen.{Seen, up}
@@ -33,6 +33,7 @@ use Rattle.arj_disk_view_law.specs.Plans.{IsTidy, loads, plan_at, plan_by, used_
 use Rattle.arj_disk_view_law.specs.Sees.{Kinds}
 use Rattle.arj_disk_view_law.proofs.Frames.{node_here}
 use Rattle.arj_disk_view_law.proofs.Planned.{has_same, used_there}
+use Rattle.arj_disk_view_law.proofs.Later.{new_later}
 use Rattle.arj_names_view_law.specs.Both.{SeesBoth, SeesRootOf}
 use Rattle.arj_names_view_law.specs.Grants.{is_retained}
 use Rattle.arj_names_view_law.specs.Handlers.{BeginsLater}
@@ -178,7 +179,7 @@ module _ (x : ℕ) (tops : Kinds) (k : ℕ) (d : Disk) (t : Parts) (M : Seen) (A
 
 -- A plan changes the object only as it called it, to a state of a new writer.
 abbrev pub MayChange : ℕ → Uid → commit.Plan → Office → Type 0
-MayChange x u q A = (w : Used) (st : ObjectState) → used_at x q.used ≡ Some w → changed_of x q ≡ Some st → (w.called ≡ true) × (st.writer ≡ u) × (A.world.disk.first.writer ≡ uid_number u → ⊥)
+MayChange x u q A = (w : Used) (st : ObjectState) → used_at x q.used ≡ Some w → changed_of x q ≡ Some st → (w.called ≡ true) × (st.writer ≡ u) × IsNew A.world.disk (uid_number u)
 
 -- By a plan that was seen while it voted the commit may begin, where no outcome of its root is open.
 pub begins_later : (x : ℕ) (tops : Kinds) (u : Uid) (p q : commit.Plan) (left : List ℕ) (A : Office) → A.world.disk.serial (uid_number u) ≡ false → SeesPlan x tops u (Voting p left) A → IsTidy p → q.used ≡ p.used
@@ -188,16 +189,16 @@ begins_later x tops u p q left A plain plan tidy used shut changes C named names
   root = can.root;
   top = ap (λ f. f (uid_number u)) later.serial ∙ plain;
   first = λ z of. falls_to (undecided C.world.disk z) (λ on. never (opens.opened z on) (shut z (ap (λ f. f z) (sym later.root) ∙ (of ∙ ap (λ f. f (uid_number u)) later.root))));
-  writer = λ w is. let c = changed w is in (ap (λ (g : Packed). g.writer) (sym c.2) ∙ ap uid_number c.3.1, λ e. c.3.2 (ap (λ (g : Packed). g.writer) (sym opens.first) ∙ e));
+  writer = λ w is. let c = changed w is in (ap (λ (g : Packed). g.writer) (sym c.2) ∙ ap uid_number c.3.1, new_later A.world C.world later (uid_number u) c.3.2);
   list = list_now;
   loaded = loaded_now;
 }
   where
     -- where it writes, what it uses and changes
-    changed : (w : Packed) → (let y = plan_at x q in y.writes) ≡ Some w → (y : Used) × (st : ObjectState) × (packed st ≡ w) × ((y.called ≡ true) × (st.writer ≡ u) × (A.world.disk.first.writer ≡ uid_number u → ⊥))
+    changed : (w : Packed) → (let y = plan_at x q in y.writes) ≡ Some w → (y : Used) × (st : ObjectState) × (packed st ≡ w) × ((y.called ≡ true) × (st.writer ≡ u) × IsNew A.world.disk (uid_number u))
     changed w is = by (used_at x q.used) (changed_of x q) refl refl is
       where
-        by : (o : Option Used) (c : Option ObjectState) → used_at x q.used ≡ o → changed_of x q ≡ c → (let y = plan_by o c in y.writes) ≡ Some w → (y : Used) × (st : ObjectState) × (packed st ≡ w) × ((y.called ≡ true) × (st.writer ≡ u) × (A.world.disk.first.writer ≡ uid_number u → ⊥))
+        by : (o : Option Used) (c : Option ObjectState) → used_at x q.used ≡ o → changed_of x q ≡ c → (let y = plan_by o c in y.writes) ≡ Some w → (y : Used) × (st : ObjectState) × (packed st ≡ w) × ((y.called ≡ true) × (st.writer ≡ u) × IsNew A.world.disk (uid_number u))
         by None c at found e = absurd (cc e)
         by (Some y) None at found e = absurd (cc e)
         by (Some y) (Some st) at found e = (y, st, some_is refl e, changes y st at found)

@@ -110,7 +110,7 @@ module _ (x : ℕ) (tops : Kinds) (e k : ℕ) (d : Disk) (t : Parts) (M : Seen) 
         let it : changed_of x Next ≡ Some st = ap (λ ss. find (λ (s : ObjectState). uid_eq s.uid (object x)) ss) (sym g.changed) ∙ found in
         let there = found_among (λ s. uid_eq s.uid (object x)) (with_states states p.changed) st it in
         let c = plan_voted.changed w st (ap (used_at x) (sym g.used) ∙ used) there.0 (uid_is st.uid (object x) there.1) in
-        (c.0, c.1, λ same. nobody_acts (number_tells nobody u (sym h.first ∙ same)))))
+        (c.0, c.1, λ g i same. nobody_acts (number_tells nobody u (sym (h.first g i) ∙ same)))))
         [] [] (votes_left [] Next) (λ v. tt) g.kind
 
     -- and others are waited for

@@ -16,6 +16,7 @@ use Rattle.arj_protocol.specs.Step.{Node}
 use Rattle.arj_protocol.specs.Tree.{Branch, Tree, branch_of, is_own, root_of}
 use Rattle.arj_disk_law.specs.Names as machine
 use Rattle.arj_disk_law.specs.Names.{Kept, Names, Office, written_in}
+use Rattle.arj_disk_law.specs.State.{Packed}
 use Rattle.arj_disk_law.specs.Words.{In, has}
 use Rattle.arj_view_law.specs.Seen as seen
 use Rattle.arj_view_law.specs.Seen.{Post, Seen}
@@ -188,11 +189,11 @@ pub record IsAskedFor (sent : List Post) (p : Post) (a : Asked) (r : Reply) : Ty
 
 -- ---- all nodes
 
--- So it is at each coordinator that is up; nobody wrote the object's first state; of a later incarnation of a node the machine has
+-- So it is at each coordinator that is up; nobody wrote the object's first state or an older one; of a later incarnation of a node the machine has
 -- nothing; each answer was asked for; and requests claim what they say.
 pub record SeesHeard (x : ℕ) (tops : Kinds) (A : Office) (M : Seen) : Type 0 where
   pub kinds : KnowsKinds tops
-  pub first : A.world.disk.first.writer ≡ uid_number nobody
+  pub first : (g : Packed) → In g (A.world.disk.first ∷ A.world.disk.past) → g.writer ≡ uid_number nobody
   pub coords : (k : ℕ) (n : Node) (t : Parts) → M.nodes k ≡ Some n → n.live ≡ Some t → SeesHeardAt x k tops M.sent t.coord A
   pub future : (k : ℕ) (n : Node) (u : Uid) → M.nodes k ≡ Some n → u.node ≡ k → tops.root (uid_number u) ≡ uid_number u → (let d = n.disk in d.inc) < u.inc → HasNoneOf tops (uid_number u) A
   pub asked : (p : Post) (a : Asked) (r : Reply) → seen.In p M.sent → answers p.message ≡ Some (a, r) → IsAskedFor M.sent p a r

@@ -290,7 +290,7 @@ module _ (x : ℕ) (tops : Kinds) (e k : ℕ) (d : Disk) (t : Parts) (act : Uid)
           (ended_coord x k d.inc tops t.coord C Intended.disk LastWorld.disk act waits.branch ending.Commit mine1 waits.found has_ended doings_stay stages refl refl refl (ap is_gone (put_same (uid_number act) disk.Gone Intended.disk.stage)) (λ w other. refl) (λ bare r is. absurd (not_bare bare)))
           (ended_noted x (put_uid act i0 d.intents) t.coord C LastWorld act waits.branch ending.Commit (notes_later x Intended LastWorld (effects_are_later Intended (machine.Decide (uid_number act) ∷ []) ((made.0.0, made.0.1), tt) written_seen.whole) (put_uid act i0 d.intents) t.coord notes1) waits.found has_ended tellings_stay doings_stay
           (λ i there. let same : i0 ≡ i = some_is (keys.put_same act i0 d.intents) there in subst (λ (j : Intent). IsSettled act j C.telling LastWorld) same (record { done = told.done; awaited = λ m on. inl (ap (is_awaited_by m) (telling_here has) ∙ on) }))
-          (λ r is. let same = some_is doing_now is in ((λ m on. inl told.done), subst (λ (z : Doing). KnowsNow x LastWorld z.now) same tt)) (roots_known LastWorld later_all (λ w writes. inl (ap (λ (g : disk.Plan). g.writes) confirming.plan ∙ writes))))
+          (λ r is. let same = some_is doing_now is in ((λ m on. inl told.done), subst (λ (z : Doing). KnowsNow x LastWorld z.now) same tt)) (roots_known LastWorld later_all (λ w writes. inl (inl (ap (λ (g : disk.Plan). g.writes) confirming.plan ∙ writes)))))
 
       tolds : (N : Seen) → SeesDisks x tops LastWorld (up k d1 (with_coord t C) N) → Walks Q e k (map (decided_told (root_of p.path) act p) p.sent) (Up Q k (with_coord t C)) d1 N
       tolds N s = recorded_told x tops e k d1 (with_coord t C) act (root_of p.path) p top has p.sent N LastWorld told s

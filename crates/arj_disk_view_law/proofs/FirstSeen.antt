@@ -19,6 +19,7 @@ use Rattle.arj_disk_law.specs.Laws.{IsFirst}
 use Rattle.arj_disk_law.specs.State as disk
 use Rattle.arj_disk_law.specs.State.{State, Packed, Plan}
 use Rattle.arj_disk_law.proofs.Base.{never, some_is}
+use Rattle.arj_disk_law.proofs.History.{nothing_past}
 use Rattle.arj_disk_law.proofs.Results.{first_is_whole}
 use Rattle.arj_view_law.specs.Seen.{see}
 use Rattle.arj_disk_view_law.specs.Deciding.{SeesRecords}
@@ -130,6 +131,7 @@ module _ (hd : Header) (x : ℕ) (tops : Kinds) (has_it : HasObject hd x) where
   abbrev pub S : State
   S = record {
     first = packed (first_state has_it.line);
+    past = [];
     first_entry = record { version = 0; writer = uid_number nobody; content = line.stores };
     root = tops.root;
     serial = tops.is_serial;
@@ -165,7 +167,8 @@ module _ (hd : Header) (x : ℕ) (tops : Kinds) (has_it : HasObject hd x) where
     entry = refl;
     stores = (has_it.stored.0, has_same has_it.stored.0 line.stores ∙ has_it.stored.1);
     held = λ s on. ap (λ b. if b then Some (packed (first_state has_it.line)) else None) (sym (has_same s line.stores) ∙ on);
-    no_other = λ s g is. other (order.has line.stores s) g is;
+    no_other = λ s g is. inl (other (order.has line.stores s) g is);
+    past = nothing_past (packed (first_state has_it.line));
   }
     where
       other : (b : Bool) (g : Packed) → (if b then Some (packed (first_state has_it.line)) else None) ≡ Some g → packed (first_state has_it.line) ≡ g

@@ -15,10 +15,11 @@ use Rattle.arj_disk_law.specs.Effects
 use Rattle.arj_disk_law.specs.Effects.{World, Effect, Whole, Follows, Allowed, run, after}
 use Rattle.arj_disk_law.specs.Messages as mail
 use Rattle.arj_disk_law.specs.State as disk
-use Rattle.arj_disk_law.specs.State.{Stage, Preparing, Confirming, Gone, is_gone, is_idle, is_open, is_sealed, open_by, target, state_for, undecided}
-use Rattle.arj_disk_law.specs.Words.{put}
+use Rattle.arj_disk_law.specs.State.{Stage, Preparing, Confirming, Gone, is_gone, is_idle, is_open, is_sealed, open_by, target, state_for, undecided, IsNew}
+use Rattle.arj_disk_law.specs.Words.{put, In}
 use Rattle.arj_disk_law.proofs.Base.{open_done, open_made, open_parts, or_right, put_rises, put_other, falls_to, never, test_is, put_cases}
 use Rattle.arj_disk_law.proofs.Confirming.{marked_cases}
+use Rattle.arj_disk_law.proofs.History.{known_more}
 use Rattle.arj_disk_law.proofs.Keeps.{effect_keeps}
 use Rattle.arj_view_law.specs.Seen.{Post}
 use Rattle.arj_disk_view_law.specs.Confirming.{SaysMarks}
@@ -27,7 +28,7 @@ use Rattle.arj_disk_view_law.specs.Stores.{IsPlanned, ClaimsCommit, ClaimsAbort}
 use Rattle.arj_disk_view_law.specs.Sees.{Kinds, Claims, ClaimsAsk, ClaimsReply, ClaimsEnd, ClaimsLast, ClaimsOther, ClaimsAnswered, ClaimsAsked, IsLater, EffectsAreLater, ClaimsStay, begins, was_begun}
 
 pub later_same : (W : World) → IsLater W W
-later_same W = record { begun = λ z b. b; plan = λ z b. refl; sealed = λ z h. h; got = λ z h. refl; bare = λ z b. b; serial = refl; root = refl; first = refl; first_entry = refl; decided = λ z b. b; sent = λ m i. i; known = λ g k. k; gone = λ z h. h; opened = λ z b u. u; taken = λ z b m. inl m }
+later_same W = record { begun = λ z b. b; plan = λ z b. refl; sealed = λ z h. h; got = λ z h. refl; bare = λ z b. b; serial = refl; root = refl; first = refl; past = refl; first_entry = refl; decided = λ z b. b; sent = λ m i. i; known = λ g k. k; gone = λ z h. h; opened = λ z b u. u; taken = λ z b m. inl m }
 
 pub later_on : (U V W : World) → IsLater U V → IsLater V W → IsLater U W
 later_on U V W a b = record {
@@ -39,6 +40,7 @@ later_on U V W a b = record {
   serial = b.serial ∙ a.serial;
   root = b.root ∙ a.root;
   first = b.first ∙ a.first;
+  past = b.past ∙ a.past;
   first_entry = b.first_entry ∙ a.first_entry;
   decided = λ t h. b.decided t (a.decided t h);
   sent = λ m i. b.sent m (a.sent m i);
@@ -47,6 +49,10 @@ later_on U V W a b = record {
   opened = λ t h u. a.opened t h (b.opened t (a.begun t h) u);
   taken = λ t h m. ⊎_elim (λ old. a.taken t h old) (λ u. inr (a.opened t h u)) (b.taken t (a.begun t h) m);
 }
+
+-- who wrote nothing of what was there at first, or is older, is new later too
+pub new_later : (W V : World) → IsLater W V → (t : ℕ) → IsNew W.disk t → IsNew V.disk t
+new_later W V later t new g i = new g (subst (In g) (λ k. later.first k ∷ later.past k) i)
 
 -- a stage that is put at its end, or past the prepare step, is sealed
 seals : (t : ℕ) (g : Stage) (f : ℕ → Stage) → is_sealed g ≡ true → (z : ℕ) → is_sealed (f z) ≡ true → is_sealed (put t g f z) ≡ true
@@ -84,6 +90,7 @@ effect_later W (Effects.Begin t p) x w = record {
   serial = refl;
   root = refl;
   first = refl;
+  past = refl;
   first_entry = refl;
   decided = λ z b. b;
   sent = λ m i. i;
@@ -104,6 +111,7 @@ effect_later W (Effects.Take t s) x w = record {
   serial = refl;
   root = refl;
   first = refl;
+  past = refl;
   first_entry = refl;
   decided = λ z b. b;
   sent = λ m i. i;
@@ -112,24 +120,24 @@ effect_later W (Effects.Take t s) x w = record {
   opened = λ z b u. u;
   taken = λ z b m. inl m;
 }
-effect_later W (Effects.Seal t) x w = record { begun = λ z b. b; plan = λ z b. refl; sealed = seals t Confirming W.disk.stage refl; got = λ z h. refl; bare = λ z b. b; serial = refl; root = refl; first = refl; first_entry = refl; decided = λ z b. b; sent = λ m i. i; known = λ g k. k; gone = λ z h. put_cases (λ k. is_gone k ≡ true) t Confirming W.disk.stage z (λ e. absurd (cc (sym (ap is_gone (ap W.disk.stage e ∙ x)) ∙ h))) (λ e. h); opened = λ z b u. stage_opened W.disk t Confirming (λ o. ap is_open x) z u; taken = λ z b m. inl m }
-effect_later W (Effects.Intend t nodes) x w = record { begun = λ z b. b; plan = λ z b. refl; sealed = λ z h. h; got = λ z h. refl; bare = λ z b. b; serial = refl; root = refl; first = refl; first_entry = refl; decided = λ z b. b; sent = λ m i. i; known = λ g k. k; gone = λ z h. h; opened = λ z b u. intent_opened W.disk t (Some nodes) (λ o. inl (ap is_open (x.sealed))) z u; taken = λ z b m. inl m }
-effect_later W (Effects.Decide t) x w = record { begun = λ z b. b; plan = λ z b. refl; sealed = seals t Gone W.disk.stage refl; got = λ z h. refl; bare = λ z b. b; serial = refl; root = refl; first = refl; first_entry = refl; decided = λ z b. or_right (t == z) (disk.decided W.disk z) b; sent = λ m i. i; known = λ g k. inr k; gone = ends t Gone W.disk.stage refl; opened = λ z b u. decision_opened W.disk t z u; taken = λ z b m. inl m }
-effect_later W (Effects.Remove t nodes) x w = record { begun = λ z b. b; plan = λ z b. refl; sealed = λ z h. h; got = λ z h. refl; bare = λ z b. b; serial = refl; root = refl; first = refl; first_entry = refl; decided = λ z b. b; sent = λ m i. i; known = λ g k. k; gone = λ z h. h; opened = λ z b u. intent_opened W.disk t None (λ o. absurd (never o refl)) z u; taken = λ z b m. inl m }
-effect_later W (Effects.EndBare t) x w = record { begun = λ z b. b; plan = λ z b. refl; sealed = seals t Gone W.disk.stage refl; got = λ z h. refl; bare = λ z b. put_rises t W.disk.bare z b; serial = refl; root = refl; first = refl; first_entry = refl; decided = λ z b. b; sent = λ m i. i; known = λ g k. k; gone = ends t Gone W.disk.stage refl; opened = λ z b u. stage_opened W.disk t Gone (λ o. absurd (never o refl)) z u; taken = λ z b m. inl m }
-effect_later W (Effects.Halt t) x w = record { begun = λ z b. b; plan = λ z b. refl; sealed = seals t Gone W.disk.stage refl; got = λ z h. refl; bare = λ z b. b; serial = refl; root = refl; first = refl; first_entry = refl; decided = λ z b. b; sent = λ m i. i; known = λ g k. k; gone = ends t Gone W.disk.stage refl; opened = λ z b u. stage_opened W.disk t Gone (λ o. absurd (never o refl)) z u; taken = λ z b m. inl m }
-effect_later W (Effects.Keep t s) x w = record { begun = λ z b. b; plan = λ z b. refl; sealed = λ z h. h; got = λ z h. refl; bare = λ z b. b; serial = refl; root = refl; first = refl; first_entry = refl; decided = λ z b. b; sent = λ m i. i; known = λ g k. k; gone = λ z h. h; opened = λ z b u. u; taken = λ z b m. inl m }
-effect_later W (Effects.Move s h) x w = record { begun = λ z b. b; plan = λ z b. refl; sealed = λ z h. h; got = λ z h. refl; bare = λ z b. b; serial = refl; root = refl; first = refl; first_entry = refl; decided = λ z b. b; sent = λ m i. i; known = λ g k. k; gone = λ z h. h; opened = λ z b u. u; taken = λ z b m. inl m }
-effect_later W (Effects.Finish s h) x w = record { begun = λ z b. b; plan = λ z b. refl; sealed = λ z h. h; got = λ z h. refl; bare = λ z b. b; serial = refl; root = refl; first = refl; first_entry = refl; decided = λ z b. b; sent = λ m i. i; known = λ g k. k; gone = λ z h. h; opened = λ z b u. u; taken = λ z b m. inl m }
-effect_later W (Effects.Drop s h) x w = record { begun = λ z b. b; plan = λ z b. refl; sealed = λ z h. h; got = λ z h. refl; bare = λ z b. b; serial = refl; root = refl; first = refl; first_entry = refl; decided = λ z b. b; sent = λ m i. i; known = λ g k. k; gone = λ z h. h; opened = λ z b u. u; taken = λ z b m. inl m }
-effect_later W (Effects.Agree t) x w = record { begun = λ z b. b; plan = λ z b. refl; sealed = λ z h. h; got = λ z h. refl; bare = λ z b. b; serial = refl; root = refl; first = refl; first_entry = refl; decided = λ z b. b; sent = λ m i. i; known = λ g k. k; gone = λ z h. h; opened = λ z b u. u; taken = λ z b m. ⊎_elim (λ c. newly W.disk t z W.disk.conf (λ c. inl c) (marked_cases W.disk t W.disk.conf z c)) (λ l. inl (inr l)) m }
-effect_later W (Effects.Pass t) x w = record { begun = λ z b. b; plan = λ z b. refl; sealed = λ z h. h; got = λ z h. refl; bare = λ z b. b; serial = refl; root = refl; first = refl; first_entry = refl; decided = λ z b. b; sent = λ m i. i; known = λ g k. k; gone = λ z h. h; opened = λ z b u. u; taken = λ z b m. ⊎_elim (λ c. inl (inl c)) (λ l. newly W.disk t z W.disk.light (λ c. inr c) (marked_cases W.disk t W.disk.light z l)) m }
-effect_later W (Effects.Enter t) x w = record { begun = λ z b. b; plan = λ z b. refl; sealed = λ z h. h; got = λ z h. refl; bare = λ z b. b; serial = refl; root = refl; first = refl; first_entry = refl; decided = λ z b. b; sent = λ m i. i; known = λ g k. k; gone = λ z h. h; opened = λ z b u. u; taken = λ z b m. ⊎_elim (λ c. newly W.disk t z W.disk.conf (λ c. inl c) (marked_cases W.disk t W.disk.conf z c)) (λ l. inl (inr l)) m }
-effect_later W (Effects.MoveEntry h) x w = record { begun = λ z b. b; plan = λ z b. refl; sealed = λ z h. h; got = λ z h. refl; bare = λ z b. b; serial = refl; root = refl; first = refl; first_entry = refl; decided = λ z b. b; sent = λ m i. i; known = λ g k. k; gone = λ z h. h; opened = λ z b u. u; taken = λ z b m. inl m }
-effect_later W (Effects.FinishEntry h) x w = record { begun = λ z b. b; plan = λ z b. refl; sealed = λ z h. h; got = λ z h. refl; bare = λ z b. b; serial = refl; root = refl; first = refl; first_entry = refl; decided = λ z b. b; sent = λ m i. i; known = λ g k. k; gone = λ z h. h; opened = λ z b u. u; taken = λ z b m. inl m }
-effect_later W (Effects.DropEntry h) x w = record { begun = λ z b. b; plan = λ z b. refl; sealed = λ z h. h; got = λ z h. refl; bare = λ z b. b; serial = refl; root = refl; first = refl; first_entry = refl; decided = λ z b. b; sent = λ m i. i; known = λ g k. k; gone = λ z h. h; opened = λ z b u. u; taken = λ z b m. inl m }
-effect_later W (Effects.Forget r h) x w = record { begun = λ z b. b; plan = λ z b. refl; sealed = λ z h. h; got = λ z h. refl; bare = λ z b. b; serial = refl; root = refl; first = refl; first_entry = refl; decided = λ z b. b; sent = λ m i. i; known = λ g k. k; gone = λ z h. h; opened = λ z b u. u; taken = λ z b m. inl m }
-effect_later W (Effects.Send m) x w = record { begun = λ z b. b; plan = λ z b. refl; sealed = λ z h. h; got = λ z h. refl; bare = λ z b. b; serial = refl; root = refl; first = refl; first_entry = refl; decided = λ z b. b; sent = λ m i. inr i; known = λ g k. k; gone = λ z h. h; opened = λ z b u. u; taken = λ z b m. inl m }
+effect_later W (Effects.Seal t) x w = record { begun = λ z b. b; plan = λ z b. refl; sealed = seals t Confirming W.disk.stage refl; got = λ z h. refl; bare = λ z b. b; serial = refl; root = refl; first = refl; past = refl; first_entry = refl; decided = λ z b. b; sent = λ m i. i; known = λ g k. k; gone = λ z h. put_cases (λ k. is_gone k ≡ true) t Confirming W.disk.stage z (λ e. absurd (cc (sym (ap is_gone (ap W.disk.stage e ∙ x)) ∙ h))) (λ e. h); opened = λ z b u. stage_opened W.disk t Confirming (λ o. ap is_open x) z u; taken = λ z b m. inl m }
+effect_later W (Effects.Intend t nodes) x w = record { begun = λ z b. b; plan = λ z b. refl; sealed = λ z h. h; got = λ z h. refl; bare = λ z b. b; serial = refl; root = refl; first = refl; past = refl; first_entry = refl; decided = λ z b. b; sent = λ m i. i; known = λ g k. k; gone = λ z h. h; opened = λ z b u. intent_opened W.disk t (Some nodes) (λ o. inl (ap is_open (x.sealed))) z u; taken = λ z b m. inl m }
+effect_later W (Effects.Decide t) x w = record { begun = λ z b. b; plan = λ z b. refl; sealed = seals t Gone W.disk.stage refl; got = λ z h. refl; bare = λ z b. b; serial = refl; root = refl; first = refl; past = refl; first_entry = refl; decided = λ z b. or_right (t == z) (disk.decided W.disk z) b; sent = λ m i. i; known = λ g k. known_more W.disk t g k; gone = ends t Gone W.disk.stage refl; opened = λ z b u. decision_opened W.disk t z u; taken = λ z b m. inl m }
+effect_later W (Effects.Remove t nodes) x w = record { begun = λ z b. b; plan = λ z b. refl; sealed = λ z h. h; got = λ z h. refl; bare = λ z b. b; serial = refl; root = refl; first = refl; past = refl; first_entry = refl; decided = λ z b. b; sent = λ m i. i; known = λ g k. k; gone = λ z h. h; opened = λ z b u. intent_opened W.disk t None (λ o. absurd (never o refl)) z u; taken = λ z b m. inl m }
+effect_later W (Effects.EndBare t) x w = record { begun = λ z b. b; plan = λ z b. refl; sealed = seals t Gone W.disk.stage refl; got = λ z h. refl; bare = λ z b. put_rises t W.disk.bare z b; serial = refl; root = refl; first = refl; past = refl; first_entry = refl; decided = λ z b. b; sent = λ m i. i; known = λ g k. k; gone = ends t Gone W.disk.stage refl; opened = λ z b u. stage_opened W.disk t Gone (λ o. absurd (never o refl)) z u; taken = λ z b m. inl m }
+effect_later W (Effects.Halt t) x w = record { begun = λ z b. b; plan = λ z b. refl; sealed = seals t Gone W.disk.stage refl; got = λ z h. refl; bare = λ z b. b; serial = refl; root = refl; first = refl; past = refl; first_entry = refl; decided = λ z b. b; sent = λ m i. i; known = λ g k. k; gone = ends t Gone W.disk.stage refl; opened = λ z b u. stage_opened W.disk t Gone (λ o. absurd (never o refl)) z u; taken = λ z b m. inl m }
+effect_later W (Effects.Keep t s) x w = record { begun = λ z b. b; plan = λ z b. refl; sealed = λ z h. h; got = λ z h. refl; bare = λ z b. b; serial = refl; root = refl; first = refl; past = refl; first_entry = refl; decided = λ z b. b; sent = λ m i. i; known = λ g k. k; gone = λ z h. h; opened = λ z b u. u; taken = λ z b m. inl m }
+effect_later W (Effects.Move s h) x w = record { begun = λ z b. b; plan = λ z b. refl; sealed = λ z h. h; got = λ z h. refl; bare = λ z b. b; serial = refl; root = refl; first = refl; past = refl; first_entry = refl; decided = λ z b. b; sent = λ m i. i; known = λ g k. k; gone = λ z h. h; opened = λ z b u. u; taken = λ z b m. inl m }
+effect_later W (Effects.Finish s h) x w = record { begun = λ z b. b; plan = λ z b. refl; sealed = λ z h. h; got = λ z h. refl; bare = λ z b. b; serial = refl; root = refl; first = refl; past = refl; first_entry = refl; decided = λ z b. b; sent = λ m i. i; known = λ g k. k; gone = λ z h. h; opened = λ z b u. u; taken = λ z b m. inl m }
+effect_later W (Effects.Drop s h) x w = record { begun = λ z b. b; plan = λ z b. refl; sealed = λ z h. h; got = λ z h. refl; bare = λ z b. b; serial = refl; root = refl; first = refl; past = refl; first_entry = refl; decided = λ z b. b; sent = λ m i. i; known = λ g k. k; gone = λ z h. h; opened = λ z b u. u; taken = λ z b m. inl m }
+effect_later W (Effects.Agree t) x w = record { begun = λ z b. b; plan = λ z b. refl; sealed = λ z h. h; got = λ z h. refl; bare = λ z b. b; serial = refl; root = refl; first = refl; past = refl; first_entry = refl; decided = λ z b. b; sent = λ m i. i; known = λ g k. k; gone = λ z h. h; opened = λ z b u. u; taken = λ z b m. ⊎_elim (λ c. newly W.disk t z W.disk.conf (λ c. inl c) (marked_cases W.disk t W.disk.conf z c)) (λ l. inl (inr l)) m }
+effect_later W (Effects.Pass t) x w = record { begun = λ z b. b; plan = λ z b. refl; sealed = λ z h. h; got = λ z h. refl; bare = λ z b. b; serial = refl; root = refl; first = refl; past = refl; first_entry = refl; decided = λ z b. b; sent = λ m i. i; known = λ g k. k; gone = λ z h. h; opened = λ z b u. u; taken = λ z b m. ⊎_elim (λ c. inl (inl c)) (λ l. newly W.disk t z W.disk.light (λ c. inr c) (marked_cases W.disk t W.disk.light z l)) m }
+effect_later W (Effects.Enter t) x w = record { begun = λ z b. b; plan = λ z b. refl; sealed = λ z h. h; got = λ z h. refl; bare = λ z b. b; serial = refl; root = refl; first = refl; past = refl; first_entry = refl; decided = λ z b. b; sent = λ m i. i; known = λ g k. k; gone = λ z h. h; opened = λ z b u. u; taken = λ z b m. ⊎_elim (λ c. newly W.disk t z W.disk.conf (λ c. inl c) (marked_cases W.disk t W.disk.conf z c)) (λ l. inl (inr l)) m }
+effect_later W (Effects.MoveEntry h) x w = record { begun = λ z b. b; plan = λ z b. refl; sealed = λ z h. h; got = λ z h. refl; bare = λ z b. b; serial = refl; root = refl; first = refl; past = refl; first_entry = refl; decided = λ z b. b; sent = λ m i. i; known = λ g k. k; gone = λ z h. h; opened = λ z b u. u; taken = λ z b m. inl m }
+effect_later W (Effects.FinishEntry h) x w = record { begun = λ z b. b; plan = λ z b. refl; sealed = λ z h. h; got = λ z h. refl; bare = λ z b. b; serial = refl; root = refl; first = refl; past = refl; first_entry = refl; decided = λ z b. b; sent = λ m i. i; known = λ g k. k; gone = λ z h. h; opened = λ z b u. u; taken = λ z b m. inl m }
+effect_later W (Effects.DropEntry h) x w = record { begun = λ z b. b; plan = λ z b. refl; sealed = λ z h. h; got = λ z h. refl; bare = λ z b. b; serial = refl; root = refl; first = refl; past = refl; first_entry = refl; decided = λ z b. b; sent = λ m i. i; known = λ g k. k; gone = λ z h. h; opened = λ z b u. u; taken = λ z b m. inl m }
+effect_later W (Effects.Forget r h) x w = record { begun = λ z b. b; plan = λ z b. refl; sealed = λ z h. h; got = λ z h. refl; bare = λ z b. b; serial = refl; root = refl; first = refl; past = refl; first_entry = refl; decided = λ z b. b; sent = λ m i. i; known = λ g k. k; gone = λ z h. h; opened = λ z b u. u; taken = λ z b m. inl m }
+effect_later W (Effects.Send m) x w = record { begun = λ z b. b; plan = λ z b. refl; sealed = λ z h. h; got = λ z h. refl; bare = λ z b. b; serial = refl; root = refl; first = refl; past = refl; first_entry = refl; decided = λ z b. b; sent = λ m i. inr i; known = λ g k. k; gone = λ z h. h; opened = λ z b u. u; taken = λ z b m. inl m }
 
 pub effects_are_later : EffectsAreLater
 effects_are_later W [] f w = later_same W

@@ -252,6 +252,7 @@ pub record IsLater (W V : World) : Type 0 where
   pub serial : V.disk.serial ≡ W.disk.serial
   pub root : V.disk.root ≡ W.disk.root
   pub first : V.disk.first ≡ W.disk.first
+  pub past : V.disk.past ≡ W.disk.past
   pub first_entry : V.disk.first_entry ≡ W.disk.first_entry
   pub decided : (t : ℕ) → disk.decided W.disk t ≡ true → disk.decided V.disk t ≡ true
   pub sent : (m : mail.Message) → In m W.sent → In m V.sent

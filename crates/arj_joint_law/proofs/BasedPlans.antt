@@ -1,5 +1,5 @@
 -- What a commit that waits for naming has planned was voted over a known state; and what naming then takes is the next version.
-use Rattle.std.proofs.Common.{arith, ◌≡◌, ◌∙◌, ◌+◌, ◌<◌, ℕ, true, Some, sym, ap, subst}
+use Rattle.std.proofs.Common.{arith, ◌≡◌, ◌∙◌, ◌+◌, ◌<◌, ℕ, true, Some, sym, ap, subst, inl}
 use Rattle.std.specs.Prelude.{IfSome}
 use Rattle.arj_base.proofs.Uids.{uid_is}
 use Rattle.arj_lock.proofs.Members.{in_find}
@@ -57,7 +57,7 @@ pub is_next : (f : Fixed) (x : ℕ) (u : Uid) (S : State) (W : World) → Core W
 is_next f x u S W core writers st z one q takes c there its alive newest short =
     let o = over_the_last f x u S W st z one q takes c there its alive in
     let k = o.1 in
-    let same : k.0 ≡ last W.disk = known_one W.disk core writers k.0 (last W.disk) k.1 (last_known (let D = W.disk in D.first) (let D = W.disk in D.tops)) (k.3 ∙ newest (let y = z.copy in let b = y.base in b.writer) o.0) in
+    let same : k.0 ≡ last W.disk = known_one W.disk core writers k.0 (last W.disk) k.1 (inl (last_known (let D = W.disk in D.first) (let D = W.disk in D.tops))) (k.3 ∙ newest (let y = z.copy in let b = y.base in b.writer) o.0) in
     sym o.2 ∙ ap next_version (sym k.2 ∙ ap (λ (g : Packed). g.version) same) ∙ plain (let g = last W.disk in g.version) short
   where
     plain : (v : ℕ) → v < 18446744073709551615 → next_version v ≡ v + 1

@@ -49,10 +49,15 @@ use Rattle.arj_joint_law.proofs.Writing.{over_there}
 -- ---- what was the last state once
 
 -- a known state is the first one, or what a decided top wrote
-pub known_cases : (first : Packed) (ds : List Done) (g : Packed) → KnownIn first ds g → (first ≡ g) ⊎ ((d : Done) × words.In d ds × (d.plan.writes ≡ Some g))
-known_cases first [] g k = inl k
-known_cases first (d ∷ ds) g (inl e) = inr (d, inl refl, e)
-known_cases first (d ∷ ds) g (inr k) = ⊎_elim (λ (e : first ≡ g). inl e) (λ (x : (e : Done) × words.In e ds × (e.plan.writes ≡ Some g)). inr (x.0, inr x.1, x.2)) (known_cases first ds g k)
+known_in_cases : (first : Packed) (ds : List Done) (g : Packed) → KnownIn first ds g → (first ≡ g) ⊎ ((d : Done) × words.In d ds × (d.plan.writes ≡ Some g))
+known_in_cases first [] g k = inl k
+known_in_cases first (d ∷ ds) g (inl e) = inr (d, inl refl, e)
+known_in_cases first (d ∷ ds) g (inr k) = ⊎_elim (λ (e : first ≡ g). inl e) (λ (x : (e : Done) × words.In e ds × (e.plan.writes ≡ Some g)). inr (x.0, inr x.1, x.2)) (known_in_cases first ds g k)
+
+-- or it is older
+known_cases : (S : disk.State) (g : Packed) → Known S g → words.In g (S.first ∷ S.past) ⊎ ((d : Done) × words.In d S.tops × (d.plan.writes ≡ Some g))
+known_cases S g (inl k) = ⊎_elim (λ (e : S.first ≡ g). inl (inl e)) (λ (x : (e : Done) × words.In e S.tops × (e.plan.writes ≡ Some g)). inr x) (known_in_cases S.first S.tops g k)
+known_cases S g (inr i) = inl (inr i)
 
 -- what a decided top wrote is one
 known_done : (first : Packed) (ds : List Done) (d : Done) (g : Packed) → words.In d ds → d.plan.writes ≡ Some g → KnownIn first ds g
@@ -67,7 +72,7 @@ done_there (d ∷ ds) t on = ⊎_elim (λ (e : (d.top == t) ≡ true). (d, inl r
 pub known_decided : (S : disk.State) → Core S → (t : ℕ) (g : Packed) → disk.decided S t ≡ true → (let p = S.plan t in p.writes) ≡ Some g → Known S g
 known_decided S core t g on is =
     let d = done_there S.tops t on in
-    known_done S.first S.tops d.0 g d.1 (ap (λ (p : Plan). p.writes) (core.journal.plan d.0 d.1 ∙ ap S.plan d.2) ∙ is)
+    inl (known_done S.first S.tops d.0 g d.1 (ap (λ (p : Plan). p.writes) (core.journal.plan d.0 d.1 ∙ ap S.plan d.2) ∙ is))
 
 -- two of one writer are one
 module _ (S : disk.State) (core : Core S) (writers : HasWriters S) where
@@ -78,12 +83,12 @@ module _ (S : disk.State) (core : Core S) (writers : HasWriters S) where
   )
 
   pub known_one : (g h : Packed) → Known S g → Known S h → g.writer ≡ h.writer → g ≡ h
-  known_one g h kg kh same = by (known_cases S.first S.tops g kg) (known_cases S.first S.tops h kh)
+  known_one g h kg kh same = by (known_cases S g kg) (known_cases S h kh)
     where
-      by : (S.first ≡ g) ⊎ ((d : Done) × words.In d S.tops × (d.plan.writes ≡ Some g)) → (S.first ≡ h) ⊎ ((d : Done) × words.In d S.tops × (d.plan.writes ≡ Some h)) → g ≡ h
-      by (inl a) (inl b) = sym a ∙ b
-      by (inl a) (inr (d, i, e)) = let o = of_done d h i e in let w = writers d.top h o.0 o.1 in absurd (w.1 (ap (λ (p : Packed). p.writer) a ∙ same ∙ w.0))
-      by (inr (d, i, e)) (inl b) = let o = of_done d g i e in let w = writers d.top g o.0 o.1 in absurd (w.1 (ap (λ (p : Packed). p.writer) b ∙ sym same ∙ w.0))
+      by : words.In g (S.first ∷ S.past) ⊎ ((d : Done) × words.In d S.tops × (d.plan.writes ≡ Some g)) → words.In h (S.first ∷ S.past) ⊎ ((d : Done) × words.In d S.tops × (d.plan.writes ≡ Some h)) → g ≡ h
+      by (inl a) (inl b) = core.history.past.writer g h a b same
+      by (inl a) (inr (d, i, e)) = let o = of_done d h i e in let w = writers d.top h o.0 o.1 in absurd (w.1 g a (same ∙ w.0))
+      by (inr (d, i, e)) (inl b) = let o = of_done d g i e in let w = writers d.top g o.0 o.1 in absurd (w.1 h b (sym same ∙ w.0))
       by (inr (d, i, e)) (inr (c, j, k)) =
           let o = of_done d g i e in
           let q = of_done c h j k in

@@ -10,14 +10,14 @@ use Rattle.arj_protocol.specs.Step.{Node}
 use Rattle.arj_protocol.proofs.Numbers.{number_tells}
 use Rattle.arj_disk_law.specs.Core.{Chain, Core}
 use Rattle.arj_disk_law.specs.Names.{Office}
-use Rattle.arj_disk_law.specs.State.{Below, Done, KnownIn, Packed, Plan, State, decided_in, last, last_in, undecided}
+use Rattle.arj_disk_law.specs.State.{Below, Done, IsPast, Known, KnownIn, Packed, Plan, State, decided_in, last, last_in, undecided}
 use Rattle.arj_disk_law.specs.Words.{In, has}
 use Rattle.arj_disk_law.proofs.Base.{never}
-use Rattle.arj_disk_law.proofs.History.{in_decided, known_last}
+use Rattle.arj_disk_law.proofs.History.{below_last, in_decided}
 use Rattle.arj_view_law.specs.Seen.{Seen}
 use Rattle.arj_disk_view_law.specs.Pairs.{packed}
 use Rattle.arj_disk_view_law.specs.Plans.{used_at}
-use Rattle.arj_disk_view_law.specs.Sees.{Kinds}
+use Rattle.arj_disk_view_law.specs.Sees.{Kinds, IsLater}
 use Rattle.arj_names_view_law.specs.Both.{SeesBoth}
 use Rattle.arj_disk_run_law.specs.Decided.{AreOnce}
 use Rattle.arj_disk_run_law.proofs.Grows.{in_both, in_front}
@@ -35,12 +35,12 @@ use Rattle.arj_joint_law.proofs.Recording.{AreRecordedBy}
 abbrev pub WereSaidFirst : Seen → Uid → List Done → Type 0
 WereSaidFirst M u ds = (e : Done) → In e ds → (t : Uid) (n : Node) → M.nodes t.node ≡ Some n → uid_number t ≡ e.top → IsSaidFirst M.lines t u
 
--- The state was the last one once, by such decisions, which are the oldest ones.
+-- The state was the last one once, by such decisions, which are the oldest ones, or is older than the first.
 pub record WasKnown (A : Office) (M : Seen) (u : Uid) (g : Packed) : Type 0 where
   pub since : List Done
   pub before : List Done
   pub are : (let W = A.world in W.disk.tops) ≡ since ++ before
-  pub known : KnownIn (let W = A.world in W.disk.first) before g
+  pub known : Known (let W = A.world in record W.disk { tops = before }) g
   pub said : WereSaidFirst M u before
 
 -- so it is of what a top's commit loaded
@@ -95,8 +95,8 @@ above first (d ∷ xs) ys e chain i wrote = by (let p = d.plan in p.writes) refl
     by (Some w) is j ih = let next = chain.0 w is in let low = rises first xs ys chain.1 in omega (arith, next, low)
 
 -- who wrote isn't among those behind which the last state is known
-none_since : (first : Packed) (xs ys : List Done) (g : Packed) → Chain first (xs ++ ys) → KnownIn first ys g → g ≡ last_in first (xs ++ ys) → (e : Done) → In e xs → is_some (let p = e.plan in p.writes) ≡ true → ⊥
-none_since first xs ys g chain known same e i wrote = by (known_last first ys g (chain_behind first xs ys chain) known)
+none_since : (first : Packed) (past : List Packed) (xs ys : List Done) (g : Packed) → Chain first (xs ++ ys) → IsPast first past → KnownIn first ys g ⊎ In g past → g ≡ last_in first (xs ++ ys) → (e : Done) → In e xs → is_some (let p = e.plan in p.writes) ≡ true → ⊥
+none_since first past xs ys g chain older known same e i wrote = by (below_last first past ys g (chain_behind first xs ys chain) older known)
   where
     high : (last_in first ys).version < (last_in first (xs ++ ys)).version
     high = above first xs ys e chain i wrote
@@ -118,12 +118,12 @@ module _ (M Z : Seen) (step : IsStep M Z) where
   all_later [] know = tt
   all_later (d ∷ ds) know = (λ e i t u n here dc ec wrote none te ud. let m = step.nodes t.node n here in said_later t u (know.0 e i t u m.0 m.1 dc ec wrote none te ud), all_later ds know.1)
 
-  known_later : (A B : Office) (new : List Done) → (let W = B.world in W.disk.tops) ≡ new ++ (let W = A.world in W.disk.tops) → (let W = B.world in W.disk.first) ≡ (let W = A.world in W.disk.first) → (u : Uid) (g : Packed) → WasKnown A M u g → WasKnown B Z u g
-  known_later A B new are first u g k = record {
+  known_later : (A B : Office) (new : List Done) → (let W = B.world in W.disk.tops) ≡ new ++ (let W = A.world in W.disk.tops) → IsLater A.world B.world → (u : Uid) (g : Packed) → WasKnown A M u g → WasKnown B Z u g
+  known_later A B new are later u g k = record {
     since = new ++ k.since;
     before = k.before;
     are = are ∙ ap (λ ds. new ++ ds) k.are ∙ sym (append_assoc new k.since k.before);
-    known = subst (λ f. KnownIn f k.before g) (sym first) k.known;
+    known = subst (λ (f : Packed × List Packed). KnownIn f.0 k.before g ⊎ In g f.1) (sym (λ i. (later.first i, later.past i))) k.known;
     said = λ e i t n here number. let m = step.nodes t.node n here in said_later t u (k.said e i t m.0 m.1 number);
   }
 
@@ -147,7 +147,7 @@ module _ (x : ℕ) (tops : Kinds) (D : Office → Type 0) (C Cand : Uid → Type
   core_now = (let n = now.named in let k = n.whole in k.core)
 
   later : (u : Uid) (h : Packed) → WasKnown A M u h → WasKnown B Z u h
-  later = known_later M Z step A B g.new g.are (let l = f.later in l.first)
+  later = known_later M Z step A B g.new g.are f.later
 
   plan_later : (u : Uid) → PlanKnown A M u → PlanKnown B Z u
   plan_later u (begun, known) =
@@ -162,7 +162,7 @@ module _ (x : ℕ) (tops : Kinds) (D : Office → Type 0) (C Cand : Uid → Type
   -- one that is, and only includes a store, knew each that wrote
   knows : (d e : Done) → In d g.new → In e S.tops → In d B.world.disk.tops → KnowsThere Z e d
   knows d e i j there t u n here d_counts e_counts wrote none te ud = said_later M Z step t u (⊎_elim
-      (λ new. absurd (none_since S.first k.since k.before (let p = S.plan (uid_number u) in p.loaded) (subst (Chain S.first) k.are (let h = core.history in h.chain)) k.known (last_now ∙ ap (last_in S.first) k.are) e new wrote))
+      (λ new. absurd (none_since S.first S.past k.since k.before (let p = S.plan (uid_number u) in p.loaded) (subst (Chain S.first) k.are (let h = core.history in h.chain)) (let h = core.history in h.past) k.known (last_now ∙ ap (last_in S.first) k.are) e new wrote))
       (λ old. let m = step.nodes t.node n here in k.said e old t m.0 m.1 te)
       (in_both e k.since k.before (subst (In e) k.are j)))
     where

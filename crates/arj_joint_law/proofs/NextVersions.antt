@@ -358,10 +358,10 @@ module _ (values : Values) (x : ℕ) (tops : Kinds) (A : Office) (M : Seen) (bot
         ∙ is_next f x u S W core (λ z y b e. (let k = both.named in let l = k.plans in l.writer z y b e)) st over stage (g * 4294967296) takes c.0 c.1 c.2 c.3 newest short
       where
         newest : (z : Uid) → IsLast S (f.code (let k = over.copy in let b = k.base in b.value) (f.act z)) S.calls → uid_number z ≡ (let y = last D in y.writer)
-        newest z is = wrote_last f x begun S M seen values begins apart W whole (λ z y b e. (let k = both.named in let l = k.plans in l.writer z y b e)) heard.first (λ y b. (let k = heard.kinds in k.named y (let s = both.disks in s.kinds y b).0)) act_node tied ordered planned u (g * 4294967296) takes stage undone own_plan w writes (let k = over.copy in let b = k.base in b.value) z is
+        newest z is = wrote_last f x begun S M seen values begins apart W whole (λ z y b e. (let k = both.named in let l = k.plans in l.writer z y b e)) (heard.first D.first (inl refl)) (λ y b. (let k = heard.kinds in k.named y (let s = both.disks in s.kinds y b).0)) act_node tied ordered planned u (g * 4294967296) takes stage undone own_plan w writes (let k = over.copy in let b = k.base in b.value) z is
 
         short : (let y = last D in y.version) < 18446744073709551615
-        short = (let e = known_short x tops A M both heard.kinds its seen.written few (last D) (last_known D.first D.tops) in omega (arith, e))
+        short = (let e = known_short x tops A M both heard.kinds its seen.written few (last D) (inl (last_known D.first D.tops)) in omega (arith, e))
 
   -- where it was confirmed it is so already
   pub next_here : IsNext D (uid_number u)

@@ -12,7 +12,7 @@ use Rattle.arj_protocol.specs.Server.{Server}
 use Rattle.arj_protocol.specs.Step.{Node}
 use Rattle.arj_disk_law.specs.Effects.{World}
 use Rattle.arj_disk_law.specs.State as disk
-use Rattle.arj_disk_law.specs.State.{Known, Packed}
+use Rattle.arj_disk_law.specs.State.{Known, Packed, IsNew}
 use Rattle.arj_disk_view_law.specs.Pairs.{packed}
 use Rattle.arj_lock_law.specs.Actions as machine
 use Rattle.arj_lock_law.specs.Actions.{top}
@@ -114,4 +114,4 @@ pub record WasVotedOver (f : Fixed) (x : ℕ) (u : Uid) (S : lock.State) (W : Wo
 
 -- what a plan writes is by its top, and nobody of these wrote the first state
 abbrev pub HasWriters : disk.State → Type 0
-HasWriters S = (t : ℕ) (w : Packed) → S.begun t ≡ true → (let p = S.plan t in p.writes) ≡ Some w → (w.writer ≡ t) × (S.first.writer ≡ t → ⊥)
+HasWriters S = (t : ℕ) (w : Packed) → S.begun t ≡ true → (let p = S.plan t in p.writes) ≡ Some w → (w.writer ≡ t) × IsNew S t

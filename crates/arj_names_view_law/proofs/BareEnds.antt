@@ -70,51 +70,46 @@ module _ (f : Note → Bool) (z : ℕ) (none : f (Decides z) ≡ false) where
 
 -- plain effects open no outcome, and nobody is idle again
 pub record StaysShut (S T : State) : Type 0 where
-  pub first : T.first ≡ S.first
   pub opened : (z : ℕ) → undecided T z ≡ true → undecided S z ≡ true
   pub idle : (z : ℕ) → T.stage z ≡ Idle → S.stage z ≡ Idle
 
 pub opens_none : (W : World) (a : machine.Effect) → Allowed W a → is_only_of (λ n. false) a ≡ true → StaysShut W.disk (after W a).disk
 opens_none W (machine.Begin t p) can is = absurd (never is refl)
-opens_none W (machine.Take t s) can is = record { first = refl; opened = λ z u. u; idle = λ z i. i }
+opens_none W (machine.Take t s) can is = record { opened = λ z u. u; idle = λ z i. i }
 opens_none W (machine.Seal t) can is = record {
-  first = refl;
   opened = λ z. put_cases (λ g. open_by (decided W.disk z) g (W.disk.intent z) ≡ true → undecided W.disk z ≡ true) t Confirming W.disk.stage z
       (λ same u. subst (λ g. open_by (decided W.disk z) g (W.disk.intent z) ≡ true) (sym (ap W.disk.stage same ∙ can)) u) (λ other u. u);
   idle = λ z. put_cases (λ g. g ≡ Idle → W.disk.stage z ≡ Idle) t Confirming W.disk.stage z (λ same i. cc i) (λ other i. i);
 }
 opens_none W (machine.Intend t nodes) can is = record {
-  first = refl;
   opened = λ z. put_cases (λ o. open_by (decided W.disk z) (W.disk.stage z) o ≡ true → undecided W.disk z ≡ true) t (Some nodes) W.disk.intent z
       (λ same u. open_made (decided W.disk z) (W.disk.stage z) (W.disk.intent z) (open_done (decided W.disk z) (W.disk.stage z) (Some nodes) u) (inl (ap is_open (ap W.disk.stage same ∙ can.sealed)))) (λ other u. u);
   idle = λ z i. i;
 }
 opens_none W (machine.Decide t) can is = absurd (never is refl)
 opens_none W (machine.Remove t nodes) can is = record {
-  first = refl;
   opened = λ z. put_cases (λ o. open_by (decided W.disk z) (W.disk.stage z) o ≡ true → undecided W.disk z ≡ true) t None W.disk.intent z
       (λ same u. open_made (decided W.disk z) (W.disk.stage z) (W.disk.intent z) (open_done (decided W.disk z) (W.disk.stage z) None u) (⊎_elim (λ o. inl o) (λ n. absurd (never n refl)) (open_parts (decided W.disk z) (W.disk.stage z) None u))) (λ other u. u);
   idle = λ z i. i;
 }
 opens_none W (machine.EndBare t) can is = absurd (never is refl)
 opens_none W (machine.Halt t) can is = record {
-  first = refl;
   opened = λ z. put_cases (λ g. open_by (decided W.disk z) g (W.disk.intent z) ≡ true → undecided W.disk z ≡ true) t Gone W.disk.stage z
       (λ same u. open_made (decided W.disk z) (W.disk.stage z) (W.disk.intent z) (open_done (decided W.disk z) Gone (W.disk.intent z) u) (⊎_elim (λ o. absurd (never o refl)) (λ n. inr n) (open_parts (decided W.disk z) Gone (W.disk.intent z) u))) (λ other u. u);
   idle = λ z. put_cases (λ g. g ≡ Idle → W.disk.stage z ≡ Idle) t Gone W.disk.stage z (λ same i. cc i) (λ other i. i);
 }
-opens_none W (machine.Keep t s) can is = record { first = refl; opened = λ z u. u; idle = λ z i. i }
-opens_none W (machine.Move s h) can is = record { first = refl; opened = λ z u. u; idle = λ z i. i }
-opens_none W (machine.Finish s h) can is = record { first = refl; opened = λ z u. u; idle = λ z i. i }
-opens_none W (machine.Drop s h) can is = record { first = refl; opened = λ z u. u; idle = λ z i. i }
+opens_none W (machine.Keep t s) can is = record { opened = λ z u. u; idle = λ z i. i }
+opens_none W (machine.Move s h) can is = record { opened = λ z u. u; idle = λ z i. i }
+opens_none W (machine.Finish s h) can is = record { opened = λ z u. u; idle = λ z i. i }
+opens_none W (machine.Drop s h) can is = record { opened = λ z u. u; idle = λ z i. i }
 opens_none W (machine.Agree t) can is = absurd (never is refl)
 opens_none W (machine.Pass t) can is = absurd (never is refl)
 opens_none W (machine.Enter t) can is = absurd (never is refl)
-opens_none W (machine.MoveEntry h) can is = record { first = refl; opened = λ z u. u; idle = λ z i. i }
-opens_none W (machine.FinishEntry h) can is = record { first = refl; opened = λ z u. u; idle = λ z i. i }
-opens_none W (machine.DropEntry h) can is = record { first = refl; opened = λ z u. u; idle = λ z i. i }
-opens_none W (machine.Forget r h) can is = record { first = refl; opened = λ z u. u; idle = λ z i. i }
-opens_none W (machine.Send m) can is = record { first = refl; opened = λ z u. u; idle = λ z i. i }
+opens_none W (machine.MoveEntry h) can is = record { opened = λ z u. u; idle = λ z i. i }
+opens_none W (machine.FinishEntry h) can is = record { opened = λ z u. u; idle = λ z i. i }
+opens_none W (machine.DropEntry h) can is = record { opened = λ z u. u; idle = λ z i. i }
+opens_none W (machine.Forget r h) can is = record { opened = λ z u. u; idle = λ z i. i }
+opens_none W (machine.Send m) can is = record { opened = λ z u. u; idle = λ z i. i }
 
 -- a commit that needs no record wrote nothing: some store is listed, and it would have one as a target
 module _ (W : World) (t : ℕ) (whole : Whole W) (can : machine.CanEndBare W t) where

@@ -446,7 +446,7 @@ module _ (x : ℕ) (tops : Kinds) (unwalked : tops.walk ≡ None) (e k : ℕ) (d
                 names_same = i.names_same;
                 later = on;
                 tops_same = q.tops ∙ i.tops_same;
-                unopened = λ idle. let o = i.unopened (n.idle top idle) in record { first = n.first ∙ o.first; opened = λ z u. o.opened z (n.opened z u) };
+                unopened = λ idle. let o = i.unopened (n.idle top idle) in record { opened = λ z u. o.opened z (n.opened z u) };
               };
             }
 
@@ -476,7 +476,7 @@ module _ (x : ℕ) (tops : Kinds) (unwalked : tops.walk ≡ None) (e k : ℕ) (d
             plan_is = sym (put_same top q C.world.disk.plan) ∙ sym (lately.plan top has_begun) ∙ planned W L disks (lately.begun top has_begun)
 
     begun_office : Along (record { from = A.world; noted = only_begins top }) W → Stepped Begun W
-    begun_office a = steps_to Begun (only_begins top) W begun_step a.effects A both.named (record { names_same = refl; later = later_same A.world; tops_same = refl; unopened = λ idle. record { first = refl; opened = λ z u. u } }) a.allowed a.only a.here
+    begun_office a = steps_to Begun (only_begins top) W begun_step a.effects A both.named (record { names_same = refl; later = later_same A.world; tops_same = refl; unopened = λ idle. record { opened = λ z u. u } }) a.allowed a.only a.here
 
   begun_end : (L : Seen) → L.nodes ≡ M.nodes → Up (IsSeenByDisks x (followed tops A.world (only_begins top))) k v d L → Up (IsSeenFrom x tops A) k v d L
   begun_end L same (W, s) =

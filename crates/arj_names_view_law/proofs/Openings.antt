@@ -13,6 +13,7 @@ use Rattle.arj_disk_law.specs.Names.{Names, Office, Kept, load_of}
 use Rattle.arj_disk_law.specs.State.{State, Packed, Plan, undecided}
 use Rattle.arj_disk_law.specs.Words.{In, has}
 use Rattle.arj_disk_law.proofs.Base.{falls_to, never, some_is, test_is}
+use Rattle.arj_disk_view_law.proofs.Later.{new_later}
 use Rattle.arj_disk_view_law.specs.Plans.{loads, plan_at, plan_by, used_at}
 use Rattle.arj_disk_view_law.specs.Sees.{Kinds, IsFixed}
 use Rattle.arj_names_view_law.specs.Begins.{CommitsMayBegin, IsOpening, OpeningsStay, SeesRoot}
@@ -106,5 +107,5 @@ openings_stay x t c r p A C later tops none can o = record {
   root = can.root;
   first = λ z of. falls_to (undecided C.world.disk z) (λ u. never (none.opened z u) (o.first z (ap (λ f. f z) (sym later.root) ∙ of ∙ ap (λ f. f (uid_number t)) later.root)));
   called = o.called;
-  writer = λ w is. let q = o.writer w is in (q.0, λ e. q.1 (ap (λ (g : Packed). g.writer) (sym none.first) ∙ e));
+  writer = λ w is. let q = o.writer w is in (q.0, new_later A.world C.world later (uid_number t) q.1);
 }

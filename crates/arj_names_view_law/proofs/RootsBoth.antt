@@ -1,5 +1,5 @@
 -- A formatted world with both halves; and what a coordinator has of a root, where nothing of it has changed.
-use Rattle.std.proofs.Common.{◌≡◌, ◌⊎◌, ℕ, [], true, false, Some, None, refl, sym, ◌∙◌, ap, subst, inl, inr, ⊎_elim}
+use Rattle.std.proofs.Common.{◌≡◌, ◌⊎◌, ℕ, [], true, false, Some, None, refl, sym, ◌∙◌, ap, subst, inl, inr, ⊎_elim, ◌∷◌}
 use Rattle.arj_protocol.specs.Words.{Header, Uid, nobody}
 use Rattle.arj_protocol.specs.Call.{Known}
 use Rattle.arj_protocol.specs.Confirm.{recovered_naming}
@@ -7,12 +7,13 @@ use Rattle.arj_protocol.specs.Coord.{Coord, Root}
 use Rattle.arj_protocol.specs.Naming.{Naming}
 use Rattle.arj_protocol.specs.Node.{Parts}
 use Rattle.arj_protocol.specs.Order.{uid_number}
-use Rattle.arj_protocol.specs.Step.{Node, first_disk, first_node, parts_in}
+use Rattle.arj_protocol.specs.Step.{Node, first_disk, first_node, first_state, parts_in}
 use Rattle.arj_protocol.specs.World.{format}
 use Rattle.arj_disk_law.specs.Names.{Names, Office, Answer, Loaded, written_in}
 use Rattle.arj_disk_view_law.specs.Formats.{HasObject}
 use Rattle.arj_disk_view_law.specs.Pairs.{packed}
 use Rattle.arj_disk_law.specs.NamingLaws.{IsFirstNames}
+use Rattle.arj_disk_law.specs.State.{Packed}
 use Rattle.arj_disk_law.specs.Words.{In}
 use Rattle.arj_disk_law.proofs.Base.{some_is}
 use Rattle.arj_disk_law.proofs.NamingResults.{first_is_named}
@@ -62,11 +63,16 @@ formats_have_both hd x tops unwalked has_it serial plain idem entries = (
 
 -- and so much is known of it
 pub formats_have_first : (hd : Header) (x : ℕ) (tops : Kinds) → tops.walk ≡ None → HasObject hd x → ((r : ℕ) → tops.is_serial r ≡ true → tops.root r ≡ r) → ((t : ℕ) → tops.is_serial (tops.root t) ≡ false → tops.root t ≡ t) → ((t : ℕ) → tops.root (tops.root t) ≡ tops.root t)
-    → AreEntries (first_disk hd 1).names → (A : Office) × SeesBoth x tops A (see [] (format hd)) × IsFirstNames A.names × (A.world.disk.tops ≡ []) × (A.world.disk.first.writer ≡ uid_number nobody) × (A.world.disk.first.version ≡ 0) × ((t : ℕ) → A.world.disk.bare t ≡ false)
+    → AreEntries (first_disk hd 1).names → (A : Office) × SeesBoth x tops A (see [] (format hd)) × IsFirstNames A.names × (A.world.disk.tops ≡ []) × ((g : Packed) → In g (A.world.disk.first ∷ A.world.disk.past) → g.writer ≡ uid_number nobody) × (A.world.disk.first.version ≡ 0) × ((t : ℕ) → A.world.disk.bare t ≡ false)
 unfolding formats_have_both
 formats_have_first hd x tops unwalked has_it serial plain idem entries =
     let b = formats_have_both hd x tops unwalked has_it serial plain idem entries in
-    (b.0, b.1, first_names_is, (let f = seen.first_is hd x tops has_it in f.undecided), refl, refl, (let f = seen.first_is hd x tops has_it in f.none_bare))
+    (b.0, b.1, first_names_is, (let f = seen.first_is hd x tops has_it in f.undecided), first_writer, refl, (let f = seen.first_is hd x tops has_it in f.none_bare))
+  where
+    -- nothing is older, and nobody wrote the first state
+    first_writer : (g : Packed) → In g (packed (first_state (let o = has_it in o.line)) ∷ []) → g.writer ≡ uid_number nobody
+    first_writer g (inl is) = ap (λ (q : Packed). q.writer) (sym is)
+    first_writer g (inr i) = absurd i
 
 -- ---- a root of which nothing has changed
 

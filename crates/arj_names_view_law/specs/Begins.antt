@@ -9,7 +9,7 @@ use Rattle.arj_disk_law.specs.Effects.{Allowed, Begin}
 use Rattle.arj_disk_law.specs.Guards.{MayBegin}
 use Rattle.arj_disk_law.specs.Named.{Named}
 use Rattle.arj_disk_law.specs.Names.{Office}
-use Rattle.arj_disk_law.specs.State.{Packed, Plan, Idle, is_gone, undecided}
+use Rattle.arj_disk_law.specs.State.{Packed, Plan, Idle, is_gone, undecided, IsNew}
 use Rattle.arj_disk_view_law.specs.Plans.{plan_at}
 use Rattle.arj_disk_view_law.specs.Sees.{Kinds, IsFixed, IsLater}
 use Rattle.arj_names_view_law.specs.Both.{OpensNone}
@@ -32,7 +32,7 @@ pub record IsOpening (x : ℕ) (t : Uid) (c : Coord) (r : Root) (p : Plan) (A : 
   pub root : is_gone (A.world.disk.stage (A.world.disk.root (uid_number t))) ≡ false
   pub first : (z : ℕ) → A.world.disk.root z ≡ A.world.disk.root (uid_number t) → undecided A.world.disk z ≡ false
   pub called : is_some p.writes ≡ true → is_called x t r c ≡ true
-  pub writer : (w : Packed) → p.writes ≡ Some w → (w.writer ≡ uid_number t) × (A.world.disk.first.writer ≡ uid_number t → ⊥)
+  pub writer : (w : Packed) → p.writes ≡ Some w → (w.writer ≡ uid_number t) × IsNew A.world.disk (uid_number t)
 
 -- so a commit may begin in the machine by what its root has of the object
 abbrev pub CommitsMayBegin : Type 0

@@ -275,9 +275,8 @@ is_no_work (Do w) = false
 is_no_work (Say b) = true
 is_no_work (Send to m) = true
 
--- the object began as before, and no outcome was opened
+-- no outcome was opened
 pub record OpensNone (S T : State) : Type 0 where
-  pub first : T.first ≡ S.first
   pub opened : (z : ℕ) → undecided T z ≡ true → undecided S z ≡ true
 
 -- A commit begins, with this plan: it may, whatever the disk half has done, as long as that opened no outcome.

@@ -1,4 +1,4 @@
-use Rattle.arj_disk_law.proofs.FirstRuns.{first_named, serial_named}
+use Rattle.arj_disk_law.proofs.FirstRuns.{first_named, serial_named, older_named}
 use Rattle.arj_disk_law.proofs.SmallRuns.{excluding_runs, stopped_before_runs, stopped_after_runs, naming_restarts_runs, excluded_runs, removed_runs, including_runs, serializing_runs, retaining_runs}
 use Rattle.std.proofs.Common.{◌≡◌, Bool, true, false, refl}
 use Rattle.arj_disk_law.proofs.samples.guards_can_be_met.Goals as goal
@@ -34,4 +34,4 @@ pub returns-clause-retaining : goal.returns-clause-retaining
 returns-clause-retaining c = (retaining_runs, refl)
 
 pub returns-clause-first : goal.returns-clause-first
-returns-clause-first c = (first_named, serial_named)
+returns-clause-first c = (first_named, serial_named, older_named)
