@@ -1,18 +1,17 @@
 -- Runs of the generated bank are runs in form, and show the promise.
-use Rattle.std.proofs.Common.{◌≡◌, ◌≤◌, ◌++◌, ℕ, Bool, false, List, [], ◌∷◌, length, map, refl, sym, ◌∙◌, ap, subst, arith, length-append, append-nil}
+use Rattle.std.proofs.Common.{◌≡◌, ◌++◌, ℕ, List, [], ◌∷◌, length, refl, sym, ◌∙◌, ap, subst, arith, length-append, append-nil}
 use Rattle.std.proofs.Math.Logic.{⊎_elim}
 use Rattle.std.specs.List.{AllByRecursion}
 use Rattle.std.proofs.lemmas.List.{length-map}
-use Rattle.arj_bank.specs.Bank.{AreOfBank, RanBank}
+use Rattle.arj_bank.specs.Bank.{AreOfBank}
 use Rattle.arj_core.specs.declared.node.Core as core
 use Rattle.arj_disk.specs.declared.disk.Disk as disk
 use Rattle.arj_gen.proofs.Counts.{all_counted, bank_fits}
-use Rattle.arj_gen.specs.Bank.{bank_header, event_lines}
+use Rattle.arj_gen.specs.Bank.{bank_header}
 use Rattle.arj_journal.specs.ScriptForm.{EventInForm}
 use Rattle.arj_journal.specs.ScriptText.{event_text}
 use Rattle.arj_journal.specs.declared.event.Event.{Event}
 use Rattle.arj_nodes.specs.AllNodes.{task}
-use Rattle.arj_protocol.specs.Words.{Line}
 use Rattle.arj_protocol.specs.Words.body
 use Rattle.arj_protocol.specs.Words.which
 use Rattle.arj_world.specs.Stands.{hand}

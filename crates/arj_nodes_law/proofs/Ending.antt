@@ -8,25 +8,25 @@ use Rattle.arj_base.specs.Uid.{entry, object, uid_eq}
 use Rattle.arj_base.specs.declared.state.Class.TheVariants as class
 use Rattle.arj_base.specs.declared.state.ObjectState.{ObjectState}
 use Rattle.arj_base.specs.declared.uid.Uid.{Uid}
-use Rattle.arj_law.specs.Book.{InOrder, Answered, IsAnsweredBy, OfEachTwo, is_conflict}
+use Rattle.arj_law.specs.Book.{IsAnsweredBy, OfEachTwo, is_conflict}
 use Rattle.arj_law.specs.Growth.{is_quiet, more}
 use Rattle.arj_law.specs.Held.{IsHeldAt, holder_root, locks_for, root_of_call, tables_of, unit_end}
-use Rattle.arj_law.specs.Nested.{AnsweredInTime, FreedInOrder, IsFreedFor, commit_place, nested_calls, nested_less}
+use Rattle.arj_law.specs.Nested.{IsFreedFor, commit_place, nested_less}
 use Rattle.arj_law.proofs.Common.{all_map}
 use Rattle.arj_law.proofs.Reading.{quiet_calls, quiet_serial, quiet_tops, read_none}
-use Rattle.arj_model.specs.Actions.{Act, Placed, acts, acts_after, acts_from, begun_of, committed, committed_of, is_committed, recovered, recovered_of, top_in, chain_in, has_end, root_in}
+use Rattle.arj_model.specs.Actions.{Act, Placed, acts, acts_after, committed, committed_of, is_committed, recovered, recovered_of, top_in, chain_in, has_end, root_in}
 use Rattle.arj_model.specs.Calls.{Call, Top, committed_calls, said, said_of, tops}
 use Rattle.arj_model.specs.Clean.{Clean}
 use Rattle.arj_model.specs.Disks.{Disks, Reading}
 use Rattle.arj_model.specs.Last.{changers, entry_payload, entry_state, excluded, excluded_of, first_values, included, included_of, increasing, is_among, joins_by, joins_of, last_changer, last_state, leaves_of, listed, listed_after, listed_from, object_line, same_list, serial_tops, servers_of_line, state_after, stores_of_line, uid_of_id, Inclusion}
-use Rattle.arj_model.specs.Serial.{Answers, Serial, Values, arrange, lex, run, serial_calls, serial_key, serial_less, root_of, top_place, unit_place, writes_on}
+use Rattle.arj_model.specs.Serial.{Answers, Values, arrange, lex, run, serial_calls, serial_key, serial_less, root_of, top_place, unit_place, writes_on}
 use Rattle.arj_model.specs.Table.{table_from, table_step, up_step, path_by}
 use Rattle.arj_model.proofs.Read.{acts-append}
 use Rattle.arj_protocol.specs.Words.{Body, Header, Line}
 use Rattle.arj_protocol.specs.Words.body
 use Rattle.arj_serial_law.specs.Seen.{IsSerialBy}
 use Rattle.arj_joint_law.specs.Booked.{KeepsTheBook}
-use Rattle.arj_joint_law.specs.Outcome.{ShowsOneOutcome, aborts_have_cause, commits_are_behind, each_behind, has_cause_to_abort, is_behind_decision, is_said}
+use Rattle.arj_joint_law.specs.Outcome.{ShowsOneOutcome, each_behind, has_cause_to_abort, is_behind_decision, is_said}
 use Rattle.arj_class.specs.Table.{is_write, writes}
 use Rattle.arj_disk.specs.declared.disk.Disk as disk
 use Rattle.arj_journal.specs.declared.event.Event.{Event}

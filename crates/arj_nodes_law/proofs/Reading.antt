@@ -1,5 +1,5 @@
 -- Lines that were read as a script have a header in form, and events in form.
-use Rattle.std.proofs.Common.{◌≡◌, ◌≤◌, ◌+◌, ℕ, zero, suc, Bool, List, [], ◌∷◌, length, Option, Some, None, refl, sym, subst, arith}
+use Rattle.std.proofs.Common.{◌≡◌, ◌≤◌, ℕ, suc, List, [], ◌∷◌, length, Some, refl, subst, arith}
 use Rattle.std.specs.List.{AllByRecursion}
 use Rattle.arj_journal.specs.declared.event.Event.{Event}
 use Rattle.arj_journal.specs.declared.header.ObjectLine.{ObjectLine}

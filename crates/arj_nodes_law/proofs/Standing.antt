@@ -1,5 +1,5 @@
 -- A core says what its parts say.
-use Rattle.std.proofs.Common.{ℕ, Option, Some, None, sym, subst}
+use Rattle.std.proofs.Common.{Option, Some, None, sym, subst}
 use Rattle.arj_disk.specs.FileMap.{FileMap}
 use Rattle.arj_joint_law.specs.Shown.{IsReadingOf}
 use Rattle.arj_node.specs.Lives.{IsLive, IsNode}

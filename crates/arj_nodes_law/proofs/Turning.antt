@@ -1,8 +1,7 @@
 -- Turns of nodes are moves.
-use Rattle.std.proofs.Common.{◌≡◌, ◌≤◌, ◌<◌, ◌+◌, ◌++◌, ℕ, zero, suc, Bool, false, List, [], ◌∷◌, length, map, Option, Some, None, refl, sym, ◌∙◌, ap, subst, arith}
+use Rattle.std.proofs.Common.{◌≡◌, ◌≤◌, ◌<◌, ◌++◌, ℕ, zero, suc, Bool, true, false, inl, inr, List, [], ◌∷◌, length, map, Option, Some, None, refl, sym, ◌∙◌, ap, subst, arith}
 use Rattle.std.specs.Prelude.{slice_get}
 use Rattle.std.proofs.Math.Logic.{⊎_elim}
-use Rattle.std.specs.Prelude.{inl, inr}
 use Rattle.std.specs.List.{AllByRecursion}
 use Rattle.std.proofs.lemmas.List.{length-map}
 use Rattle.arj_core.specs.declared.node.Core as core
@@ -11,20 +10,18 @@ use Rattle.arj_journal.specs.ScriptForm.{EventInForm}
 use Rattle.arj_journal.specs.declared.event.Event.{Event}
 use Rattle.arj_journal.specs.declared.body.Line.{Line}
 use Rattle.arj_loop.specs.Input.{Arrived, script_of}
-use Rattle.arj_loop.specs.Replayed.{Answer, Closes, EndsSo, Outside, StopsShort}
+use Rattle.arj_loop.specs.Replayed.{EndsSo}
 use Rattle.arj_loop.specs.Running as loop
 use Rattle.arj_loop.specs.Running.{MachineRuns, Stage, Why, events_run, last_body, last_lines}
 use Rattle.arj_loop.specs.declared.ending.End.{End}
 use Rattle.arj_loop.specs.declared.ending.End.TheVariants as ending
 use Rattle.arj_loop.specs.declared.machine.Machine.{Ghosts}
-use Rattle.arj_nodes.specs.AllNodes.{RanAll, Task, task, world_after}
+use Rattle.arj_nodes.specs.AllNodes.{Task, task, world_after}
 use Rattle.arj_nodes.specs.AsMachine.{all_nodes}
 use Rattle.arj_nodes.specs.declared.all_nodes.AllNodes.{AllNodes}
-use Rattle.arj_protocol.specs.Step.{Node}
-use Rattle.arj_protocol.specs.Tree.{at_place}
 use Rattle.arj_protocol.specs.Words.{Header}
 use Rattle.arj_protocol.specs.World.{World, format, is_quiet}
-use Rattle.arj_script.specs.Grammar.{Start}
+use Rattle.arj_script.specs.Grammar.{Place, Start}
 use Rattle.arj_script.specs.Input.{events_of}
 use Rattle.arj_script.specs.declared.limits.TheConstants.{SCRIPT_LINES}
 use Rattle.arj_view_law.specs.Moves.{Move, all_moved, journal_by, moved, world_by}
@@ -57,7 +54,7 @@ use Rattle.arj_nodes_law.specs.Cores.{SaysReadings}
 use Rattle.arj_nodes_law.specs.Last.{EndsBehind, IsLast, ends_run}
 use Rattle.arj_nodes_law.specs.Promised.{EndsIdle, ShowsThePromise}
 use Rattle.arj_nodes_law.specs.Readings.{Reads, files_at, readings_of}
-use Rattle.arj_nodes_law.specs.Turns.{Came, ClosesMove, ClosesShow, HasMoved, IsTaskInForm, NodesMove, RunsShow, ScriptsMove, SoFarShows, StopsShow, as_move, event_of}
+use Rattle.arj_nodes_law.specs.Turns.{Came, ClosesMove, ClosesShow, HasMoved, NodesMove, RunsShow, ScriptsMove, SoFarShows, StopsShow, as_move, event_of}
 
 pub turns_move : (ts : List Turn) (w : World) → all_turned ts w ≡ all_moved (map as_move ts) w
 turns_move [] w = refl
@@ -267,7 +264,7 @@ pub stops_show : {C D : Type 0} (c : core.Ghosts C) (d : disk.Ghosts D) (read : 
 stops_show {C} {D} c d read says before after status stop = by stop.run
   where
     by : (run : Came c d stop.given before.rack after.rack status stop.journal) → SoFarShows c d read stop.given before.rack after.rack status stop.journal run
-    by (inl (at, half, is, went)) nodes there =
+    by (inl (now, half, is, went)) = λ nodes there.
         subst (λ ls. ShowsThePromise d read (task before.rack half.stage.header (events_of half.stage.forms)) nodes.over ls half.mid) (sym is)
-        (script_shows c d read says before.rack half.mid half.done half.place at half.stage nodes there)
-    by (inr (four, end, ends)) = ends_show c d stop.given before.rack after.rack end stop.journal ends read says
+        (script_shows c d read says before.rack half.mid half.done half.place now half.stage nodes there)
+    by (inr (four, (end, ends))) = ends_show c d stop.given before.rack after.rack end stop.journal ends read says

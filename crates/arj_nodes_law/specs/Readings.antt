@@ -1,5 +1,5 @@
 -- How files are read: the one place where the files of a disk become what it says.
-use Rattle.std.specs.Prelude.{ℕ, List, Option, None, Some}
+use Rattle.std.specs.Prelude.{List, Option, None, Some}
 use Rattle.arj_disk.specs.FileMap.{FileMap}
 use Rattle.arj_disk.specs.Says as files
 use Rattle.arj_disk.specs.declared.disk.Disk as disk

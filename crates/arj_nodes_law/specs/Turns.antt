@@ -1,5 +1,6 @@
 -- What nodes run over disks, as runs of moves.
-use Rattle.std.specs.Prelude.{◌≡◌, ◌≤◌, ◌⊎◌, inl, inr, ℕ, Bool, List, [], Some, None, length, map}
+use Rattle.std.specs.Prelude.{◌≡◌, ◌≤◌, ◌⊎◌, ℕ, Bool, List, [], Some, None, length, map}
+use Rattle.std.proofs.Common.{inl, inr}
 use Rattle.std.specs.List.{AllByRecursion}
 use Rattle.arj_core.specs.declared.node.Core as core
 use Rattle.arj_disk.specs.declared.disk.Disk as disk
@@ -13,7 +14,7 @@ use Rattle.arj_loop.specs.declared.ending.End.{End}
 use Rattle.arj_nodes.specs.AllNodes.{RanAll, Task, task}
 use Rattle.arj_nodes.specs.AsMachine.{all_nodes}
 use Rattle.arj_nodes.specs.declared.all_nodes.AllNodes.{AllNodes}
-use Rattle.arj_protocol.specs.Words.{Header, Line}
+use Rattle.arj_protocol.specs.Words.{Line}
 use Rattle.arj_script.specs.Grammar.{Place}
 use Rattle.arj_script.specs.Input.{events_of}
 use Rattle.arj_view_law.specs.Moves.{Move, journal_by, world_by}
@@ -101,7 +102,7 @@ Came c d given first after status journal = ComesSoFar (all_nodes c d) given fir
 abbrev pub SoFarShows : {C D : Type 0} (c : core.Ghosts C) (d : disk.Ghosts D) → Reads → (given : Arrived) (first after : List D) (status : ℕ) (journal : List Line) → Came c d given first after status journal → Type 0
 SoFarShows {C} c d read given first after status journal (inl (at, half, is, went)) = (nodes : AllNodes C) → at.machine ≡ Some nodes
     → (let h = half in let s = h.stage in ShowsThePromise d read (task first s.header (events_of s.forms)) nodes.over journal h.mid)
-SoFarShows {C} c d read given first after status journal (inr (is, end, ends)) = (nodes : AllNodes C) → (let e = ends in let at = e.at in at.machine) ≡ Some nodes
+SoFarShows {C} c d read given first after status journal (inr (is, (end, ends))) = (nodes : AllNodes C) → (let e = ends in let at = e.at in at.machine) ≡ Some nodes
     → (let e = ends in let r = e.reached in let s = r.stage in ShowsThePromise d read (task first s.header (events_of s.forms)) nodes.over journal after)
 
 -- so it is of the journal of which the sink took a front, at the status 4 and 5
