@@ -1,5 +1,5 @@
 -- Files of parts are read as the disk that they say.
-use Rattle.std.proofs.Common.{◌≡◌, ◌∙◌, ℕ, Option, Some, None, refl, sym, ap}
+use Rattle.std.proofs.Common.{◌≡◌, ◌∙◌, Option, Some, None, refl, sym, ap}
 use Rattle.std.specs.Prelude.{option_map}
 use Rattle.arj_disk.specs.FileMap.{FileMap}
 use Rattle.arj_disk.specs.Says.{Record, records}
@@ -7,10 +7,8 @@ use Rattle.arj_intent.specs.Records.{said}
 use Rattle.arj_joint_law.specs.Shown.{IsReadingOf, pair_in, record_of}
 use Rattle.arj_nodes_law.specs.Readings.{reading_of}
 use Rattle.arj_disk.specs.declared.slot.Role.{Role}
-use Rattle.arj_parts.specs.Kept.{RestsOn}
 use Rattle.arj_parts_law.specs.Parts.{PartsRest, PartsStand}
 use Rattle.arj_protocol.specs.Effect.{Disk, Pair}
-use Rattle.arj_protocol.specs.Order.{at_uid}
 use Rattle.arj_recover.specs.OnDisk.{IsDiskOf}
 use Rattle.arj_store.specs.declared.store.ObjectStore.{Ghosts}
 use Rattle.arj_store_law.specs.Files.{IsPairOf}

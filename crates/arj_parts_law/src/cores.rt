@@ -1,5 +1,4 @@
 // What the files of parts and of cores say.
-ghost use Rattle.arj_joint_law.specs.Shown.{IsReadingOf};
 ghost use Rattle.arj_nodes_law.specs.Cores.{SaysReadings};
 ghost use Rattle.arj_nodes_law.specs.Readings.{reading_of};
 ghost use Rattle.arj_parts_law.specs.Parts.{PartsRest, PartsStand};
