@@ -22,11 +22,8 @@ use Rattle.arj_journal.specs.declared.event.StopKind.TheVariants as stop
 use Rattle.arj_model.specs.Follows.{Follows, Step}
 use Rattle.arj_model.specs.Table.{table}
 use Rattle.arj_model.proofs.Journals.{A, B, C, D, N, S, uid, began, ok, told, prepared, on_entry, on_object, first_use, commit_end, lines_of, one_node, three_nodes, nested_abort_bodies, serializing_bodies, smallest_bodies, conflict_bodies, older_image_bodies, to_exclusion, stop_at_decision_done_bodies, naming_stopped_bodies, rebinding_bodies, M, two_servers, uid_at, four_nodes}
-use Rattle.arj_disk.specs.declared.slot.Outcome.TheVariants as outcome
-use Rattle.arj_model.specs.Past.{nothing_yet}
 use Rattle.arj_text.specs.Label.{name}
-use Rattle.arj_model.specs.Arms.{count_armed, arms_at}
-use Rattle.arj_model.proofs.Rows.{went, went_doomed, past_from, accepted, at, runs, ◌&◌}
+use Rattle.arj_model.proofs.Rows.{went, went_doomed, accepted, at, runs, ◌&◌}
 
 -- rows of the only object and of its entry, by the numbers of actions on the path of the holder
 abbrev locked : List ℕ → ℕ → Mode → Row
@@ -232,10 +229,6 @@ naming_stopped_follows = runs (Step four_nodes) naming_stopped_events naming_sto
     & went refl (accepted [] (take 10 (named_at 17)) (body.Quiet true ∷ []) refl (inl (true, refl)) refl refl (refl & tt & refl & refl & refl & refl & tt & tt & tt & refl & tt))
     & went refl (accepted [] (named_at 18) [] refl refl refl refl (tt & tt & tt & tt))
     & tt) tt
-
--- The stop is the disk's arm.
-stop_armed : (count_armed (lines_of stopped) 1 ≡ 1) × (arms_at 1 (past_from nothing_yet stop_at_decision_done_events stopped).accepted ≡ (2, outcome.Done) ∷ [])
-stop_armed = (refl, refl)
 
 -- A doomed action takes no more, and is aborted at its commit.
 abbrev rebinding_events : List Event

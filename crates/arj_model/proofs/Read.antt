@@ -1,10 +1,8 @@
 -- A journal with one line more.
 use Rattle.std.proofs.Common.{◌≡◌, ℕ, ◌+◌, List, [], ◌∷◌, ◌++◌, length, Bool, Option, Some, None, refl, ◌∙◌, ap, arith}
-use Rattle.arj_base.specs.Rows.{Row}
 use Rattle.arj_journal.specs.declared.body.Body.{Body}
 use Rattle.arj_journal.specs.declared.body.Line.{Line}
 use Rattle.arj_model.specs.Actions.{Act, Placed, acts_from, acts_after, read, put}
-use Rattle.arj_model.specs.OkTable.{ok_table_from, ok_table_step}
 use Rattle.arj_model.specs.Refusals.{down_from, down_step, inc_from, inc_step}
 
 pub put-append : {A : Type 0} (n : ℕ) (o : Option A) (xs ys : List (Placed A)) → put n o (xs ++ ys) ≡ put n o xs ++ ys
@@ -23,10 +21,6 @@ read-append {A} f us n (k ∷ ls) l =
     let ih = read-append f (acts_after us k.body) (n + 1) ls l in
     ap (put n (f us k.body)) (ih ∙ ap (λ m. read f (acts_after us k.body) (n + 1) ls ++ put m (f (acts_from (acts_after us k.body) ls) l.body) []) e)
     ∙ put-append n (f us k.body) (read f (acts_after us k.body) (n + 1) ls) (put (n + length (k ∷ ls)) (f (acts_from us (k ∷ ls)) l.body) [])
-
-pub table-append : (us : List Act) (rs : List Row) (ls : List Line) (l : Line) → ok_table_from us rs (ls ++ l ∷ []) ≡ ok_table_step (acts_from us ls) l.body (ok_table_from us rs ls)
-table-append us rs [] l = refl
-table-append us rs (k ∷ ls) l = table-append (acts_after us k.body) (ok_table_step us k.body rs) ls l
 
 pub down-append : (n : ℕ) (d : Bool) (ls : List Line) (l : Line) → down_from n d (ls ++ l ∷ []) ≡ down_step n l.body (down_from n d ls)
 down-append n d [] l = refl

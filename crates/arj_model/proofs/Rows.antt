@@ -1,15 +1,13 @@
 -- The definitions tried on the worked runs: each value is known beforehand, and another one would be refused.
-use Rattle.std.specs.Prelude.{◌≡◌, refl, ℕ, ◌+◌, List, [], ◌∷◌, ◌++◌, length, map, filter, take, codes, Bool, true, false, Some, None, MatchOption, ⊤}
+use Rattle.std.specs.Prelude.{◌≡◌, refl, ℕ, ◌+◌, List, [], ◌∷◌, ◌++◌, length, map, filter, codes, Bool, true, false, Some, None, MatchOption, ⊤}
 use Rattle.std.specs.List.{list_all}
 use Rattle.std.proofs.Common.{arith, sym, inl, inr}
 use Rattle.std.proofs.lemmas.Fmt.{decimal_digit}
 use Rattle.arj_base.specs.declared.uid.Uid.{Uid}
-use Rattle.arj_base.specs.declared.mode.Mode.{Mode}
 use Rattle.arj_base.specs.declared.mode.Mode.TheVariants.{Read, Write}
 use Rattle.arj_base.specs.declared.state.Class.TheVariants as class
 use Rattle.arj_base.specs.declared.state.ObjectState.{ObjectState}
 use Rattle.arj_base.specs.Uid.{object, entry, nobody}
-use Rattle.arj_base.specs.Rows.{Row}
 use Rattle.arj_class.specs.declared.op.Op.{Op}
 use Rattle.arj_class.specs.declared.op.Op.TheVariants.{Get, Add, Set}
 use Rattle.arj_class.specs.Table.{class_of, has_op, answer_of}
@@ -27,13 +25,11 @@ use Rattle.arj_model.specs.Actions.{acts, is_over}
 use Rattle.arj_model.specs.Calls.{tops, committed_calls}
 use Rattle.arj_model.specs.Serial.{Serial, serial_calls}
 use Rattle.arj_model.specs.Last.{first_values, last_state, listed, entry_state}
-use Rattle.arj_model.specs.OkTable.{ok_table}
 use Rattle.arj_model.specs.Past.{Past, nothing_yet, asked_of, next, block, Along}
 use Rattle.arj_model.specs.Refusals.{refusal}
 use Rattle.arj_model.specs.Follows.{IsAnswerOf, IsRefusedDoomed, is_limited, AnswersFit, Step, Accepted, AreEnding, Follows, Runs}
 use Rattle.arj_model.specs.Own.{Begins, Ends, may_stand, halts_fit}
-use Rattle.arj_model.specs.Causes.{HasCauseConflict, Prompt, Alone}
-use Rattle.arj_model.proofs.Journals.{A, B, C, N, uid, counter, began, ok, lines_of, one_node, three_nodes, smallest_bodies, conflict_bodies, smallest, conflict, nested_abort, older_image, independent, serializing, to_inclusion, exclusion, inclusion, stop_at_decision_done, unit_round_a_top, many_includes}
+use Rattle.arj_model.proofs.Journals.{A, B, C, N, uid, counter, began, ok, lines_of, one_node, three_nodes, smallest_bodies, smallest, conflict, nested_abort, older_image, independent, serializing, to_inclusion, exclusion, inclusion, stop_at_decision_done, unit_round_a_top, many_includes}
 
 -- What a journal shows: the numbers of the committed tops; of each action, the newest first, whether it is over; the
 -- places of the surviving calls of committed tops; their answers in serial order; and of object 1 the last state, the
@@ -222,28 +218,6 @@ smallest_follows = runs (Step (one_node 0)) smallest_events first_smallest [] (
     & went refl (accepted (body.Committing B ∷ []) (body.Committed B ∷ []) [] (inl refl) (inl refl) refl refl (refl, tt))
     & tt) tt
 
-smallest_conflicts : Runs (HasCauseConflict (one_node 0)) smallest_events (lines_of first_smallest)
-smallest_conflicts = runs (HasCauseConflict (one_node 0)) smallest_events first_smallest [] (refl & refl & refl & refl & refl & refl & tt) tt
-
-smallest_prompt : Runs (Prompt (one_node 0)) smallest_events (lines_of first_smallest)
-smallest_prompt = runs (Prompt (one_node 0)) smallest_events first_smallest [] (tt & refl & refl & tt & refl & refl & tt) tt
-
-smallest_alone : Runs (Alone (one_node 0)) smallest_events (lines_of first_smallest)
-smallest_alone = runs (Alone (one_node 0)) smallest_events first_smallest [] (refl & refl & refl & refl & refl & refl & tt) tt
-
-abbrev conflict_events : List Event
-conflict_events =
-    event.Begin A 1 ∷ event.Call A 1 (Add 2) ∷ event.Begin B 1 ∷ event.Call B 1 (Add 3) ∷ event.Commit A ∷ event.Call B 1 (Add 3) ∷ event.Commit B ∷ []
-
-abbrev first_conflict : List (List Body)
-first_conflict = map (filter is_built) (take 7 conflict_bodies)
-
-conflict_conflicts : Runs (HasCauseConflict (one_node 0)) conflict_events (lines_of first_conflict)
-conflict_conflicts = runs (HasCauseConflict (one_node 0)) conflict_events first_conflict [] (refl & refl & refl & refl & refl & refl & refl & tt) tt
-
-conflict_prompt : Runs (Prompt (one_node 0)) conflict_events (lines_of first_conflict)
-conflict_prompt = runs (Prompt (one_node 0)) conflict_events first_conflict [] (tt & refl & tt & refl & refl & refl & refl & tt) tt
-
 -- A write is refused while another reads, a raised lock keeps its place, and an end lets the locks go.
 abbrev raise_events : List Event
 raise_events =
@@ -267,23 +241,6 @@ raise_follows = runs (Step (one_node 0)) raise_events raise [] (
     & went refl (accepted [] (body.Conflict C (uid 1) Write 1 ∷ []) [] refl (inl refl) refl refl (refl, tt))
     & tt) tt
 
-raise_conflicts : Runs (HasCauseConflict (one_node 0)) raise_events (lines_of raise)
-raise_conflicts = runs (HasCauseConflict (one_node 0)) raise_events raise [] (refl & refl & refl & refl & refl & refl & refl & refl & refl & tt) tt
-
-abbrev row : ℕ → Mode → Row
-row k m = record { object = object 1; holder = uid k ∷ []; tops = 1; mode = m }
-
--- the ok_table after so many events
-abbrev tables : List (List Body) → List ℕ → List (List Row)
-tables blocks counts = map (λ n. ok_table (lines_of (take n blocks))) counts
-
-raise_tables :
-    tables raise (2 ∷ 3 ∷ 4 ∷ 7 ∷ 8 ∷ []) ≡ [] ∷ (row 1 Read ∷ []) ∷ (row 1 Read ∷ row 2 Read ∷ []) ∷ (row 1 Read ∷ []) ∷ (row 1 Write ∷ []) ∷ []
-raise_tables = refl
-
-conflict_tables : tables first_conflict (4 ∷ 5 ∷ 6 ∷ 7 ∷ []) ≡ (row 1 Write ∷ []) ∷ [] ∷ (row 2 Write ∷ []) ∷ [] ∷ []
-conflict_tables = refl
-
 -- Refused events, a halt in a commit, and a bad line behind the events.
 abbrev refused_events : List Event
 refused_events =
@@ -304,10 +261,6 @@ refused_follows = runs (Step (one_node 0)) refused_events refused (block 14 (bod
     & went refl (accepted [] (ok B (Set 7) done ∷ []) [] refl (inl refl) refl refl (((refl, refl), at 0 refl refl), tt))
     & went refl (accepted (body.Committing B ∷ []) (body.Halted 1 ∷ []) [] (inl refl) (inl refl) refl refl (refl, tt))
     & went refl refl & went refl refl & went refl refl & tt) (refl & refl)
-
-refused_prompt : Runs (Prompt (one_node 0)) refused_events (lines_of refused ++ block 14 (body.Bad 20 ∷ []))
-refused_prompt = runs (Prompt (one_node 0)) refused_events refused (block 14 (body.Bad 20 ∷ [])) (
-    tt & tt & tt & tt & tt & tt & tt & tt & tt & refl & refl & tt & tt & tt & tt) (refl & refl)
 
 refused_shows : shown (one_node 0) (lines_of refused) ≡ shows [] (true ∷ true ∷ []) [] [] (last_is 0 nobody 0) (1 ∷ []) first_entry
 refused_shows = refl

@@ -25,7 +25,6 @@ use Rattle.arj_model.specs.Past.{Past, nothing_yet, block}
 use Rattle.arj_model.specs.Refusals.{refusal}
 use Rattle.arj_model.specs.Own.{Begins, aborted_of, may_stand, halts_fit}
 use Rattle.arj_model.specs.Follows.{Step, Accepted, AnswerFits, AreEnding, IsAnswerOf, IsRefusedDoomed}
-use Rattle.arj_model.specs.Causes.{is_full, is_late}
 use Rattle.arj_model.specs.Clean.{undecided, next_state}
 use Rattle.arj_model.proofs.Journals.{A, B, C, D, N, S, T, uid, began, counter, lines_of, one_node, three_nodes, nested_abort_bodies, stop_at_decision_done_bodies, to_prepares}
 use Rattle.arj_model.proofs.Rows.{past_from}
@@ -124,16 +123,10 @@ next_without_aborted = refl
 abbrev full : Past
 full = record { count = 4096; accepted = []; lines = block 1 (replicate 4095 (began B kind.Top 2 None) ++ began A kind.Top 1 None ∷ body.Halted 1 ∷ []) }
 
-full_is : is_full full ≡ true
-full_is = refl
-
 late_causes :
     map (refusal (one_node 0) full) (event.Begin C 1 ∷ event.Serial C 2 ∷ event.BeginIn C A ∷ event.Top C A ∷ event.BeginIn A A ∷ event.BeginIn C D ∷ [])
     ≡ Some 2 ∷ Some 1 ∷ Some 6 ∷ Some 6 ∷ Some 4 ∷ Some 5 ∷ []
 late_causes = refl
-
-past_labels : map is_late (None ∷ Some 5 ∷ Some 6 ∷ []) ≡ true ∷ false ∷ true ∷ []
-past_labels = refl
 
 -- Causes of events by what waits: a call of A, and then its commit.
 abbrev asking : Past

@@ -1,6 +1,6 @@
 -- What stands on the disks at the end of a journal.
-use Rattle.std.specs.Prelude.{◌≡◌, ◌⊎◌, ℕ, List, ◌++◌, filter, true, Option, if◌then◌else◌, Some, None, is_some}
-use Rattle.std.specs.List.{list_any, filter_map}
+use Rattle.std.specs.Prelude.{◌≡◌, ℕ, List, ◌++◌, filter, true, Option, if◌then◌else◌, Some, None, is_some}
+use Rattle.std.specs.List.{filter_map}
 use Rattle.arj_base.specs.declared.state.ObjectState.{ObjectState}
 use Rattle.arj_base.specs.declared.uid.Uid.{Uid}
 use Rattle.arj_base.specs.State.{state_bytes}
@@ -44,15 +44,3 @@ undecided lines = filter_map (λ m. undecided_by (ended lines) (recovered lines)
 abbrev pub next_state : Header → List Line → ℕ → ℕ → ObjectState
 next_state header lines id x =
     state_after x (run (run (first_values header) (serial_calls lines)) (surviving lines id) x) (writes_of lines x ++ filter (writes_on x) (surviving lines id))
-
--- A commit that was stopped may have put some of its top's new states: an object that it changed holds its last state
--- or that new one, and any other object its last state.
-abbrev pub HoldsLastOrNext : Header → List Line → Option (List ℕ) → ℕ → Type 0
-HoldsLastOrNext header lines found x =
-    (found ≡ Some (state_bytes (last_state header lines x)))
-    ⊎ ((id : ℕ) × (is_among (undecided lines) id ≡ true) × (list_any (writes_on x) (surviving lines id) ≡ true) × (found ≡ Some (state_bytes (next_state header lines id x))))
-
--- of each object at each store that is listed for it
-abbrev pub ListedStoresHoldLastOrNext : Header → List Line → Disks → Type 0
-ListedStoresHoldLastOrNext header lines disks =
-    (x s : ℕ) → is_among (listed header lines x) s ≡ true → HoldsLastOrNext header lines (held (disks s) Store (object x)) x

@@ -3,14 +3,12 @@ pub mod Actions
 pub mod Calls
 pub mod Serial
 pub mod Last
-pub mod OkTable
 pub mod Table
 pub mod Past
 pub mod Refusals
 pub mod CauseSpans
 pub mod Own
 pub mod Follows
-pub mod Causes
 pub mod CauseCopies
 pub mod CausePends
 pub mod CauseAnswers
@@ -20,6 +18,5 @@ pub mod Outcome
 pub mod CauseLocks
 pub mod CauseNodes
 pub mod Caused
-pub mod Arms
 pub mod Clean
 pub mod Disks

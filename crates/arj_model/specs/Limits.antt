@@ -1,10 +1,6 @@
 -- The limits of a run.
 use Rattle.std.specs.Prelude.{ℕ}
 
--- the most labels that a run gives
-abbrev pub most_labels : ℕ
-most_labels = 4096
-
 -- the most objects that the actions of one root use
 abbrev pub most_objects : ℕ
 most_objects = 16
