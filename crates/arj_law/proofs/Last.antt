@@ -101,7 +101,7 @@ none_of_other c top (d ∷ ds) e h =
     let other : (d.top == c.top) ≡ false = false_from_ne_true (d.top == c.top) (λ same. never (c.top == top) (eq-eqb c.top top (sym (eqb-true d.top c.top same) ∙ eqb-true d.top top h.0)) e) in
     (λ i. other i || none_of_other c top ds e h.1 i)
 
-any_append : {A : Type 0} (p : A → Bool) (xs ys : List A) → list_any p ys ≡ false → list_any p (xs ++ ys) ≡ list_any p xs
+pub any_append : {A : Type 0} (p : A → Bool) (xs ys : List A) → list_any p ys ≡ false → list_any p (xs ++ ys) ≡ list_any p xs
 any_append p [] ys e = e
 any_append p (x ∷ xs) ys e = (λ i. p x || any_append p xs ys e i)
 
@@ -145,7 +145,7 @@ next_same header lines line top x h none =
     value : run first (serial_calls (more lines line)) x ≡ run first (serial_calls lines) x
     value = value_of_writes first (more lines line) x ∙ (λ i. run first (same i) x) ∙ sym (value_of_writes first lines x)
 
-all_filtered : {A : Type 0} (P : A → Type 0) (p : A → Bool) (xs : List A) → AllByRecursion P xs → AllByRecursion P (filter p xs)
+pub all_filtered : {A : Type 0} (P : A → Type 0) (p : A → Bool) (xs : List A) → AllByRecursion P xs → AllByRecursion P (filter p xs)
 all_filtered P p [] h = tt
 all_filtered {A} P p (x ∷ xs) h = by (all_filtered P p xs h.1) (p x)
   where

@@ -10,3 +10,9 @@ pub mod Nested
 pub mod Order
 pub mod Reading
 pub mod Rows
+pub mod JoinedLists
+pub mod JoinedActs
+pub mod JoinedCalls
+pub mod JoinedOrder
+pub mod JoinedBook
+pub mod JoinedLast

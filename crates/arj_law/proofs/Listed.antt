@@ -1,6 +1,6 @@
 -- The listed stores and the entry of an object, by the order of decisions, and after the next commit.
 use Rattle.std.proofs.Common.{◌≡◌, ℕ, ◌+◌, List, [], ◌∷◌, ◌++◌, length, map, Bool, true, false, cond, not, ◌&&◌, ◌==◌, Option, Some, None, refl, sym, ◌∙◌, ap, filter, length-append, append-nil}
-use Rattle.std.specs.List.{AllByRecursion, list_all, filter_map, cons_option}
+use Rattle.std.specs.List.{list_all, filter_map}
 use Rattle.std.proofs.lemmas.Bool.{eq-eqb, eqb-true, and_parts}
 use Rattle.std.proofs.lemmas.List.Folds.{list_all-map}
 use Rattle.std.proofs.lemmas.List.Elements.{filter-append}
@@ -11,12 +11,13 @@ use Rattle.arj_journal.specs.declared.body.Body.{Body}
 use Rattle.arj_journal.specs.declared.body.Body.TheVariants as body
 use Rattle.arj_journal.specs.declared.body.Line.{Line}
 use Rattle.arj_journal.specs.declared.header.Header.{Header}
-use Rattle.arj_model.specs.Actions.{Act, Placed, acts, acts_after, acts_from, committed, committed_of, has_end, top_in, chain_in}
+use Rattle.arj_model.specs.Actions.{Act, Placed, acts, acts_after, committed, committed_of, has_end, top_in, chain_in}
 use Rattle.arj_model.specs.Calls.{Top, ids}
 use Rattle.arj_model.specs.Last.{Inclusion, included, included_of, excluded_of, joins_by, joins_of, leaves_of, is_among, increasing, object_line, servers_of_line, listed, listed_after, listed_from, serial_tops, changers, last_changer, uid_of_id, same_list, entry_payload, entry_state}
 use Rattle.arj_law.specs.Growth.{more, CommitsTop, IdleInPlace, first_stores, AreDecidedInOrder, entry_by, entry_after, IncludesNoneBelow}
-use Rattle.arj_law.proofs.Common.{never, all_map}
-use Rattle.arj_law.proofs.Reading.{read_none, read_some}
+use Rattle.arj_law.proofs.Common.{never}
+use Rattle.arj_law.proofs.JoinedLists.{filter_map_same}
+use Rattle.arj_law.proofs.Reading.{acts-append, read_none, read_some}
 use Rattle.arj_law.proofs.Commit.{chain_stays}
 
 pub same_is : (ms ns : List ℕ) → same_list ms ns ≡ true → ms ≡ ns
@@ -82,10 +83,6 @@ entry_decided header lines x counts decided h =
 
 -- What a commit leaves of the stores that earlier tops excluded and included.
 
-filter_map_same : {A B : Type 0} (f g : A → Option B) (xs : List A) → AllByRecursion (λ a. f a ≡ g a) xs → filter_map f xs ≡ filter_map g xs
-filter_map_same f g [] h = refl
-filter_map_same f g (x ∷ xs) h = (λ i. cons_option (h.0 i) (filter_map_same f g xs h.1 i))
-
 module _ (lines : List Line) (event top : ℕ) where
   join_stays : (id x : ℕ) (i : Placed Inclusion) (o : Option Act) → is_among (ids (chain_in i.it.path)) top ≡ false
       → joins_by (committed lines ++ (record { at = 0 + length lines; it = top }) ∷ []) id x i o ≡ joins_by (committed lines) id x i o
@@ -100,9 +97,8 @@ module _ (lines : List Line) (event top : ℕ) where
   joins_stay : (b : Body) → CommitsTop lines top b → IncludesNoneBelow lines top → (id x : ℕ) → joins_of (more lines (record { event = event; body = b })) id x ≡ joins_of lines id x
   joins_stay (body.Committed l) commits h id x =
       (λ k. filter_map (λ i. joins_by (read_some committed_of lines (record { event = event; body = body.Committed l }) top commits k) id x i (top_in i.it.path)) (read_none included_of lines (record { event = event; body = body.Committed l }) refl k))
-      ∙ filter_map_same (λ i. joins_by (committed lines ++ (record { at = 0 + length lines; it = top }) ∷ []) id x i (top_in i.it.path)) (λ i. joins_by (committed lines) id x i (top_in i.it.path)) (included lines)
-      (all_map (λ i. is_among (ids (chain_in i.it.path)) top ≡ false) (λ i. joins_by (committed lines ++ (record { at = 0 + length lines; it = top }) ∷ []) id x i (top_in i.it.path) ≡ joins_by (committed lines) id x i (top_in i.it.path))
-      (λ i e. join_stays id x i (top_in i.it.path) e) (included lines) h)
+      ∙ filter_map_same (λ i. is_among (ids (chain_in i.it.path)) top ≡ false) (λ i. joins_by (committed lines ++ (record { at = 0 + length lines; it = top }) ∷ []) id x i (top_in i.it.path)) (λ i. joins_by (committed lines) id x i (top_in i.it.path))
+      (λ i e. join_stays id x i (top_in i.it.path) e) (included lines) h
   joins_stay (body.Recovered n u) commits h id x =
       (λ k. filter_map (λ i. joins_by (read_none committed_of lines (record { event = event; body = body.Recovered n u }) refl k) id x i (top_in i.it.path)) (read_none included_of lines (record { event = event; body = body.Recovered n u }) refl k))
   joins_stay b commits h id x = absurd commits
@@ -111,10 +107,6 @@ module _ (lines : List Line) (event top : ℕ) where
   leaves_stay (body.Committed l) commits id x = (λ k. map (λ e. e.it.node) (filter (λ e. (e.it.top == id) && (e.it.x == x)) (read_none excluded_of lines (record { event = event; body = body.Committed l }) refl k)))
   leaves_stay (body.Recovered n u) commits id x = (λ k. map (λ e. e.it.node) (filter (λ e. (e.it.top == id) && (e.it.x == x)) (read_none excluded_of lines (record { event = event; body = body.Recovered n u }) refl k)))
   leaves_stay b commits id x = absurd commits
-
-acts_append : (us : List Act) (ls : List Line) (l : Line) → acts_from us (ls ++ l ∷ []) ≡ acts_after (acts_from us ls) l.body
-acts_append us [] l = refl
-acts_append us (k ∷ ls) l = acts_append (acts_after us k.body) ls l
 
 begins_nothing : (us : List Act) (lines : List Line) (top : ℕ) (b : Body) → CommitsTop lines top b → acts_after us b ≡ us
 begins_nothing us lines top (body.Committed l) commits = refl
@@ -215,7 +207,7 @@ module _ (header : Header) (lines : List Line) (event : ℕ) (b : Body) (t : Top
     pub entry_more : entry_state header others x ≡ cond (counts t) (entry_after header lines x t) (entry_state header lines x)
     entry_more =
         entry_decided header others x counts (decided ++ t ∷ []) after
-        ∙ (λ i. made_of ((acts_append [] lines (record { event = event; body = b }) ∙ begins_nothing (acts lines) lines t.id b commits) i) (changed i) ((sym (listed_decided header others x counts (decided ++ t ∷ []) after) ∙ listed_more) i))
+        ∙ (λ i. made_of ((acts-append [] lines (record { event = event; body = b } ∷ []) ∙ begins_nothing (acts lines) lines t.id b commits) i) (changed i) ((sym (listed_decided header others x counts (decided ++ t ∷ []) after) ∙ listed_more) i))
         ∙ by (counts t)
       where
         next : List ℕ

@@ -1,4 +1,4 @@
--- A journal with one line more, as what is read of it.
+-- A journal with more lines, as what is read of it.
 use Rattle.std.proofs.Common.{◌≡◌, ℕ, ◌+◌, List, [], ◌∷◌, ◌++◌, length, Bool, true, false, cond, ◌&&◌, ◌||◌, Option, Some, None, refl, sym, ◌∙◌, ap, arith, filter, append-nil}
 use Rattle.std.specs.List.{list_all, list_any, filter_map, cons_option}
 use Rattle.std.proofs.lemmas.List.Folds.{list_all-map}
@@ -17,22 +17,27 @@ put-append : {A : Type 0} (n : ℕ) (o : Option A) (xs ys : List (Placed A)) →
 put-append n None xs ys = refl
 put-append n (Some a) xs ys = refl
 
--- what is read of the journal so far stays, and at most one item comes, stamped with the actions so far
-read-append : {A : Type 0} (f : List Act → Body → Option A) (us : List Act) (n : ℕ) (ls : List Line) (l : Line) → read f us n (ls ++ l ∷ []) ≡ read f us n ls ++ put (n + length ls) (f (acts_from us ls) l.body) []
-read-append f us n [] l = ap (λ m. put m (f us l.body) []) (omega arith)
-read-append {A} f us n (k ∷ ls) l =
-    let e : n + 1 + length ls ≡ n + length (k ∷ ls) = omega arith in
-    let ih = read-append f (acts_after us k.body) (n + 1) ls l in
-    ap (put n (f us k.body)) (ih ∙ ap (λ m. read f (acts_after us k.body) (n + 1) ls ++ put m (f (acts_from (acts_after us k.body) ls) l.body) []) e)
-    ∙ put-append n (f us k.body) (read f (acts_after us k.body) (n + 1) ls) (put (n + length (k ∷ ls)) (f (acts_from us (k ∷ ls)) l.body) [])
+-- the actions after more lines
+pub acts-append : (us : List Act) (ls ks : List Line) → acts_from us (ls ++ ks) ≡ acts_from (acts_from us ls) ks
+acts-append us [] ks = refl
+acts-append us (l ∷ ls) ks = acts-append (acts_after us l.body) ls ks
+
+-- what is read of the journal so far stays, and what comes is read with the actions so far
+pub read-append : {A : Type 0} (f : List Act → Body → Option A) (us : List Act) (n : ℕ) (ls ks : List Line) → read f us n (ls ++ ks) ≡ read f us n ls ++ read f (acts_from us ls) (n + length ls) ks
+read-append f us n [] ks = ap (λ m. read f us m ks) (omega arith)
+read-append {A} f us n (l ∷ ls) ks =
+    let e : n + 1 + length ls ≡ n + length (l ∷ ls) = omega arith in
+    let ih = read-append f (acts_after us l.body) (n + 1) ls ks in
+    ap (put n (f us l.body)) (ih ∙ ap (λ m. read f (acts_after us l.body) (n + 1) ls ++ read f (acts_from (acts_after us l.body) ls) m ks) e)
+    ∙ put-append n (f us l.body) (read f (acts_after us l.body) (n + 1) ls) (read f (acts_from (acts_after us l.body) ls) (n + length (l ∷ ls)) ks)
 
 -- where the line says nothing of the kind, nothing changes
 pub read_none : {A : Type 0} (f : List Act → Body → Option A) (lines : List Line) (line : Line) → f (acts lines) line.body ≡ None → read f [] 0 (more lines line) ≡ read f [] 0 lines
-read_none f lines line e = read-append f [] 0 lines line ∙ ap (λ o. read f [] 0 lines ++ put (0 + length lines) o []) e ∙ append-nil (read f [] 0 lines)
+read_none f lines line e = read-append f [] 0 lines (line ∷ []) ∙ ap (λ o. read f [] 0 lines ++ put (0 + length lines) o []) e ∙ append-nil (read f [] 0 lines)
 
 pub read_some : {A : Type 0} (f : List Act → Body → Option A) (lines : List Line) (line : Line) (a : A) → f (acts lines) line.body ≡ Some a
     → read f [] 0 (more lines line) ≡ read f [] 0 lines ++ (record { at = 0 + length lines; it = a }) ∷ []
-read_some f lines line a e = read-append f [] 0 lines line ∙ ap (λ o. read f [] 0 lines ++ put (0 + length lines) o []) e
+read_some f lines line a e = read-append f [] 0 lines (line ∷ []) ∙ ap (λ o. read f [] 0 lines ++ put (0 + length lines) o []) e
 
 -- A quiet line.
 pub record IsUnread (us : List Act) (b : Body) : Type 0 where

@@ -5,7 +5,7 @@ use Rattle.arj_class.specs.Table.{answer_of, writes}
 use Rattle.arj_journal.specs.declared.body.Line.{Line}
 use Rattle.arj_text.specs.Words.{answer_text}
 use Rattle.arj_model.specs.Calls.{Call, tops, committed_calls}
-use Rattle.arj_model.specs.Serial.{Values, run, serial_less, writes_on}
+use Rattle.arj_model.specs.Serial.{Values, run, serial_less, top_place, writes_on}
 
 -- two calls conflict where they are of one object and one of them writes
 abbrev pub is_conflict : Call → Call → Bool
@@ -35,3 +35,11 @@ IsAnsweredBy values calls c = answer_text (answer_of c.op (run values (writes_be
 -- answered before it.
 abbrev pub Answered : Values → List Line → Type 0
 Answered values lines = AllByRecursion (IsAnsweredBy values (committed_calls lines)) (committed_calls lines)
+
+-- of two conflicting calls of different tops, the commit of the first one's was called before the second was answered
+abbrev pub IsCalledFirst : List Line → Call → Call → Type 0
+IsCalledFirst lines c d = c.at < d.at → (c.top == d.top) ≡ false → is_conflict c d ≡ true → top_place (tops lines) c.top < d.at
+
+-- so it is of each two surviving calls
+abbrev pub CommitsComeFirst : List Line → Type 0
+CommitsComeFirst lines = OfEachTwo (IsCalledFirst lines) (committed_calls lines)

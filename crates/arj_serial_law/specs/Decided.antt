@@ -10,8 +10,9 @@ use Rattle.arj_journal.specs.declared.header.Header.{Header}
 use Rattle.arj_model.specs.Actions.{acts}
 use Rattle.arj_model.specs.Calls.{Call, Top, committed_calls, tops}
 use Rattle.arj_model.specs.Last.{first_values, increasing, is_among, joins_of, leaves_of, serial_tops, uid_of_id}
-use Rattle.arj_model.specs.Serial.{Values, run, top_place, unit_place, writes_on}
-use Rattle.arj_law.specs.Book.{OfEachTwo, is_conflict, writes_before}
+use Rattle.arj_model.specs.Serial.{Values, run, unit_place, writes_on}
+use Rattle.arj_law.specs.Book.{writes_before}
+pub use Rattle.arj_law.specs.Book.{CommitsComeFirst, IsCalledFirst}
 use Rattle.arj_law.specs.Growth.{AreDecidedInOrder, IdleInPlace, first_stores}
 use Rattle.arj_lock_law.specs.Actions.{Act, In, top}
 use Rattle.arj_lock_law.specs.State as machine
@@ -20,14 +21,6 @@ use Rattle.arj_protocol.specs.Order.{uid_number}
 use Rattle.arj_disk_law.specs.Order.{counts_of}
 use Rattle.arj_disk_law.specs.State.{Done, Packed, target}
 use Rattle.arj_serial_law.specs.Tied.{IsTied}
-
--- of two conflicting calls of different tops, the commit of the first one's was called before the second was answered
-abbrev pub IsCalledFirst : List Line → Call → Call → Type 0
-IsCalledFirst lines c d = c.at < d.at → (c.top == d.top) ≡ false → is_conflict c d ≡ true → top_place (tops lines) c.top < d.at
-
--- so it is of each two surviving calls
-abbrev pub CommitsComeFirst : List Line → Type 0
-CommitsComeFirst lines = OfEachTwo (IsCalledFirst lines) (committed_calls lines)
 
 -- the value that a write left: by its operation, at the value that the surviving writes before it left
 abbrev pub left_by : Values → List Line → Call → Value
