@@ -24,6 +24,7 @@ pub mod MarkTies
 pub mod Leaving
 pub mod RunsInTime
 pub mod DisksInTime
+pub mod DisksJoined
 pub mod ByMessage
 pub mod Restarting
 pub mod Mute

@@ -13,6 +13,7 @@ pub mod Samples
 pub mod Excluded
 pub mod InTime
 pub mod DisksInTime
+pub mod DisksJoined
 pub mod Loads
 pub mod Joined
 pub mod Recorded

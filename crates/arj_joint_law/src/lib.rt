@@ -29,7 +29,8 @@ pub use booked::runs_keep_the_lock_book;
 pub use forms::{answered_operations_are_in_form, runs_have_form};
 pub use outcomes::{
     commits_are_done_behind_decisions, exclusion_in_time_tells_disks_apart,
-    one_outcome_tells_journals_apart, runs_exclude_in_time, seen_runs_exclude_in_time,
+    joined_runs_exclude_in_time, one_outcome_tells_journals_apart, runs_exclude_in_time,
+    seen_runs_exclude_in_time,
 };
 pub use runs::{
     commits_include_what_survives, commits_of_a_root_go_on_alone, commits_say_what_they_exclude,

@@ -2,6 +2,7 @@
 ghost use Rattle.std.specs.Prelude.{◌≡◌, false};
 ghost use Rattle.arj_joint_law.specs.Excluded.{IsInTime, IsNew, NewWritersAreLast, NodesHaveForm, RunsBeginWithCalls, RunsExcludeInTimeByCalls, SeenRunsExcludeInTime};
 ghost use Rattle.arj_joint_law.specs.DisksInTime.{DiskIsInTime, Lists, RunsExcludeInTimeOnDisks};
+ghost use Rattle.arj_joint_law.specs.DisksJoined.{JoinedRunsAreInTime};
 ghost use Rattle.arj_joint_law.specs.InTime.{RunsExcludeInTime};
 ghost use Rattle.arj_joint_law.specs.Outcome.{CommitsAreBehind, ShowsOneOutcome, aborts_have_cause, commits_are_behind};
 ghost use Rattle.arj_joint_law.specs.Samples.{decided_lines, disks_decided, disks_late, found_commit, halted_abort, header, its_top, naming_late, naming_node, right_end, store_three, store_two, wrong_abort, wrong_commit, wrong_names_abort};
@@ -62,4 +63,10 @@ pub fn seen_runs_exclude_in_time()
 pub fn runs_exclude_in_time()
     ensures pairs { RunsExcludeInTime }
     ensures disks { RunsExcludeInTimeOnDisks }
+{}
+
+/// Where a run that goes on behind another journal excludes stores in time at the end of an event, counted from the marks
+/// that the first journal left, so do both journals together. It does nothing when it runs.
+pub fn joined_runs_exclude_in_time()
+    ensures { JoinedRunsAreInTime }
 {}

@@ -27,7 +27,7 @@ older_all : (P : Act → Type 0) (us : List Act) (o : Option Begun) → AllByRec
 older_all P us None h = h
 older_all P us (Some b) h = h.1
 
-first_all : (P : Act → Type 0) (us : List Act) (ls : List Line) → AllByRecursion P (acts_from us ls) → AllByRecursion P us
+pub first_all : (P : Act → Type 0) (us : List Act) (ls : List Line) → AllByRecursion P (acts_from us ls) → AllByRecursion P us
 first_all P us [] h = h
 first_all P us (l ∷ ls) h = older_all P us (begun_of l.body) (first_all P (acts_after us l.body) ls h)
 
@@ -56,6 +56,10 @@ path_all P (u ∷ us) l ps = by (λ p. path_all P us p ps.1) (bytes_eq u.label l
     by : ((p : List ℕ) → AllByRecursion P (path us p)) → (b : Bool) → AllByRecursion P (cond b (upwards u.parent u.kind (path us) ++ u ∷ []) (path us l))
     by ih true = all_append P (upwards u.parent u.kind (path us)) (u ∷ []) (upwards_all P u.parent u.kind (path us) ih) (ps.0, tt)
     by ih false = ih l
+
+pub path_of : (P : Act → Type 0) (us : List Act) (b : Body) (p : List Act) → AllByRecursion P us → committing_of us b ≡ Some p → AllByRecursion P p
+path_of P us (body.Committing l) p ps e = let same : path us (name l) ≡ p = cc e in subst (AllByRecursion P) same (path_all P us (name l) ps)
+path_of P us b p ps e = absurd (cc e)
 
 pub top_all : (P : Act → Type 0) (p : List Act) (a : Act) → AllByRecursion P p → top_in p ≡ Some a → P a
 top_all P [] a ps e = absurd (cc e)
@@ -165,21 +169,21 @@ module _ (first second : List Line) (apart : AreApart first second) where
   abbrev S : List (Placed Uid)
   S = recovered second
 
-  abbrev records : List (Placed Uid)
+  abbrev pub records : List (Placed Uid)
   records = R ++ map (placed_behind n (λ u. u)) S
 
   -- an action of the first journal: its number is below the count, and the second has no record of it
-  abbrev IsOld : Act → Type 0
+  abbrev pub IsOld : Act → Type 0
   IsOld a = (a.id < k) × AllByRecursion (λ (u : Placed Uid). uid_eq u.it a.uid ≡ false) S
 
   -- one of the second: the first has no record of it
-  abbrev IsNew : Act → Type 0
+  abbrev pub IsNew : Act → Type 0
   IsNew a = AllByRecursion (λ (u : Placed Uid). uid_eq u.it a.uid ≡ false) R
 
-  old_acts : AllByRecursion IsOld (acts first)
+  pub old_acts : AllByRecursion IsOld (acts first)
   old_acts = all_both (λ a. a.id < k) (λ a. AllByRecursion (λ (u : Placed Uid). uid_eq u.it a.uid ≡ false) S) (acts first) (acts_low first) (all_turn (λ u a. uid_eq u.it a.uid ≡ false) S (acts first) apart.found)
 
-  new_acts : AllByRecursion IsNew (acts second)
+  pub new_acts : AllByRecursion IsNew (acts second)
   new_acts = all_turn (λ u a. uid_eq u.it a.uid ≡ false) R (acts second) apart.past
 
   pub commits_join : committed (first ++ second) ≡ ends_join n k E F
@@ -288,10 +292,6 @@ module _ (first second : List Line) (apart : AreApart first second) where
           by (Some top) at g = from top (list_all (λ a. has_end E a.id) (chain_in s.it.path) && is_committed E R top) (top_all IsOld s.it.path top h.1 at) g
 
   -- ---- tops
-
-  path_of : (P : Act → Type 0) (us : List Act) (b : Body) (p : List Act) → AllByRecursion P us → committing_of us b ≡ Some p → AllByRecursion P p
-  path_of P us (body.Committing l) p ps e = let same : path us (name l) ≡ p = cc e in subst (AllByRecursion P) same (path_all P us (name l) ps)
-  path_of P us b p ps e = absurd (cc e)
 
   paths_old : AllByRecursion (λ (m : Placed (List Act)). (m.at < 0 + n) × AllByRecursion IsOld m.it) (committings first)
   paths_old = read_all IsOld (AllByRecursion IsOld) committing_of (path_of IsOld) [] 0 first old_acts

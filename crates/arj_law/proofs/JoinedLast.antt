@@ -342,10 +342,10 @@ module _ (first second : List Line) (apart : AreApart first second) where
 
   -- ---- who changed it last
 
-  uid_first : (i : ℕ) → i < k → uid_of_id (acts both) i ≡ uid_of_id (acts first) i
+  pub uid_first : (i : ℕ) → i < k → uid_of_id (acts both) i ≡ uid_of_id (acts first) i
   uid_first i low = ap (λ us. uid_of_id us i) (acts_join first second) ∙ uid_low k (acts first) (acts second) i low
 
-  uid_second : (i : ℕ) → uid_of_id (acts both) (i + k) ≡ uid_of_id (acts second) i
+  pub uid_second : (i : ℕ) → uid_of_id (acts both) (i + k) ≡ uid_of_id (acts second) i
   uid_second i = ap (λ us. uid_of_id us (i + k)) (acts_join first second) ∙ uid_high k (acts first) (acts second) i low_numbers
 
   last_first : (ts : List Top) → AllByRecursion Low ts → last_changer (acts both) ts ≡ last_changer (acts first) ts

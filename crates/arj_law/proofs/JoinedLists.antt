@@ -10,6 +10,10 @@ pub all_append : {A : Type 0} (P : A → Type 0) (xs ys : List A) → AllByRecur
 all_append P [] ys ps qs = qs
 all_append P (x ∷ xs) ys ps qs = (ps.0, all_append P xs ys ps.1 qs)
 
+pub all_front : {A : Type 0} (P : A → Type 0) (xs ys : List A) → AllByRecursion P (xs ++ ys) → AllByRecursion P xs
+all_front P [] ys ps = tt
+all_front P (x ∷ xs) ys ps = (ps.0, all_front P xs ys ps.1)
+
 pub all_over : {A B : Type 0} (P : A → Type 0) (Q : B → Type 0) (f : A → B) → ((a : A) → P a → Q (f a)) → (xs : List A) → AllByRecursion P xs → AllByRecursion Q (map f xs)
 all_over P Q f h [] ps = tt
 all_over P Q f h (x ∷ xs) ps = (h x ps.0, all_over P Q f h xs ps.1)

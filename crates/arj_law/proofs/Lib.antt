@@ -16,3 +16,4 @@ pub mod JoinedCalls
 pub mod JoinedOrder
 pub mod JoinedBook
 pub mod JoinedLast
+pub mod JoinedSaid
