@@ -1,5 +1,5 @@
 -- What a run of a bank shows.
-use Rattle.std.proofs.Common.{◌≡◌, ◌≢◌, ◌⊎◌, inl, inr, ℕ, suc, ◌≤◌, append_assoc, List, [], ◌∷◌, ◌++◌, Option, Some, None, false, refl, sym, ◌∙◌, ap, subst, arith}
+use Rattle.std.proofs.Common.{◌≡◌, ◌≢◌, ◌⊎◌, inl, inr, ℕ, zero, suc, ◌≤◌, append_assoc, List, [], ◌∷◌, ◌++◌, Option, Some, None, false, refl, sym, ◌∙◌, ap, subst, arith}
 use Rattle.std.proofs.Math.Logic.{⊎_elim}
 use Rattle.std.proofs.lemmas.List.{append-nil}
 use Rattle.arj_bank.specs.Bank.{AreOfBank, ChangedBy, ComesSoFar, EndsAtLimit, Generates, HaveBeenRead, IsSummary, Left, RanBank, RanFront, StopsBank, WantsMemory, left}
@@ -118,20 +118,21 @@ module _ {C D : Type 0} (c : core.Ghosts C) (d : disk.Ghosts D) where
     -- ---- status by status
 
     some_status : (n : ℕ) → n ≤ 7 → n ≢ 1 → n ≢ 2 → n ≢ 3 → (n ≡ 0) ⊎ ((n ≡ 4) ⊎ ((n ≡ 5) ⊎ ((n ≡ 6) ⊎ (n ≡ 7))))
-    some_status 0 few one two three = inl refl
-    some_status 1 few one two three = absurd (one refl)
-    some_status 2 few one two three = absurd (two refl)
-    some_status 3 few one two three = absurd (three refl)
-    some_status 4 few one two three = inr (inl refl)
-    some_status 5 few one two three = inr (inr (inl refl))
-    some_status 6 few one two three = inr (inr (inr (inl refl)))
-    some_status 7 few one two three = inr (inr (inr (inr refl)))
+    some_status zero few one two three = inl refl
+    some_status (suc zero) few one two three = absurd (one refl)
+    some_status (suc (suc zero)) few one two three = absurd (two refl)
+    some_status (suc (suc (suc zero))) few one two three = absurd (three refl)
+    some_status (suc (suc (suc (suc zero)))) few one two three = inr (inl refl)
+    some_status (suc (suc (suc (suc (suc zero))))) few one two three = inr (inr (inl refl))
+    some_status (suc (suc (suc (suc (suc (suc zero)))))) few one two three = inr (inr (inr (inl refl)))
+    some_status (suc (suc (suc (suc (suc (suc (suc zero))))))) few one two three = inr (inr (inr (inr refl)))
     some_status (suc (suc (suc (suc (suc (suc (suc (suc n)))))))) few one two three = absurd (omega (arith, few))
 
     pub bank_headline : (n : ℕ) (before after : Outside D) (says : Said C) (nodes : Option (AllNodes C)) → Generates (all_nodes c d) d n before after (answer says.status says.why says.journal nodes) → says.status ≤ 7
         → BanksShow c d read → BankLimitsShow c d read → says.world ≡ world_of nodes → BankHeadline c d read n before after says
     bank_headline n before after says nodes g few whole limits world = record { nodes = nodes; run = g; world_is = world; facts = facts; disks = disks }
       where
+        kinds : (says.status ≡ 0) ⊎ ((says.status ≡ 4) ⊎ ((says.status ≡ 5) ⊎ ((says.status ≡ 6) ⊎ (says.status ≡ 7))))
         kinds = let never = g.never in some_status says.status few never.0 never.1 never.2
 
         summed : (all : AllNodes C) → nodes ≡ Some all → (bytes : List ℕ) → IsSummary (all_nodes c d) d n before.rack (left after.rack says.journal nodes) bytes → RanOfBank c d read n before.rack after.rack all says.journal

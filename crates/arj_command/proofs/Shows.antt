@@ -159,6 +159,24 @@ module _ {C D : Type 0} (c : core.Ghosts C) (d : disk.Ghosts D) where
 
     -- ---- a run that stopped short
 
+    so_far_end : (given : Arrived) (first after : List D) (end : End) (journal : List Line) (e : EndsSo (all_nodes c d) given first after end journal)
+        → ((all : AllNodes C) → (let at = e.at in at.machine) ≡ Some all → (let r = e.reached in let s = r.stage in ShowsThePromise d read (task first s.header (events_of s.forms)) all.over journal after))
+        → IsLast journal ⊎ CameSoFar c d read first journal
+    so_far_end given first after end journal e shows = by (let at = e.at in at.machine) refl
+      where
+        by : (machine : Option (AllNodes C)) → (let at = e.at in at.machine) ≡ machine → IsLast journal ⊎ CameSoFar c d read first journal
+        by None none = let r = e.reached in inl (only_last (let at = e.at in at.journal) journal (bare_at first e.mid r.done r.place e.at r.stage none) (behind_end given first after end journal e))
+        by (Some all) some =
+            let r = e.reached in
+            let s = r.stage in
+            inr (record {
+              header = s.header;
+              events = events_of s.forms;
+              all = all;
+              rack = after;
+              facts = ended given first after end journal e all some (shows all some);
+            })
+
     so_far : (given : Arrived) (first after : List D) (status : ℕ) (journal : List Line) (run : Came c d given first after status journal) → SoFarShows c d read given first after status journal run
         → IsLast journal ⊎ CameSoFar c d read first journal
     so_far given first after status journal (inl (at, half, is, went)) shows = by at.machine refl
@@ -173,24 +191,11 @@ module _ {C D : Type 0} (c : core.Ghosts C) (d : disk.Ghosts D) where
               rack = half.mid;
               facts = facts_of (task first s.header (events_of s.forms)) all half.mid at.journal journal (subst (λ ls. EndsBehind at.journal ls) (sym is) (behind_none at.journal)) (ran_at first half.mid half.done half.place at s all some) (shows all some);
             })
-    so_far given first after status journal (inr (four, end, e)) shows = by (let at = e.at in at.machine) refl
-      where
-        r = e.reached
-
-        by : (machine : Option (AllNodes C)) → (let at = e.at in at.machine) ≡ machine → IsLast journal ⊎ CameSoFar c d read first journal
-        by None none = inl (only_last (let at = e.at in at.journal) journal (bare_at first e.mid r.done r.place e.at r.stage none) (behind_end given first after end journal e))
-        by (Some all) some = let s = r.stage in
-            inr (record {
-              header = s.header;
-              events = events_of s.forms;
-              all = all;
-              rack = after;
-              facts = ended given first after end journal e all some (shows all some);
-            })
+    so_far given first after status journal (inr (four, (end, e))) shows = so_far_end given first after end journal e shows
 
     asked_so_far : (given : Arrived) (first after : List D) (status : ℕ) (journal : List Line) → Came c d given first after status journal → (let s = script_of given in AreAsAsked d s.lines first after)
     asked_so_far given first after status journal (inl (at, half, is, went)) = asked_half c d first after given at half
-    asked_so_far given first after status journal (inr (four, end, e)) = asked_end c d given first after end journal e
+    asked_so_far given first after status journal (inr (four, (end, e))) = asked_end c d given first after end journal e
 
     pub shown : (before after : Outside D) (status : ℕ) (run : StopsShort (all_nodes c d) before after status) → StopShows c d read before after status run → Shown c d read before after status
     shown before after status run shows = record {
