@@ -10,7 +10,7 @@ use Rattle.arj_io.specs.Told.{Takes as IsTaken}
 use Rattle.arj_journal.specs.declared.body.Line.{Line}
 use Rattle.arj_journal.specs.LineText.{text}
 use Rattle.arj_script.specs.Cutting.{Takes}
-use Rattle.arj_script.specs.Grammar.{HasForm, IsBadLine, Place, Run, Start}
+use Rattle.arj_script.specs.Grammar.{HasForm, IsBadLine, Place, Run, Running, Start}
 use Rattle.arj_script.specs.Input.{AtEnd, AtFault, AtRunEnd, ended_from, ended_lines, rest_line, is_enough, last_line, lines_of}
 use Rattle.arj_script.proofs.Cutting.{ended_from-append}
 use Rattle.arj_script.specs.declared.cutter.Full.TheVariants as full
@@ -67,8 +67,8 @@ ended_reached view first before given now end w m f r went past g = record {
 -- memory was wanting at a line
 pub ended_memory : {D M : Type 0} (view : Ghosts M D) (first rack : List D) (before : Option (List ℕ)) (given : Arrived) (done rest : List (List ℕ)) (runner : Runner M) (journal : List Line) (now : Work D M)
     → (let s = script_of given in s.lines) ≡ done ++ rest → (stage : StageOf view first rack done runner journal) → ChangedSince view stage.header runner.reader rest rack now.rack → WentOn given (length done)
-    → Gathers journal now.session.gather.waiting.items before now.taken → HasEnded view first before given now ending.Memory
-ended_memory {D} {M} view first rack before given done rest runner journal now whole s touches went g =
+    → Gathers journal now.session.gather.waiting.items before now.taken → (rest ≡ [] → ⊥) → HasEnded view first before given now ending.Memory
+ended_memory {D} {M} view first rack before given done rest runner journal now whole s touches went g some =
     let at : Hand M = hand runner.machine runner.lines journal in
     let half : Halfway view first now.rack (script_of given) at = record { place = runner.reader; done = done; rest = rest; whole = whole; mid = rack; stage = s; since = touches } in
     record {
@@ -76,7 +76,7 @@ ended_memory {D} {M} view first rack before given done rest runner journal now w
       none = λ e. absurd (let never : ending.Memory ≡ ending.Format = e in cc);
       format = λ e. absurd (let never : ending.Memory ≡ ending.Format = e in cc);
       gathers = λ _ m. absurd (m refl);
-      memory = λ _. (at, half, g, went_as given (length done) runner.lines (stage_count view first rack done runner journal s) went);
+      memory = λ _. (at, half, g, went_as given (length done) runner.lines (stage_count view first rack done runner journal s) went, λ none _. some none);
       write = λ e. absurd (let never : ending.Memory ≡ ending.Write = e in cc);
     }
 
@@ -194,7 +194,7 @@ ended_line {D} view first before given done was now end r at =
     subst (λ e. HasEnded view first before given now e) (sym stopped) (ended_format view first was.rack before given done was.session.cutter at.tail was.session.runner was.journal now at.cut at.stage
     (r.still (λ m. (let never : ending.Format ≡ ending.Memory = sym stopped ∙ m in cc))) f.2 f.3 f.0 f.1 f.4 f.5 at.went_on at.past gathers))
     (λ rest. ⊎_elim
-    (λ wanting. subst (λ e. HasEnded view first before given now e) (sym wanting) (ended_memory view first was.rack before given done (was.session.cutter ∷ at.tail) was.session.runner was.journal now at.cut at.stage (r.moved first done at.stage) at.went_on gathers))
+    (λ wanting. subst (λ e. HasEnded view first before given now e) (sym wanting) (ended_memory view first was.rack before given done (was.session.cutter ∷ at.tail) was.session.runner was.journal now at.cut at.stage (r.moved first done at.stage) at.went_on gathers (λ none. cc none)))
     (λ more. ⊎_elim
     (λ failed. absurd (r.only.2 failed))
     (λ other.
@@ -474,6 +474,7 @@ short_5 view before after given waiting u came w wrote = record {
   journal = w.at.journal;
   reads = came;
   run = inl (w.at, w.half, refl, w.went_on);
+  cut = λ _. w.more;
   wrote = whole_front w.at.journal before.taken after.taken (gathers_taken w.at.journal waiting before.taken u after.taken w.gathers wrote);
 }
 
@@ -484,6 +485,7 @@ short_4 view before after given waiting u count came w wrote = record {
   journal = w.at.journal;
   reads = came;
   run = inl (w.at, w.half, refl, w.went_on);
+  cut = λ five. absurd (omega (arith, five));
   wrote = front_at_4 w.at.journal before.taken after.taken (gathers_front w.at.journal waiting count before.taken u after.taken w.gathers wrote);
 }
 
@@ -494,6 +496,7 @@ short_closed view before after given end journal waiting u count came ends g wro
   journal = journal;
   reads = came;
   run = inr (refl, (end, ends));
+  cut = λ five. absurd (omega (arith, five));
   wrote = front_at_4 journal before.taken after.taken (gathers_front journal waiting count before.taken u after.taken g wrote);
 }
 
@@ -507,6 +510,7 @@ short_write {D} {M} view before after given now end came h is rack taken =
       journal = at.journal;
       reads = came;
       run = inl (at, subst (λ r. Halfway view before.rack r (script_of given) at) rack w.1, refl, w.3);
+      cut = λ five. absurd (omega (arith, five));
       wrote = front_at_4 at.journal before.taken after.taken (subst (λ t. Fronts at.journal before.taken t) taken w.2);
     }
 
@@ -522,5 +526,6 @@ short_first {D} {M} view left faults taken rack ready =
       journal = [];
       reads = came_run (source_view left faults) (source_view left faults) [] [] [] (gives_nothing left) refl refl (omega arith) refl;
       run = inl (at, half, refl, record { earlier = omega arith; to_the_end = λ go. absurd (go refl) });
+      cut = λ _ _ running. (let never : Start ≡ Running = running in cc never);
       wrote = (0, takes_nothing taken, λ _. refl);
     }

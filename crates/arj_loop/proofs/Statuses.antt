@@ -1,5 +1,5 @@
 -- The status of an end, and what a run leaves when its last line is put.
-use Rattle.std.proofs.Common.{◌⊎◌, ◌≡◌, ◌≢◌, inl, inr, ℕ, ◌≤◌, List, ◌++◌, Option, None, refl, sym, ◌∙◌, ap, subst, arith}
+use Rattle.std.proofs.Common.{◌⊎◌, ◌≡◌, ◌≢◌, inl, inr, ℕ, ◌≤◌, List, [], ◌∷◌, ◌++◌, Option, None, Some, refl, sym, ◌∙◌, ap, subst, arith}
 use Rattle.std.proofs.lemmas.Bool.{cases_lt}
 use Rattle.std.proofs.Math.Logic.{⊎_elim}
 use Rattle.arj_journal.specs.declared.body.Line.{Line}
@@ -9,7 +9,10 @@ use Rattle.arj_loop.specs.declared.ending.End.TheVariants as ending
 use Rattle.arj_loop.specs.declared.machine.Machine.{Ghosts}
 use Rattle.arj_loop.specs.Input.{Arrived, WentOn, ReadsFewPast, script_of}
 use Rattle.arj_loop.specs.Replayed.{EndsSo}
-use Rattle.arj_loop.specs.Running.{Hand, HasEnded, Halfway, Reached, Gathers, Work, hand, hand_of, last_body, last_lines, lines_before, status_of, events_run}
+use Rattle.arj_journal.specs.declared.header.Header.{Header}
+use Rattle.arj_script.specs.Grammar.{Place}
+use Rattle.arj_script.specs.Input.{Stopped}
+use Rattle.arj_loop.specs.Running.{Hand, HasEnded, Halfway, IsUnfinished, Reached, Gathers, Why, Work, hand, hand_of, last_body, last_lines, lines_before, status_of, events_run}
 use Rattle.arj_loop.proofs.Stages.{format_since, unchanged}
 use Rattle.arj_loop.proofs.Whole.{gathers_more}
 
@@ -138,6 +141,7 @@ closes view given first before now end journal after status h write put five =
 pub record Wanted {D M : Type 0} (view : Ghosts M D) (given : Arrived) (first rack : List D) (waiting : List ℕ) (t u : Option (List ℕ)) : Type 0 where
   pub at : Hand M
   pub half : Halfway view first rack (script_of given) at
+  pub more : IsUnfinished half.place half.rest
   pub went_on : WentOn given at.count
   pub gathers : Gathers at.journal waiting t u
 
@@ -153,9 +157,23 @@ fewer given ending.Labels count w = w
 fewer given ending.Format count w = w
 fewer given ending.Frames count w = record { earlier = omega (arith, w.earlier); to_the_end = λ go. omega (arith, w.to_the_end go) }
 
+-- a line is left where an end puts one outside of events, or `run` wasn't read
+unfinished : {D M : Type 0} (view : Ghosts M D) (end : End) (stopped : Stopped) (rest : List (List ℕ)) (place : Place) (rack : List D) (at : Hand M) (header : Header) → (end ≢ ending.Whole) × (end ≢ ending.Fault) × (end ≢ ending.Frames)
+    → Why view end stopped rest place rack at header → IsUnfinished place rest
+unfinished view ending.Whole stopped rest place rack at header cut why none running = absurd (cut.0 refl)
+unfinished view ending.Fault stopped rest place rack at header cut why none running = absurd (cut.1 refl)
+unfinished view ending.Frames stopped rest place rack at header cut why none running = absurd (cut.2 refl)
+unfinished view (ending.Bad w) stopped rest place rack at header cut why none running =
+    ⊎_elim (λ line. let never : line.0 ∷ line.1 ≡ [] = sym line.2 ∙ none in cc never) (λ missing. missing.2 running) why
+unfinished view ending.Lines stopped rest place rack at header cut why none running = let never : why.0 ∷ why.1 ≡ [] = sym why.2 ∙ none in cc never
+unfinished view ending.Labels stopped rest place rack at header cut why none running = let never : why.0 ∷ why.1 ≡ [] = sym why.2 ∙ none in cc never
+unfinished view ending.Format stopped rest place rack at header cut why none running = let never : why.0 ∷ why.1 ≡ [] = sym why.2 ∙ none in cc never
+unfinished view ending.Write stopped rest place rack at header cut why none running = why
+unfinished view ending.Memory stopped rest place rack at header cut why none running = why
+
 pub wants : {D M : Type 0} (view : Ghosts M D) (given : Arrived) (first : List D) (before : Option (List ℕ)) (now : Work D M) (end : End) (after : List ℕ)
-    → HasEnded view first before given now end → end ≢ ending.Write → after ≡ now.session.gather.waiting.items → Wanted view given first now.rack after before now.taken
-wants {D} {M} view given first before now end after h write same =
+    → HasEnded view first before given now end → end ≢ ending.Write → (end ≢ ending.Whole) × (end ≢ ending.Fault) × (end ≢ ending.Frames) → after ≡ now.session.gather.waiting.items → Wanted view given first now.rack after before now.taken
+wants {D} {M} view given first before now end after h write cut same =
     ⊎_elim
     (λ stopped.
     let f = h.format stopped in
@@ -164,13 +182,14 @@ wants {D} {M} view given first before now end after h write same =
     record {
       at = hand None f.0 now.journal;
       half = record { place = r.place; done = r.done; rest = r.rest; whole = r.whole; mid = first; stage = r.stage; since = format_since view (let s = r.stage in s.header) r.place why.0 r.rest why.1 first now.rack why.2 why.3 f.5 };
+      more = λ none. absurd (let never : why.0 ∷ why.1 ≡ [] = sym why.2 ∙ none in cc never);
       went_on = f.2;
       gathers = subst (λ w. Gathers now.journal w before now.taken) (sym same) (h.gathers write (λ m. (let never : ending.Format ≡ ending.Memory = sym stopped ∙ m in cc)));
     })
     (λ rest. ⊎_elim
     (λ wanting.
     let m = h.memory wanting in
-    record { at = m.0; half = m.1; went_on = m.3; gathers = subst (λ w. Gathers (let at = m.0 in at.journal) w before now.taken) (sym same) m.2 })
+    record { at = m.0; half = m.1; more = m.4; went_on = m.3; gathers = subst (λ w. Gathers (let at = m.0 in at.journal) w before now.taken) (sym same) m.2 })
     (λ more. ⊎_elim
     (λ failed. absurd (write failed))
     (λ other.
@@ -179,6 +198,7 @@ wants {D} {M} view given first before now end after h write same =
     record {
       at = hand_of now;
       half = record { place = r.place; done = r.done; rest = r.rest; whole = r.whole; mid = now.rack; stage = r.stage; since = unchanged view (let s = r.stage in s.header) r.place r.rest now.rack };
+      more = unfinished view end given.stopped r.rest r.place now.rack (hand_of now) (let s = r.stage in s.header) cut r.why;
       went_on = fewer given end now.session.runner.lines found.1;
       gathers = subst (λ w. Gathers now.journal w before now.taken) (sym same) (h.gathers other.write other.memory);
     })

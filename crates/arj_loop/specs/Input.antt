@@ -1,8 +1,7 @@
 -- What came from the source, and how much of it was run.
-use Rattle.std.specs.Prelude.{◌≡◌, ◌≤◌, ◌<◌, ◌⊎◌, ◌+◌, ℕ, List, [], ◌∷◌, ◌++◌, length, false, Option, Some, None, IfSome, ⊤}
+use Rattle.std.specs.Prelude.{◌≡◌, ◌≤◌, ◌<◌, ◌⊎◌, ◌+◌, ℕ, List, [], ◌∷◌, ◌++◌, length, false, Option, Some, None, IfSome}
 use Rattle.arj_base.specs.Count.{Rose}
 use Rattle.arj_io.specs.Told.{Gives}
-use Rattle.arj_journal.specs.declared.header.Header.{Header}
 use Rattle.arj_journal.specs.declared.header.ObjectLine.{ObjectLine}
 use Rattle.arj_loop.specs.declared.limits.TheConstants.{READ_BYTES}
 use Rattle.arj_script.specs.Grammar.{Form, Run, Place, Objects, next_place}
@@ -61,11 +60,6 @@ abbrev pub header_from : Place → List Form → Option (ℕ × List ObjectLine)
 header_from place [] = None
 header_from (Objects n os) (Run ∷ forms) = Some (n, os)
 header_from place (form ∷ forms) = header_from (next_place place form) forms
-
--- the header is that one, where `run` was read
-abbrev pub IsHeader : Header → Option (ℕ × List ObjectLine) → Type 0
-IsHeader header None = ⊤
-IsHeader header (Some found) = (header.nodes ≡ found.0) × (header.objects ≡ found.1)
 
 -- How reading stopped, and the lines of what has come.
 pub record Script : Type 0 where

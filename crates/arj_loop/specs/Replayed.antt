@@ -1,5 +1,6 @@
 -- What a run leaves: how it ended, or how far it came.
 use Rattle.std.specs.Prelude.{◌≡◌, ◌≢◌, ◌⊎◌, ℕ, List, [], ◌++◌, length, take, Option, None}
+use Rattle.std.proofs.Common.{inl, inr}
 use Rattle.arj_io.specs.Told.{Takes}
 use Rattle.arj_journal.specs.declared.body.Line.{Line}
 use Rattle.arj_journal.specs.LineText.{text}
@@ -9,7 +10,7 @@ use Rattle.arj_loop.specs.declared.ending.End.TheVariants as ending
 use Rattle.arj_loop.specs.declared.machine.Machine.{Ghosts}
 use Rattle.arj_script.specs.Grammar.{Place}
 use Rattle.arj_loop.specs.Input.{Arrived, Came, WentOn, ReadsFewPast, script_of, source_view}
-use Rattle.arj_loop.specs.Running.{Hand, Halfway, Reached, events_run, header_at, last_body, last_lines, lines_before, status_of, why_of}
+use Rattle.arj_loop.specs.Running.{Hand, Halfway, IsUnfinished, Reached, events_run, header_at, last_body, last_lines, lines_before, status_of, why_of}
 
 -- What a run finds and leaves outside of it. The bytes that are left in the source, where it tells them, and its count of
 -- failed reads; the bytes that the sink has taken, where it tells them; and the disks.
@@ -72,11 +73,21 @@ pub record Closes {D M : Type 0} (m : Ghosts M D) (before after : Outside D) (an
 abbrev pub ComesSoFar : {D M : Type 0} → Ghosts M D → Arrived → List D → List D → List Line → Type 0
 ComesSoFar {D} {M} m given first after journal = (at : Hand M) × Halfway m first after (script_of given) at × (journal ≡ at.journal) × WentOn given at.count
 
+-- how far a run to the status 4 or 5 came: so far, or, at 4, to its end
+abbrev pub CameTo : {D M : Type 0} → Ghosts M D → Arrived → List D → List D → ℕ → List Line → Type 0
+CameTo m given first after status journal = ComesSoFar m given first after journal ⊎ ((status ≡ 4) × ((end : End) × EndsSo m given first after end journal))
+
+-- it didn't come to its end: a line is left, or `run` wasn't read
+abbrev pub IsCutShort : {D M : Type 0} (m : Ghosts M D) (given : Arrived) (first after : List D) (status : ℕ) (journal : List Line) → CameTo m given first after status journal → Type 0
+IsCutShort m given first after status journal (inl (at, half, is, went)) = IsUnfinished half.place half.rest
+IsCutShort m given first after status journal (inr ended) = ⊥
+
 -- A run to the status 4 or 5: which bytes came, how far the run of them came, and that the sink took a front of the text of
--- its journal, at 5 all of it. At 4 the run may have come to its end.
+-- its journal, at 5 all of it. At 4 the run may have come to its end, at 5 it was cut short.
 pub record StopsShort {D M : Type 0} (m : Ghosts M D) (before after : Outside D) (status : ℕ) : Type 0 where
   pub given : Arrived
   pub journal : List Line
   pub reads : Came (source_view before.left before.faults) (source_view after.left after.faults) given
-  pub run : ComesSoFar m given before.rack after.rack journal ⊎ ((status ≡ 4) × ((end : End) × EndsSo m given before.rack after.rack end journal))
+  pub run : CameTo m given before.rack after.rack status journal
+  pub cut : status ≡ 5 → IsCutShort m given before.rack after.rack status journal run
   pub wrote : TookFront status journal before.taken after.taken

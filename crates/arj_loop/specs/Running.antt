@@ -145,6 +145,10 @@ Gathers journal waiting before after = (taken : List ℕ) × (text journal ≡ t
 abbrev pub Fronts : List Line → Option (List ℕ) → Option (List ℕ) → Type 0
 Fronts journal before after = (count : ℕ) × Takes before (take count (text journal)) after
 
+-- a line is left, or `run` wasn't read
+abbrev pub IsUnfinished : Place → List (List ℕ) → Type 0
+IsUnfinished place rest = rest ≡ [] → place ≡ Running → ⊥
+
 -- why the run ends where these lines are left
 abbrev pub Why : {D M : Type 0} → Ghosts M D → End → Stopped → List (List ℕ) → Place → List D → Hand M → Header → Type 0
 Why m ending.Whole stopped rest place rack at header = (stopped ≡ AtEnd) × (rest ≡ []) × (place ≡ Running)
@@ -275,6 +279,7 @@ pub record HasEnded {D M : Type 0} (m : Ghosts M D) (first : List D) (before : O
       × m.stopped first now.rack × m.moved (header_at r.place) [] first now.rack
   pub gathers : end ≢ ending.Write → end ≢ ending.Memory → Gathers now.journal now.session.gather.waiting.items before now.taken
   -- memory was wanting: the lines before the one in hand were run, and the text of theirs gathers
-  pub memory : end ≡ ending.Memory → (at : Hand M) × Halfway m first now.rack (script_of given) at × Gathers at.journal now.session.gather.waiting.items before now.taken × WentOn given at.count
+  pub memory : end ≡ ending.Memory → (at : Hand M) × (h : Halfway m first now.rack (script_of given) at) × Gathers at.journal now.session.gather.waiting.items before now.taken × WentOn given at.count
+      × IsUnfinished h.place h.rest
   -- a write failed
   pub write : end ≡ ending.Write → (at : Hand M) × Halfway m first now.rack (script_of given) at × Fronts at.journal before now.taken × WentOn given at.count

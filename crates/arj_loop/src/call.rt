@@ -17,7 +17,7 @@ use arj_journal::{Body, Line, Lines};
 use std::alloc::{AllocError, Global};
 
 /// Runs the script that comes from the source on a machine over these disks, writes its journal, and answers the status.
-/// The journal is left in `journal` and the machine, if `run` was read, in `machine` at every status but 4 and 5, and at status 2
+/// The journal is left in `journal` and the machine, once the disks were formatted, in `machine` at every status but 4 and 5, and at status 2
 /// why a line is bad in `why`. Each line is
 /// run before more is asked for than the piece in hand, and the text of the lines that were run is written before: the bound on
 /// the source has no other way to read.
@@ -88,6 +88,7 @@ fn close<D: Disk, M: Machine<D>>(session: &mut Session<M>, end: End, journal: &m
     ensures put { result ≢ 5 → (result ≡ status_of end) × (journal.new ≡ journal.old ++ last_lines (last_body end session.old.runner.lines) (events_run M.Machine session.old.runner.machine))
         × (session.new.gather.waiting.items ≡ session.old.gather.waiting.items ++ text (last_lines (last_body end session.old.runner.lines) (events_run M.Machine session.old.runner.machine))) }
     ensures runner { session.new.runner ≡ session.old.runner }
+    ensures cut { result ≡ 5 → (end ≢ End.Whole) × (end ≢ End.Fault) × (end ≢ End.Frames) }
     ensures memory { result ≡ 5 → session.new.gather.waiting.items ≡ session.old.gather.waiting.items }
 {
     let Some(body) = session.runner.last_body(end) else {

@@ -102,22 +102,29 @@ module _ {D : Type 0} (d : disk.Ghosts D) where
       → TellsStops d w.header.nodes (crashed_by t.event) old new w.lines (turned t w).lines → (added : List Line) × ((turned t w).lines ≡ w.lines ++ added) × TellAll w.header.nodes events old new added
   turn_told events t w old new next at (added, are, told) =
       let adds = turn_adds t w next in
-      let same : added ≡ numbered (w.event + 1) adds.0 = append_cancel_left w.lines added (numbered (w.event + 1) adds.0) (sym are ∙ adds.1) in
-      (added, are, record {
-        count = told.count;
-        each = λ i x y at_x at_y. subst (λ k. IsToldBy k (d.stops x) (d.stops y))
-            ((λ j. if crashed_by t.event (i + 1) then 0 else halts (i + 1) (same j)) ∙ (told_so events (i + 1) w.event t.event adds.0 at ∙ ap (stops_told events (i + 1)) (sym same))) (told.each i x y at_x at_y);
-        others = told.others;
-      })
+      let same : added ≡ numbered (w.event + 1) adds.0 = append_cancel_left w.lines added (numbered (w.event + 1) adds.0) (sym are ∙ adds.1) in (
+        added,
+        are,
+        record {
+          count = told.count;
+          each = λ i x y at_x at_y. subst (λ k. IsToldBy k (d.stops x) (d.stops y))
+              ((λ j. if crashed_by t.event (i + 1) then 0 else halts (i + 1) (same j)) ∙ (told_so events (i + 1) w.event t.event adds.0 at ∙ ap (stops_told events (i + 1)) (sym same))) (told.each i x y at_x at_y);
+          others = told.others;
+        },
+      )
 
   -- and so do those of turns
   all_turns_told : (ts : List Turn) (w : World) (before : List Event) (old new : List D) → length before ≡ w.event → Counted ts w → TellTurns d w ts old new
       → (added : List Line) × ((all_turned ts w).lines ≡ w.lines ++ added) × TellAll w.header.nodes (before ++ map (λ s. s.event) ts) old new added
-  all_turns_told [] w before old new number counts same = ([], sym (append-nil w.lines), subst (λ disks. TellAll w.header.nodes (before ++ []) old disks []) (sym same) (record {
-    count = refl;
-    each = λ i x y at_x at_y. let is : x ≡ y = one x y (sym at_x ∙ at_y) in subst (λ z. IsToldBy 0 (d.stops x) (d.stops z)) is (record { later = omega arith; rose = λ less. omega arith; only = λ none. refl });
-    others = λ n out. refl;
-  }))
+  all_turns_told [] w before old new number counts same = (
+    [],
+    sym (append-nil w.lines),
+    subst (λ disks. TellAll w.header.nodes (before ++ []) old disks []) (sym same) (record {
+      count = refl;
+      each = λ i x y at_x at_y. let is : x ≡ y = one x y (sym at_x ∙ at_y) in subst (λ z. IsToldBy 0 (d.stops x) (d.stops z)) is (record { later = omega arith; rose = λ less. omega arith; only = λ none. refl });
+      others = λ n out. refl;
+    }),
+  )
     where
       one : (x y : D) → Some x ≡ Some y → x ≡ y
       one x y is = cc is

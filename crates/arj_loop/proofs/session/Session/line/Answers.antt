@@ -44,4 +44,4 @@ returns-in-Err-put_lines-clause-ended g c first before given done at =
     let kept = c.in-Err-put_lines.ensures.memory (ap Err memory) in
     ended_memory g.M.Machine first c.args.rack.now before given done (line ∷ at.tail) c.args.self.now.runner c.args.journal.now (work c.line-2.new.rack (record { runner = c.line-2.new.self; cutter = c.args.self.now.cutter; gather = c.put_lines.new.self }) c.line-2.new.journal (g.K.Sink.taken c.put_lines.new.sink)) at.cut at.stage (subst (λ l. ChangedBy g.M.Machine (let s = at.stage in s.header) c.args.self.now.runner.reader l c.args.rack.now c.line-2.new.rack) c.line.ensures.is (c.line-2.ensures.moved first done at.stage)) at.went_on
     (gathers_kept c.args.journal.now c.args.self.now.gather.waiting.items c.put_lines.new.self.waiting.items before (g.K.Sink.taken c.put_lines.new.sink) kept.0
-    (subst (λ sink. Gathers c.args.journal.now c.args.self.now.gather.waiting.items before (g.K.Sink.taken sink)) (sym kept.1) at.gathers)))
+    (subst (λ sink. Gathers c.args.journal.now c.args.self.now.gather.waiting.items before (g.K.Sink.taken sink)) (sym kept.1) at.gathers)) (λ none. cc none))
