@@ -5,7 +5,7 @@ use Rattle.std.proofs.Common.{arith}
 use Rattle.std.proofs.lemmas.Bool.{and_parts}
 use Rattle.arj_gen.specs.declared.bank.TheConstants.{NODES}
 use Rattle.std.proofs.Math.Numerals.{add-one}
-use Rattle.arj_bank.specs.Balances.{AddUpTo, Holds, IsBalance, capped, files_at, files_in, is_number, no_files}
+use Rattle.arj_bank.specs.Balances.{AddUpTo, Holds, IsBalance, capped, node_files, files_in, is_number, no_files}
 use Rattle.arj_base.specs.declared.state.ObjectState.{ObjectState}
 use Rattle.arj_base.specs.declared.uid.Uid.{Uid}
 use Rattle.arj_disk.specs.Disk.{Same}
@@ -25,16 +25,16 @@ module _ {D : Type 0} (file : D → FileMap) where
   set_one (suc i) zero (x ∷ rack) d e at same = refl
   set_one (suc i) (suc k) (x ∷ rack) d e at same = set_one i k rack d e at same
 
-  pub files_stay : (node : ℕ) (rack : List D) (d e : D) → slice_get rack (node - 1) ≡ Some d → Same (file d) (file e) → files_at file (slice_set rack (node - 1) e) ≡ files_at file rack
+  pub files_stay : (node : ℕ) (rack : List D) (d e : D) → slice_get rack (node - 1) ≡ Some d → Same (file d) (file e) → node_files file (slice_set rack (node - 1) e) ≡ node_files file rack
   files_stay node rack d e at same =
       let one : file e ≡ file d = λ i slot. same slot i in
       λ i k. if is_number k then set_one (node - 1) (k - 1) rack d e at one i else no_files
 
   -- the files of a node are those of its disk
-  pub files_of : (node : ℕ) (rack : List D) (d : D) → is_number node ≡ true → slice_get rack (node - 1) ≡ Some d → files_at file rack node ≡ file d
+  pub files_of : (node : ℕ) (rack : List D) (d : D) → is_number node ≡ true → slice_get rack (node - 1) ≡ Some d → node_files file rack node ≡ file d
   files_of node rack d is at = λ i. if is i then files_in file (at i) else no_files
 
-  pub no_files_of : (node : ℕ) (rack : List D) → is_number node ≡ false → files_at file rack node ≡ no_files
+  pub no_files_of : (node : ℕ) (rack : List D) → is_number node ≡ false → node_files file rack node ≡ no_files
   no_files_of node rack is = λ i. if is i then files_in file (slice_get rack (node - 1)) else no_files
 
 pub holds_by : (old new : FileMap) (uid : Uid) (state : Option ObjectState) → new ≡ old → Holds old uid state → Holds new uid state

@@ -32,8 +32,8 @@ abbrev pub is_number : ℕ → Bool
 is_number node = nat_le 1 node && nat_le node NODES
 
 -- the files of the disk of a node, the first of which is node 1's; none for a number that is no node of the bank
-abbrev pub files_at : {D : Type 0} → (D → FileMap) → List D → ℕ → FileMap
-files_at file rack node = if is_number node then files_in file (slice_get rack (node - 1)) else no_files
+abbrev pub node_files : {D : Type 0} → (D → FileMap) → List D → ℕ → FileMap
+node_files file rack node = if is_number node then files_in file (slice_get rack (node - 1)) else no_files
 
 -- ---- states
 

@@ -1,7 +1,7 @@
 -- Runs of the generated bank on a machine.
 use Rattle.std.specs.Prelude.{ℕ, ◌≡◌, ◌≢◌, ◌⊎◌, List, [], ◌∷◌, ◌++◌, true, false, length, map, take, Option, Some, None}
 use Rattle.std.specs.List.{AllByRecursion}
-use Rattle.arj_bank.specs.Balances.{AddUpTo, files_at}
+use Rattle.arj_bank.specs.Balances.{AddUpTo, node_files}
 use Rattle.arj_bank.specs.Summary.{summary_of, summary_text}
 use Rattle.arj_disk.specs.FileMap.{FileMap}
 use Rattle.arj_disk.specs.declared.disk.Disk as disk
@@ -103,11 +103,11 @@ pub record EndsAtLimit {D M : Type 0} (m : Ghosts M D) (n : ℕ) (first : List D
 
 -- these bytes are the summary of a run of so many events that left these disks and this journal
 abbrev pub SumsUp : {D : Type 0} → (D → FileMap) → ℕ → List D → List Line → List ℕ → Type 0
-SumsUp file events rack journal bytes = (sum : ℕ) × AddUpTo (files_at file rack) ACCOUNTS sum × (bytes ≡ summary_text (summary_of events journal sum))
+SumsUp file events rack journal bytes = (sum : ℕ) × AddUpTo (node_files file rack) ACCOUNTS sum × (bytes ≡ summary_text (summary_of events journal sum))
 
 -- Disks were read: their files are as they were, and none of them was armed, nor any disk touched that is no node's of the bank.
 pub record HaveBeenRead {D : Type 0} (d : disk.Ghosts D) (before after : List D) : Type 0 where
-  pub files : files_at d.file after ≡ files_at d.file before
+  pub files : node_files d.file after ≡ node_files d.file before
   pub moved : HaveMoved d NODES [] before after
 
 -- The whole bank of n was run, and these bytes are its summary. The sum was read from the disks that the run left. None of them

@@ -1,7 +1,7 @@
 // What the disks hold of the bank.
 ghost use Rattle.std.specs.Prelude.{◌≡◌, ◌+◌, [], Some, IfOk, IsErrOf, OnOk};
 ghost use Rattle.arj_base.specs.State.{StateInForm, state_bytes};
-ghost use Rattle.arj_bank.specs.Balances.{AddUpTo, HasBalance, Holds, IsBalance, ListsFirst, capped, files_at, first_node, is_number, number_in};
+ghost use Rattle.arj_bank.specs.Balances.{AddUpTo, HasBalance, Holds, IsBalance, ListsFirst, capped, node_files, first_node, is_number, number_in};
 ghost use Rattle.arj_disk.specs.Counted.{counts};
 ghost use Rattle.arj_disk.specs.Disk.{CountsCall, Same};
 ghost use Rattle.arj_gen.specs.declared.bank.TheConstants.{NODES};
@@ -58,8 +58,8 @@ fn committed_at<D: Disk>(
     node: u8,
     uid: Uid,
 ) -> Result<Option<ObjectState>, DiskFault>
-    ensures holds { IfOk result (λ state. Holds (files_at D.file rack.old node) uid state) }
-    ensures files { files_at D.file rack.new ≡ files_at D.file rack.old }
+    ensures holds { IfOk result (λ state. Holds (node_files D.file rack.old node) uid state) }
+    ensures files { node_files D.file rack.new ≡ node_files D.file rack.old }
     ensures moved { HaveMoved D.Disk NODES [] rack.old rack.new }
     ensures stopped { IsErrOf result DiskFault.Stopped → HasStopped D.Disk rack.old rack.new }
     ensures unstopped { OnOk result (HaveNotStopped D.Disk rack.old rack.new) }
@@ -120,8 +120,8 @@ fn balance_of(alloc: Global, state: Option<ObjectState>) -> Result<u64, AllocErr
 
 // The balance of an account: of its committed state on the first store that naming lists for it, 0 where there is none.
 fn balance<D: Disk>(alloc: Global, rack: &mut Rack<D>, x: u16) -> Result<u64, DiskFault>
-    ensures balance { IfOk result (λ balance. IsBalance (files_at D.file rack.old) x balance) }
-    ensures files { files_at D.file rack.new ≡ files_at D.file rack.old }
+    ensures balance { IfOk result (λ balance. IsBalance (node_files D.file rack.old) x balance) }
+    ensures files { node_files D.file rack.new ≡ node_files D.file rack.old }
     ensures moved { HaveMoved D.Disk NODES [] rack.old rack.new }
     ensures stopped { IsErrOf result DiskFault.Stopped → HasStopped D.Disk rack.old rack.new }
     ensures unstopped { OnOk result (HaveNotStopped D.Disk rack.old rack.new) }
@@ -147,8 +147,8 @@ fn added(sum: u64, balance: u64) -> u64
 /// The sum of the balances of all accounts, each read from the first store that naming lists for it. It stands still at the
 /// largest number of 64 bits. Stopped: a disk was stopped.
 pub fn sum<D: Disk>(alloc: Global, rack: &mut Rack<D>) -> Result<u64, DiskFault>
-    ensures sum { IfOk result (λ sum. AddUpTo (files_at D.file rack.old) ACCOUNTS sum) }
-    ensures files { files_at D.file rack.new ≡ files_at D.file rack.old }
+    ensures sum { IfOk result (λ sum. AddUpTo (node_files D.file rack.old) ACCOUNTS sum) }
+    ensures files { node_files D.file rack.new ≡ node_files D.file rack.old }
     ensures moved { HaveMoved D.Disk NODES [] rack.old rack.new }
     ensures stopped { IsErrOf result DiskFault.Stopped → HasStopped D.Disk rack.old rack.new }
     ensures unstopped { OnOk result (HaveNotStopped D.Disk rack.old rack.new) }

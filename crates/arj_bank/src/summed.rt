@@ -1,7 +1,7 @@
 // The generated bank, run and summed up.
 ghost use Rattle.std.specs.Prelude.{◌≡◌, ◌≢◌, ◌≤◌, ℕ, List, [], take, IfOk, IsErrOf, None, OnOk};
 ghost use Rattle.arj_base.specs.Count.{Rose};
-ghost use Rattle.arj_bank.specs.Balances.{files_at};
+ghost use Rattle.arj_bank.specs.Balances.{node_files};
 ghost use Rattle.arj_bank.specs.Bank.{EndsAtLimit, IsSummary, StopsBank, SumsUp, WantsMemory, left};
 ghost use Rattle.arj_gen.specs.declared.bank.TheConstants.{NODES};
 ghost use Rattle.arj_io.specs.Told.{Takes};
@@ -26,7 +26,7 @@ fn sum_up<D: Disk>(
     journal: &Lines,
 ) -> Result<Bytes, Stop>
     ensures text { IfOk result (λ text. SumsUp D.file events rack.old journal.now text) }
-    ensures files { files_at D.file rack.new ≡ files_at D.file rack.old }
+    ensures files { node_files D.file rack.new ≡ node_files D.file rack.old }
     ensures stopped { IsErrOf result Stop.Disk → HasStopped D.Disk rack.old rack.new }
     ensures unstopped { OnOk result (HaveNotStopped D.Disk rack.old rack.new) }
     ensures limit { IsErrOf result Stop.Limit → ⊥ }

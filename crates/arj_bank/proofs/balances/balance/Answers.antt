@@ -1,6 +1,6 @@
 -- from the entry to the balance
 use Rattle.std.proofs.Common.{Err, ap, refl, subst}
-use Rattle.arj_bank.specs.Balances.{Holds, files_at}
+use Rattle.arj_bank.specs.Balances.{Holds, node_files}
 use Rattle.arj_disk.specs.declared.disk.DiskFault.TheVariants.{Stopped}
 use Rattle.arj_gen.specs.declared.bank.TheConstants.{NODES}
 use Rattle.arj_world.proofs.Disks.{moved_on, same_fault, stopped_later, unstopped_on}
@@ -10,11 +10,11 @@ pub returns-in_ok-balance-in-Ok-clause-balance : goal.returns-in_ok-balance-in-O
 returns-in_ok-balance-in-Ok-clause-balance g c =
     let file = g.D.Disk.file in record {
       named = c.in_ok-named.named;
-      named_is = subst (λ uid. Holds (files_at file c.args.rack.now 1) uid c.in_ok-named.named) c.entry_uid.ensures c.in_ok-named.ensures.holds;
+      named_is = subst (λ uid. Holds (node_files file c.args.rack.now 1) uid c.in_ok-named.named) c.entry_uid.ensures c.in_ok-named.ensures.holds;
       store = c.in_ok-store.store;
       listed = c.in_ok-store.ensures;
       state = c.in-Ok.state;
-      state_is = subst (λ uid. Holds (files_at file c.args.rack.now c.in_ok-store.store) uid c.in-Ok.state) c.object_uid.ensures
+      state_is = subst (λ uid. Holds (node_files file c.args.rack.now c.in_ok-store.store) uid c.in-Ok.state) c.object_uid.ensures
           (subst (λ files. Holds (files c.in_ok-store.store) c.object_uid.result c.in-Ok.state) c.committed_at.ensures.files c.in-Ok.ensures.holds);
       balance_is = c.in_ok-balance-in-Ok.ensures;
     }

@@ -1,6 +1,6 @@
 -- balance after balance
 use Rattle.std.proofs.Common.{Err, ap, refl, ◌∙◌}
-use Rattle.arj_bank.specs.Balances.{files_at}
+use Rattle.arj_bank.specs.Balances.{node_files}
 use Rattle.arj_bank.proofs.Reading.{add_more}
 use Rattle.arj_disk.specs.declared.disk.DiskFault.TheVariants.{Stopped}
 use Rattle.arj_gen.specs.declared.bank.TheConstants.{NODES}
@@ -15,7 +15,7 @@ returns-in-Err-clause-stopped g c is = stopped_later g.D.Disk NODES c.args.rack.
 
 pub loop-k-preserved : goal.loop-k-preserved
 loop-k-preserved g c = record {
-  adds = add_more (files_at g.D.Disk.file c.args.rack.now) (files_at g.D.Disk.file c.loop-k.rack) c.loop-k.k c.loop-k.sum c.in-Ok.balance c.added-sum.result c.loop-k.invariant.files c.loop-k.invariant.adds c.in-Ok.ensures.balance c.added-sum.ensures;
+  adds = add_more (node_files g.D.Disk.file c.args.rack.now) (node_files g.D.Disk.file c.loop-k.rack) c.loop-k.k c.loop-k.sum c.in-Ok.balance c.added-sum.result c.loop-k.invariant.files c.loop-k.invariant.adds c.in-Ok.ensures.balance c.added-sum.ensures;
   files = c.balance.ensures.files ∙ c.loop-k.invariant.files;
   moved = moved_on g.D.Disk NODES NODES c.args.rack.now c.loop-k.rack c.balance.new.rack refl c.loop-k.invariant.moved c.balance.ensures.moved;
   unstopped = unstopped_on g.D.Disk c.args.rack.now c.loop-k.rack c.balance.new.rack c.loop-k.invariant.unstopped c.in-Ok.ensures.unstopped;

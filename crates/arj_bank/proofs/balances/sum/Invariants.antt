@@ -1,14 +1,14 @@
 -- the balances so far
 use Rattle.std.proofs.Common.{◌≡◌, []}
 use Rattle.arj_gen.specs.declared.bank.TheConstants.{NODES}
-use Rattle.arj_bank.specs.Balances.{AddUpTo, files_at}
+use Rattle.arj_bank.specs.Balances.{AddUpTo, node_files}
 use Rattle.arj_world.specs.Disks.{HaveMoved, HaveNotStopped}
 use Rattle.arj_bank.proofs.balances.sum.Given as goal
 
 abbrev pub invariant-loop-k : goal.invariant-loop-k
 invariant-loop-k g l = record {
-  adds : AddUpTo (files_at g.D.Disk.file l.fn.rack) l.k l.sum;
-  files : files_at g.D.Disk.file l.rack ≡ files_at g.D.Disk.file l.fn.rack;
+  adds : AddUpTo (node_files g.D.Disk.file l.fn.rack) l.k l.sum;
+  files : node_files g.D.Disk.file l.rack ≡ node_files g.D.Disk.file l.fn.rack;
   moved : HaveMoved g.D.Disk NODES [] l.fn.rack l.rack;
   unstopped : HaveNotStopped g.D.Disk l.fn.rack l.rack;
 }
