@@ -1,6 +1,7 @@
 -- The lock book, by the lock machines to which journals are tied; and that journals list nodes of the header.
 use Rattle.std.proofs.Common.{ℕ}
 use Rattle.arj_journal.specs.ScriptForm.{HeaderInForm}
+use Rattle.arj_law.specs.Joined.{AreCalled}
 use Rattle.arj_model.specs.Last.{first_values}
 use Rattle.arj_protocol.specs.Words.{Header}
 use Rattle.arj_protocol.specs.World.{World}
@@ -9,11 +10,11 @@ use Rattle.arj_line_law.specs.Book.{new_book}
 use Rattle.arj_line_law.specs.Right.{AreRight}
 use Rattle.arj_line_law.proofs.Runs.{kept_right}
 use Rattle.arj_call_law.specs.Reached.{IsReached, Keeping}
-use Rattle.arj_serial_law.proofs.Order.{all_called_first, all_freed, all_in_order, all_in_time}
+use Rattle.arj_serial_law.proofs.Order.{all_called_first, all_freed, all_in_order, all_in_time, all_called}
 use Rattle.arj_serial_law.proofs.Ties.{Ties, ties_of}
 use Rattle.arj_serial_law.proofs.Values.{are_answered}
 use Rattle.arj_serial_law.specs.Tied.{AreTied}
-use Rattle.arj_joint_law.specs.Booked.{KeepsTheBook, RunsKeepTheBook}
+use Rattle.arj_joint_law.specs.Booked.{KeepsTheBook, RunsKeepTheBook, RunsAreCalled}
 use Rattle.arj_joint_law.specs.Fit.{OpsFit}
 use Rattle.arj_joint_law.specs.Shown.{ListedAreThere}
 use Rattle.arj_joint_law.proofs.Clean.{includes_there, reached_tied}
@@ -36,6 +37,9 @@ module _ (hd : Header) (w : World) (keeping : Keeping hd w) (tied : AreTied (fir
     times = all_in_time (first_values hd) w.lines right ties;
   }
 
+  pub called_so : AreCalled w.lines
+  called_so = all_called (first_values hd) w.lines right ties
+
 -- each store that an object lists by the journal is a node of the header
 pub lists_nodes : (hd : Header) → HeaderInForm hd → (w : World) → Keeping hd w → ListedAreThere hd w.lines
 lists_nodes hd form w keeping = all_there hd w.lines form (includes_there hd w keeping)
@@ -47,3 +51,6 @@ reached_book hd form w reached fit = book_so hd w reached.keeping (reached_tied 
 
 pub runs_keep_the_book : RunsKeepTheBook
 runs_keep_the_book hd ms f = let r = runs_in_form hd ms f in reached_book hd f.header (world_by hd ms) r.0 r.1
+
+pub runs_are_called : RunsAreCalled
+runs_are_called hd ms f = let r = runs_in_form hd ms f in called_so hd (world_by hd ms) (let k = r.0 in k.keeping) (reached_tied hd f.header (world_by hd ms) r.0 r.1)

@@ -1,5 +1,5 @@
 // The lock book of whole runs: order, values and nesting of answered calls.
-ghost use Rattle.arj_joint_law.specs.Booked.{RunsKeepTheBook};
+ghost use Rattle.arj_joint_law.specs.Booked.{RunsAreCalled, RunsKeepTheBook};
 
 /// In each run whose header and events are in form, of at most 1,000,000 events, with all frames that came in any order, again or never, all
 /// crashes and restarts, and stops wherever disks make them, the surviving calls of committed tops keep the lock book: conflicting ones of
@@ -8,4 +8,10 @@ ghost use Rattle.arj_joint_law.specs.Booked.{RunsKeepTheBook};
 /// made in it. It takes nothing more: the journal is tied to the lock machines (`runs_have_both_machines`). It does nothing when it runs.
 pub fn runs_keep_the_lock_book()
     ensures { RunsKeepTheBook }
+{}
+
+/// In each such run the commit of each top whose calls count was called, so that its journal may stand behind another one. It does nothing
+/// when it runs.
+pub fn runs_commit_what_was_called()
+    ensures { RunsAreCalled }
 {}

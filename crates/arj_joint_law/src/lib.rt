@@ -25,7 +25,7 @@ mod runs;
 mod writers;
 
 pub use based::votes_are_over_known_states;
-pub use booked::runs_keep_the_lock_book;
+pub use booked::{runs_commit_what_was_called, runs_keep_the_lock_book};
 pub use forms::{answered_operations_are_in_form, runs_have_form};
 pub use outcomes::{
     commits_are_done_behind_decisions, exclusion_in_time_tells_disks_apart,

@@ -1,7 +1,7 @@
 -- Committed tops and surviving calls of an object, by its machine: their order, and that of nested actions.
 use Rattle.std.proofs.Common.{◌≡◌, ◌≢◌, ◌⊎◌, ◌<◌, ◌≤◌, ℕ, ◌+◌, ◌==◌, ◌&&◌, ◌||◌, List, [], ◌∷◌, ◌++◌, Bool, true, false, cond, nat_lt, max, Some, None, refl, sym, ◌∙◌, ap, subst, inl, inr, ⊎_elim, arith, eqb-true, eq-eqb}
 use Rattle.std.specs.List.{AllByRecursion}
-use Rattle.std.proofs.lemmas.Bool.{and_parts}
+use Rattle.std.proofs.lemmas.Bool.{and_parts, or_left, or_right}
 use Rattle.std.proofs.lemmas.Bool.Decides.{nat_tests}
 use Rattle.arj_base.proofs.Uids.{uid_is}
 use Rattle.arj_class.specs.Table.{writes}
@@ -14,6 +14,7 @@ use Rattle.arj_model.specs.Calls.{Call, Said, Top, committed_calls, committings,
 use Rattle.arj_model.specs.Last.{is_among}
 use Rattle.arj_model.specs.Serial.{Values, lex, root_of, serial_key, serial_less, top_place, unit_place}
 use Rattle.arj_law.specs.Book.{InOrder, OfEachTwo, StandInOrder, is_conflict}
+use Rattle.arj_law.specs.Joined.{AreCalled, is_called}
 use Rattle.arj_law.specs.Nested.{AnsweredInTime, FreedInOrder, IsFreedFor, commit_place}
 use Rattle.arj_line_law.specs.Book.{is_top, new_book}
 use Rattle.arj_line_law.specs.Laws.{AreApart, AreItsTops, IsDone, called}
@@ -605,6 +606,15 @@ module _ (values : Values) (lines : List Line) (right : AreRight new_book lines)
       let o = of_object c i in
       let s = shown values lines right c.x o.0 o.1 c i refl in
       (s.number, s.listed_top, s.top_number, before_top values lines right c.x o.0 o.1 c s)
+
+  -- so the commit of each top whose calls count was called
+  pub all_called : AreCalled lines
+  all_called = each (λ c. is_called (tops lines) c.top ≡ true) (committed_calls lines) (λ c i. let b = call_before c i in among (tops lines) b.0 c.top b.1 b.2)
+    where
+      among : (ts : List Top) (t : Top) (id : ℕ) → In t ts → id ≡ t.id → is_called ts id ≡ true
+      among [] t id i same = absurd i
+      among (u ∷ ts) t id (inl is) same = or_left (u.id == id) (is_called ts id) (eq-eqb u.id id (ap (λ (z : Top). z.id) is ∙ sym same))
+      among (u ∷ ts) t id (inr i) same = or_right (u.id == id) (is_called ts id) (among ts t id i same)
 
   pub all_unit_first : (c d : Call) → In c (committed_calls lines) → In d (committed_calls lines) → c.at < d.at → is_conflict c d ≡ true → root_of (tops lines) c.top ≢ root_of (tops lines) d.top → unit_place (tops lines) (root_of (tops lines) c.top) < d.at
   all_unit_first c d i j less conflict other = let t = of_object c i in unit_first values lines right c.x t.0 t.1 c d i j refl (one_object c d conflict) less conflict other

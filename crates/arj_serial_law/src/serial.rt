@@ -2,6 +2,7 @@
 ghost use Rattle.std.specs.Prelude.{List};
 ghost use Rattle.arj_journal.specs.declared.body.Line.{Line};
 ghost use Rattle.arj_law.specs.Book.{Answered, InOrder};
+ghost use Rattle.arj_law.specs.Joined.{AreCalled};
 ghost use Rattle.arj_law.specs.Nested.{AnsweredInTime, FreedInOrder, nested_calls};
 ghost use Rattle.arj_line_law.specs.Book.{new_book};
 ghost use Rattle.arj_line_law.specs.Right.{AreRight};
@@ -13,13 +14,14 @@ ghost use Rattle.arj_serial_law.specs.Tied.{AreTied};
 /// surviving calls of committed tops keep the lock book: conflicting ones of different tops stand in the serial order, the
 /// commit of the first one's top called before the second is answered; each is answered by the writes before it; and within
 /// one top the actions of the first are committed before the second is answered, each behind the calls that were made in
-/// it. It does nothing when it runs.
+/// it. And the commit of each top whose calls count was called. It does nothing when it runs.
 pub fn tied_journals_keep_the_lock_book()
     ensures order { (values : Values) (lines : List Line) → AreRight new_book lines → AreTied values lines → InOrder lines }
     ensures commits { (values : Values) (lines : List Line) → AreRight new_book lines → AreTied values lines → CommitsComeFirst lines }
     ensures answers { (values : Values) (lines : List Line) → AreRight new_book lines → AreTied values lines → Answered values lines }
     ensures nested { (values : Values) (lines : List Line) → AreRight new_book lines → AreTied values lines → FreedInOrder lines }
     ensures times { (values : Values) (lines : List Line) → AreRight new_book lines → AreTied values lines → AnsweredInTime lines }
+    ensures called { (values : Values) (lines : List Line) → AreRight new_book lines → AreTied values lines → AreCalled lines }
 {}
 
 /// Such a journal is serial; and its calls give the same answers where each committed nested action runs whole at its

@@ -1,5 +1,5 @@
 use Rattle.arj_serial_law.proofs.Ties.{ties_of}
-use Rattle.arj_serial_law.proofs.Order.{all_called_first, all_freed, all_in_order, all_in_time}
+use Rattle.arj_serial_law.proofs.Order.{all_called_first, all_freed, all_in_order, all_in_time, all_called}
 use Rattle.arj_serial_law.proofs.Values.{are_answered}
 use Rattle.arj_serial_law.proofs.serial.tied_journals_keep_the_lock_book.Goals as goal
 
@@ -17,3 +17,6 @@ returns-clause-times c values lines right tied = all_in_time values lines right 
 
 pub returns-clause-commits : goal.returns-clause-commits
 returns-clause-commits c values lines right tied = all_called_first values lines right (ties_of values lines tied)
+
+pub returns-clause-called : goal.returns-clause-called
+returns-clause-called c values lines right tied = all_called values lines right (ties_of values lines tied)
