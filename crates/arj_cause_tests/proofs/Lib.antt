@@ -2,8 +2,12 @@ pub mod Words
 pub mod Worked
 pub mod Rare
 pub mod Rarer
+mod Halts
 mod Longer
+mod OtherEvents
+mod Whole
 mod WrongAnswers
+mod WrongDetails
 mod WrongEnds
-mod WrongEvents
+pub mod WrongEvents
 mod WrongNodes

@@ -60,6 +60,11 @@ lacking_from header past (w ∷ rest) = lacking_in (here_at header past w.0 w.1)
 abbrev pub lacking : Run → List ℕ
 lacking r = lacking_from r.header nothing_yet r.wrote
 
+-- the run after these events, from this one on
+abbrev pub end_from : Past → List Wrote → Past
+end_from past [] = past
+end_from past (w ∷ rest) = end_from (next past w.0 w.1) rest
+
 -- the lines with the one at this place, from 1, made into others
 abbrev pub change_in : ℕ → (Body → List Body) → List Body → List Body
 change_in zero f bodies = bodies
@@ -91,3 +96,14 @@ after n new r = change n (λ old. old ∷ new) r
 -- with others before it
 abbrev pub before : ℕ → List Body → Run → Run
 before n new r = change n (λ old. new ++ old ∷ []) r
+
+-- the run with another event, of this number, in the stead of the one that wrote its lines
+abbrev pub event_from : ℕ → Event → List Wrote → List Wrote
+event_from n e [] = []
+event_from zero e (w ∷ rest) = w ∷ rest
+event_from (suc zero) e (w ∷ rest) = (e, w.1) ∷ rest
+event_from (suc (suc n)) e (w ∷ rest) = w ∷ event_from (suc n) e rest
+
+-- the same of a run
+abbrev pub of_other_event : ℕ → Event → Run → Run
+of_other_event n e r = run r.header (event_from n e r.wrote)

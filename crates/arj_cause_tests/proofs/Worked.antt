@@ -297,7 +297,7 @@ naming_stopped = run
     )
     ∷ [])
 
-naming_stopped_has_causes : lacking naming_stopped ≡ []
+pub naming_stopped_has_causes : lacking naming_stopped ≡ []
 naming_stopped_has_causes = refl
 
 -- an independent action meets a lock of the one that began it

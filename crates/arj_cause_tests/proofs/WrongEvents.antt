@@ -1,5 +1,5 @@
 -- Lines that their event doesn't write: in each run some line lacks its cause.
-use Rattle.std.specs.Prelude.{◌≡◌, refl, List, [], ◌∷◌, codes, Some, None}
+use Rattle.std.specs.Prelude.{◌≡◌, refl, [], ◌∷◌, codes, None}
 use Rattle.arj_base.specs.declared.mode.Mode.TheVariants.{Write}
 use Rattle.arj_base.specs.declared.mode.End.TheVariants.{Commit}
 use Rattle.arj_class.specs.declared.op.Op.TheVariants as op
@@ -16,23 +16,28 @@ use Rattle.arj_msg.specs.Format.{byte}
 use Rattle.arj_msg.specs.Layout.{message}
 use Rattle.arj_cause_tests.proofs.Words.{Run, Wrote, after, b, before, instead, l, lacking, nodes, object_line, run, u}
 
-abbrev two_nodes : Header
+-- two nodes, all on the first
+abbrev pub two_nodes : Header
 two_nodes = nodes 2 (object_line 1 (value.Counter 0) (1 ∷ []) (1 ∷ []) ∷ [])
 
 -- an action begins at node 1
-abbrev begins : Wrote
+abbrev pub begins : Wrote
 begins = (event.Begin (l 65) 1, body.Began (l 65) kind.Top (u 1 1 1) None ∷ [])
 
 -- one increment, committed
 abbrev increment : Run
 increment = run two_nodes (
     begins
-    ∷ (event.Call (l 65) 1 (op.Add 1),
-    body.Granted 1 (u 1 1 1) (u 0 1 1) Write ∷ body.Bound 1 (b 1 1) 1 ∷ body.Active 1 1 (b 1 1) ∷ body.Lowered 1 (u 1 1 1) (u 0 1 1)
-    ∷ body.Granted 1 (u 1 1 1) (u 0 0 1) Write ∷ body.Ok (l 65) 1 (op.Add 1) (codes "done") ∷ [])
-    ∷ (event.Commit (l 65),
-    body.Committing (l 65) ∷ body.Prepared 1 (u 1 1 1) role.Store ∷ body.Committed (l 65) ∷ body.Done 1 (u 1 1 1) role.Store Commit
-    ∷ body.Told 1 (u 1 1 1) Commit part.Naming ∷ body.Told 1 (u 1 1 1) Commit part.Server ∷ [])
+    ∷ (
+      event.Call (l 65) 1 (op.Add 1),
+      body.Granted 1 (u 1 1 1) (u 0 1 1) Write ∷ body.Bound 1 (b 1 1) 1 ∷ body.Active 1 1 (b 1 1) ∷ body.Lowered 1 (u 1 1 1) (u 0 1 1)
+          ∷ body.Granted 1 (u 1 1 1) (u 0 0 1) Write ∷ body.Ok (l 65) 1 (op.Add 1) (codes "done") ∷ [],
+    )
+    ∷ (
+      event.Commit (l 65),
+      body.Committing (l 65) ∷ body.Prepared 1 (u 1 1 1) role.Store ∷ body.Committed (l 65) ∷ body.Done 1 (u 1 1 1) role.Store Commit
+          ∷ body.Told 1 (u 1 1 1) Commit part.Naming ∷ body.Told 1 (u 1 1 1) Commit part.Server ∷ [],
+    )
     ∷ [])
 
 increment_has_causes : lacking increment ≡ []

@@ -1,5 +1,5 @@
 -- Why a node prepares, ends and restarts as it does, and what the world does: the causes of the other lines.
-use Rattle.std.specs.Prelude.{ℕ, ◌+◌, ◌-◌, List, [], ◌∷◌, ◌++◌, filter, take, Bool, true, false, ◌==◌, ◌&&◌, ◌||◌, not, nat_lt, if◌then◌else◌, Option, Some, None}
+use Rattle.std.specs.Prelude.{ℕ, ◌+◌, ◌-◌, List, [], ◌∷◌, ◌++◌, filter, length, take, Bool, true, false, ◌==◌, ◌&&◌, ◌||◌, not, nat_lt, if◌then◌else◌, Option, Some, None}
 use Rattle.std.specs.List.{list_any, list_all}
 use Rattle.std.specs.Str.{bytes_eq}
 use Rattle.arj_base.specs.declared.mode.End.{End}
@@ -19,12 +19,12 @@ use Rattle.arj_text.specs.Label.{name}
 use Rattle.arj_model.specs.Actions.{Act, acts, path}
 use Rattle.arj_model.specs.Calls.{committings}
 use Rattle.arj_model.specs.Last.{entry_state, excluded, included, is_among, joins_of, last_state, listed, object_line, same_list, servers_of_line}
-use Rattle.arj_model.specs.Past.{Past}
+use Rattle.arj_model.specs.Past.{Asked, Past}
 use Rattle.arj_model.specs.Refusals.{frame_no, has_frame, incarnation, is_down, is_node, is_waiting, last_frame, refusal, was_called}
 use Rattle.arj_model.specs.Follows.{is_behind_doom, label_doomed}
 use Rattle.arj_model.specs.Outcome.{has_cause_to_abort}
 use Rattle.arj_model.specs.CauseSpans.{Here, act_by, holds_in, is_doomed, is_top_in, nodes_of, same_frame}
-use Rattle.arj_model.specs.CausePends.{changes_any, frame_is, has_some}
+use Rattle.arj_model.specs.CausePends.{changes_any, frame_is, has_some, is_crash_at}
 use Rattle.arj_model.specs.CauseLocks.{has_end_of}
 
 -- `prepared`. The commit of the action was called. A store prepares what it changed, naming the entries from which it excludes or
@@ -44,10 +44,19 @@ done_caused h n u r e = holds_in (λ a. has_end_of h.lines a e) (act_by h.lines 
 
 -- `halted`, `up`, `recovered`.
 
--- the event halts no other node: a crash names its own, and how often a disk stops its node is said beside
+-- The event halts no other node. A crash names its own; how often a disk stops its node is said beside (`count_stops`).
 abbrev pub may_halt : ℕ → Event → Bool
 may_halt n (event.Crash m) = m == n
 may_halt n _ = true
+
+-- the line says that the node halts
+abbrev pub is_halt : ℕ → Body → Bool
+is_halt n (body.Halted m) = m == n
+is_halt n _ = false
+
+-- how often it halted in other events than its crashes: a disk has stopped it each time
+abbrev pub count_stops : List Asked → List Line → ℕ → ℕ
+count_stops accepted lines n = length (filter (λ line. is_halt n line.body && not (is_crash_at accepted n line.event)) lines)
 
 -- the event restarts the node
 abbrev pub restarts : ℕ → Event → Bool

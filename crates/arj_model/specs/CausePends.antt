@@ -88,12 +88,15 @@ frame_is test lines k = list_any (λ line. sends test k line.body) lines
 abbrev pub is_prepare : ℕ → ℕ → ℕ → ℕ → FrameKind → Bool
 is_prepare home n from to carried = (from == home) && ((to == n) && same_frame carried frame.Prepare)
 
+-- the event with this number is one
+abbrev pub is_crash_at : List Asked → ℕ → ℕ → Bool
+is_crash_at accepted n number = list_any (λ k. (k.number == number) && is_crash n k.event) accepted
+
 -- In an event with this number that isn't its crash, behind these lines, the node stops while it takes a Prepare from home: the
 -- last frame delivered in the event is one, or the node is home itself.
 abbrev pub halts_preparing : List Asked → ℕ → ℕ → List Line → ℕ → Bool
 halts_preparing accepted home n before number =
-    not (list_any (λ k. (k.number == number) && is_crash n k.event) accepted)
-    && ((n == home) || holds_in (frame_is (is_prepare home n) before) (last_got number None before))
+    not (is_crash_at accepted n number) && ((n == home) || holds_in (frame_is (is_prepare home n) before) (last_got number None before))
 
 -- whether a state of the action may be prepared at the node after a line, by whether it may before
 abbrev pub pends_step : Bool → ℕ → Uid → Body → Bool → Bool
