@@ -1,0 +1,48 @@
+use Rattle.std.proofs.Common.{rules, ◌≡◌, ◌<◌, ◌==◌, ℕ, List, Option, Some, None, map, true, IfOk, OnOk, IsSomeAnd, if◌then◌else◌, slice_get, ◌+◌, ◌-◌, ◌*◌, ◌≤◌, length, ◌/◌, ◌%◌, Bool, false, nat_eq, nat_lt, [], ◌∷◌, ◌++◌, slice_index_or, slice_set, bit_and, bit_or, Fits, w8, w32, w64, Bor, MutBor}
+use Rattle.std.specs.BTreeMap.{get}
+use Rattle.std.specs.List.{AllByRecursion}
+use Rattle.std.specs.Option.{option_copied}
+use Rattle.std.specs.Ordering.{nat_cmp}
+use Rattle.arj_class.specs.Table.{answer_of, class_of, has_op, value_after}
+use Rattle.arj_class.specs.declared.op.Op.{Op as op_type}
+use Rattle.arj_class.specs.declared.value.Value.{Value as value_type}
+use Rattle.arj_journal.specs.declared.body.Body.TheVariants as line_body
+use Rattle.arj_journal.specs.declared.header.Header.{Header as header_type}
+use Rattle.arj_text.specs.declared.label.Label.{Label as label_type}
+use Rattle.arj_model.specs.Calls.{Call}
+use Rattle.arj_model.specs.Last.{first_values as values_of_header}
+use Rattle.arj_model.specs.Last.{object_line}
+use Rattle.arj_model.specs.Serial.{Values, after, with_value}
+use Rattle.arj_reading.specs.Readable.{is_in_form as has_form}
+use Rattle.arj_reading.specs.Readable.{object_rule}
+use Rattle.arj_replay.specs.Verdict.{HasCall, HasValues, IsWrong, differs_or, first_among, first_difference, or_value, wanted_of}
+use Rattle.arj_replay.proofs.run.replay.Goals as goal
+use Rattle.std.proofs.Common.{◌∙◌, ap, sym, subst, refl, drop}
+use Rattle.arj_replay.proofs.Runs.{agrees, at_first, differs, next_place}
+
+pub loop-place-init : goal.loop-place-init
+loop-place-init c = λ calls same all. (values_of_header c.args.header.now, at_first c.args.header.now c.in_ok-values.values (λ x. c.in_ok-values.ensures x ∙ ap (λ os. first_among os x) c.as_slice.ensures), refl)
+
+pub returns-in-Some : goal.returns-in-Some
+returns-in-Some c = λ calls same all.
+    let lt : c.loop-place.place-index < length c.args.places.now = search rules in
+    let n = next_place c.args.header.now c.args.lines.now calls c.args.places.now c.loop-place.place-index same lt all in
+    let before = c.loop-place.invariant calls same all in
+    let goes : first_difference before.0 (drop c.loop-place.place-index calls) ≡ differs_or n.call.at (wanted_of n.call.op (before.0 n.call.x) n.call.answer) (first_difference (after before.0 n.call) (drop (c.loop-place.place-index + 1) calls)) = ap (first_difference before.0) n.rest in
+    let said = c.in_ok-wrong.ensures.wrong c.args.header.now before.0 n.call n.at n.has before.1 in
+    let found : IsWrong c.args.lines.now (differs_or n.call.at (wanted_of n.call.op (before.0 n.call.x) n.call.answer) None) (Some c.in-Some.wrong) = subst (IsWrong c.args.lines.now (differs_or n.call.at (wanted_of n.call.op (before.0 n.call.x) n.call.answer) None)) c.in-Some.is said in
+    subst (λ d. IsWrong c.args.lines.now d (Some c.in-Some.wrong)) (sym goes ∙ before.2)
+    (differs c.args.lines.now n.call.at (wanted_of n.call.op (before.0 n.call.x) n.call.answer) (first_difference (after before.0 n.call) (drop (c.loop-place.place-index + 1) calls)) c.in-Some.wrong found)
+
+pub loop-place-preserved : goal.loop-place-preserved
+loop-place-preserved c = λ calls same all.
+    let lt : c.loop-place.place-index < length c.args.places.now = search rules in
+    let n = next_place c.args.header.now c.args.lines.now calls c.args.places.now c.loop-place.place-index same lt all in
+    let before = c.loop-place.invariant calls same all in
+    let goes : first_difference before.0 (drop c.loop-place.place-index calls) ≡ differs_or n.call.at (wanted_of n.call.op (before.0 n.call.x) n.call.answer) (first_difference (after before.0 n.call) (drop (c.loop-place.place-index + 1) calls)) = ap (first_difference before.0) n.rest in
+    let said = c.in_ok-wrong.ensures.wrong c.args.header.now before.0 n.call n.at n.has before.1 in
+    let none : IsWrong c.args.lines.now (differs_or n.call.at (wanted_of n.call.op (before.0 n.call.x) n.call.answer) None) None = subst (IsWrong c.args.lines.now (differs_or n.call.at (wanted_of n.call.op (before.0 n.call.x) n.call.answer) None)) c.in_default.is said in (
+      after before.0 n.call,
+      c.in_ok-wrong.ensures.values c.args.header.now before.0 n.call n.at n.has before.1,
+      sym (goes ∙ agrees c.args.lines.now n.call.at (wanted_of n.call.op (before.0 n.call.x) n.call.answer) (first_difference (after before.0 n.call) (drop (c.loop-place.place-index + 1) calls)) none) ∙ before.2,
+    )
