@@ -20,7 +20,7 @@ use Rattle.arj_reading.specs.Readable.{act_by, called, called_of}
 use Rattle.arj_reading.specs.Reading.{HasRead, actions_of, first_place, found_with, known_with, labelled_with, listed_with, marked, next_of, noted, placed_of, said_at}
 use Rattle.arj_reading.specs.declared.mark.Mark.{Mark}
 use Rattle.arj_reading.specs.declared.reading.Reading.{Reading}
-use Rattle.arj_reading.proofs.Kept.{length_actions}
+use Rattle.arj_reading.proofs.Numbers.{length_actions}
 
 -- one item more at the end
 first_put : (es : List (Placed ℕ)) (n : ℕ) (o : Option ℕ) (i : ℕ) → first_place (es ++ put n o []) i ≡ noted o n (first_place es i) i

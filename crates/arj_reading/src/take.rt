@@ -163,8 +163,8 @@ fn next(reading: &Reading, body: &Body) -> Option<Next>
     }
 }
 
-// Notes the place of the first item of a number, where there is one.
-fn note(
+/// Notes the place of the first item of a number, where there is one.
+pub fn note(
     map: &mut BTreeMap<usize, usize>,
     number: Option<usize>,
     at: usize,

@@ -8,7 +8,7 @@ use Rattle.arj_reading.specs.Reading.{HasRead, above_in}
 use Rattle.arj_reading.proofs.lookup.is_called.Goals as goal
 use Rattle.std.proofs.Common.{◌∙◌, ap}
 use Rattle.std.specs.Prelude.{is_some}
-use Rattle.arj_reading.proofs.Kept.{first_has}
+use Rattle.arj_reading.proofs.Numbers.{first_has}
 
 pub returns : goal.returns
 returns c = λ lines has. c.contains_key.ensures ∙ ap is_some (has.called_at c.args.named.number) ∙ first_has (called lines) c.args.named.number

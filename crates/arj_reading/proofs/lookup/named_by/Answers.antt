@@ -7,7 +7,7 @@ use Rattle.arj_reading.specs.Readable.{called, known, named}
 use Rattle.arj_reading.specs.Reading.{HasRead, above_in}
 use Rattle.arj_reading.proofs.lookup.named_by.Goals as goal
 use Rattle.std.proofs.Common.{◌∙◌, ap, sym}
-use Rattle.arj_reading.proofs.Kept.{are_numbered, by_label, named_here}
+use Rattle.arj_reading.proofs.Numbers.{are_numbered, by_label, named_here}
 
 pub returns : goal.returns
 returns c = λ lines has.

@@ -27,7 +27,7 @@ use Rattle.arj_reading.specs.Reading.{HasRead, capped}
 use Rattle.arj_reading.proofs.rules.depth_above.Goals as goal
 use Rattle.std.proofs.Common.{◌∙◌, ap, sym}
 use Rattle.arj_reading.specs.Reading.{action_of}
-use Rattle.arj_reading.proofs.Kept.{are_numbered, found_above, none_above}
+use Rattle.arj_reading.proofs.Numbers.{are_numbered, found_above, none_above}
 
 pub returns-in-None : goal.returns-in-None
 returns-in-None c = λ lines has. ap (λ p. capped (length p)) (sym (none_above (acts lines) c.args.kind (option_map name c.args.parent.now) (sym (c.above.ensures lines has) ∙ c.in-None.is)))

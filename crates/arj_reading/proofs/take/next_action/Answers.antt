@@ -13,7 +13,7 @@ use Rattle.arj_reading.specs.Reading.{HasRead, above_in, action_of, capped, foun
 use Rattle.arj_reading.proofs.take.next_action.Goals as goal
 use Rattle.std.proofs.Common.{◌∙◌, ap, sym}
 use Rattle.arj_model.specs.Actions.{path, upwards}
-use Rattle.arj_reading.proofs.Kept.{alone_is, are_numbered, below_is, found_above, length_actions}
+use Rattle.arj_reading.proofs.Numbers.{alone_is, are_numbered, below_is, found_above, length_actions}
 
 pub returns-in-None : goal.returns-in-None
 returns-in-None c = λ lines a has id kind uid parent.
