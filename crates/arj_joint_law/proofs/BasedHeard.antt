@@ -86,7 +86,7 @@ module _ (f : Fixed) (x k : ℕ) (S : State) (W : World) (d : Disk) (t v : Parts
         by None does e = absurd (cc e)
         by (Some q) does e = by_now q does q.now refl e
 
-    yes : IsYesBased f x S W M.sent post a states
+    yes : IsYesBased x (IsVotedState f x S W) M.sent post a states
     yes = are.yeses post a states posted answering
 
     one_state : (st : ObjectState) → Contains states st → list.In st states → st.uid ≡ object x → IsVotedState f x S W st

@@ -19,7 +19,7 @@ use Rattle.arj_lock_law.proofs.Order.{go_on, run_keeps, start_holds, step_keeps}
 use Rattle.arj_lock_log_law.proofs.Homes.{counting_is_old}
 use Rattle.arj_lock_run_law.specs.Fixed.{Fixed}
 use Rattle.arj_view_law.specs.Seen.{Post, Within}
-use Rattle.arj_joint_law.specs.Based.{CopiesAreBased, IsBasedAt, IsKnownAs, IsVotedOver, IsYesBased, coord_fits, post_fits}
+use Rattle.arj_joint_law.specs.Based.{CopiesAreBased, IsBasedAt, IsKnownAs, IsVotedOver, IsVotedState, IsYesBased, coord_fits, post_fits}
 use Rattle.arj_joint_law.proofs.StateWider.{IsWider, coord_wider, message_wider}
 
 bound_rises : {s t : State} → Run s t → Holds s → s.naming.bound ≤ t.naming.bound
@@ -101,7 +101,7 @@ module _ (f : Fixed) (x : ℕ) (S T : State) (W V : World) (reached : Run (start
   pub copies_on : (s : Server) → CopiesAreBased x S W s → CopiesAreBased x T V s
   copies_on s all = all_each _ _ s.objects (λ (e : ℕ × Copy) its same. let c = e.1 in let b = c.base in based_on (binding_number c.binding) b.version b.writer (its same)) all
 
-  pub yes_on : (sent more : List Post) (p : Post) (a : Asked) (states : List ObjectState) → Within sent more → IsYesBased f x S W sent p a states → IsYesBased f x T V more p a states
+  pub yes_on : (sent more : List Post) (p : Post) (a : Asked) (states : List ObjectState) → Within sent more → IsYesBased x (IsVotedState f x S W) sent p a states → IsYesBased x (IsVotedState f x T V) more p a states
   yes_on sent more p a states within y = record {
     request = y.request;
     asked = within y.request y.asked;

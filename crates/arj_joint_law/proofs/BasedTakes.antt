@@ -113,7 +113,7 @@ module _ (f : Fixed) (apart : AreApart f.code) (x k : ℕ) (begun : List Action)
     zip (Say z ∷ es) a b = (tt, zip es a.1 b.1)
     zip (Do z ∷ es) a b = (b.0, zip es a.1 b.1)
 
-    new_based : (c : Disk) (N : Seen) (T : State) (V : World) → Within M.sent N.sent → Run S T → IsLater W V → SeesLocks f x begun T (up k c v N) → PartsAreBased f x T V v → (p : Post) (a : Asked) (states : List ObjectState) → New p a states → IsYesBased f x T V N.sent p a states
+    new_based : (c : Disk) (N : Seen) (T : State) (V : World) → Within M.sent N.sent → Run S T → IsLater W V → SeesLocks f x begun T (up k c v N) → PartsAreBased f x T V v → (p : Post) (a : Asked) (states : List ObjectState) → New p a states → IsYesBased x (IsVotedState f x T V) N.sent p a states
     new_based c N T V within run later at its p a states (h, i, ties, ends, asking, new) = new_yes f x k begun from m h i ties ends t.server asking v lists left c N T V (within (record { from = from; to = k; message = m }) posted) at its p a states new
       where
         left : v.server ≡ (let r = server.vote k h.path i ties ends t.server in r.part)

@@ -30,7 +30,7 @@ use Rattle.arj_lock_run_law.specs.Posts.{IsAskedSeen}
 use Rattle.arj_lock_run_law.specs.Sees.{SeesLocks, SeesUp}
 use Rattle.arj_view_law.specs.Seen.{In, Post, Seen, Within, at, posted, said, up}
 use Rattle.arj_view_law.specs.Walks.{Up, Walks, halted}
-use Rattle.arj_joint_law.specs.Based.{AreBased, CopiesAreBased, IsVotedOver, IsYesBased, coord_fits, post_fits}
+use Rattle.arj_joint_law.specs.Based.{AreBased, CopiesAreBased, IsVotedOver, IsVotedState, IsYesBased, coord_fits, post_fits}
 use Rattle.arj_joint_law.proofs.BasedLater.{coord_on, copies_on, post_on, yes_on}
 use Rattle.arj_joint_law.proofs.BasedYeses.{votes_are_over}
 
@@ -57,7 +57,7 @@ module _ (f : Fixed) (x k : ℕ) (begun : List Action) (S : State) (W : World) (
 
   -- what was sent
   abbrev OldYes : Post → Asked → List ObjectState → Type 0
-  OldYes p a states = IsYesBased f x S W M.sent p a states
+  OldYes p a states = IsYesBased x (IsVotedState f x S W) M.sent p a states
 
   abbrev pub Fits : List Post → Type 0
   Fits sent = Within M.sent sent × ((p : Post) → In p sent → MessageIsSo (post_fits x W) p.message) × ((p : Post) (a : Asked) (states : List ObjectState) → In p sent → answers p.message ≡ Some (a, Reply.Voted (voted.Yes states)) → OldYes p a states ⊎ IsNew p a states)
@@ -83,7 +83,7 @@ module _ (f : Fixed) (x k : ℕ) (begun : List Action) (S : State) (W : World) (
           (node_cases N k (record { number = k; disk = c; live = None }) j n there))
 
   module _ (v : Parts) (its : PartsAreBased f x S W v)
-      (new_based : (c : Disk) (N : Seen) (T : State) (V : World) → Within M.sent N.sent → Run S T → IsLater W V → SeesLocks f x begun T (up k c v N) → PartsAreBased f x T V v → (p : Post) (a : Asked) (states : List ObjectState) → IsNew p a states → IsYesBased f x T V N.sent p a states) where
+      (new_based : (c : Disk) (N : Seen) (T : State) (V : World) → Within M.sent N.sent → Run S T → IsLater W V → SeesLocks f x begun T (up k c v N) → PartsAreBased f x T V v → (p : Post) (a : Asked) (states : List ObjectState) → IsNew p a states → IsYesBased x (IsVotedState f x T V) N.sent p a states) where
     ended : (c : Disk) (N : Seen) → N.nodes ≡ M.nodes → Fits N.sent → Next (up k c v N)
     ended c N same fits T V run later sees = record {
       copies = λ j n t there live. (parts j n t there live).0;
@@ -118,7 +118,7 @@ module _ (f : Fixed) (x k : ℕ) (begun : List Action) (from : ℕ) (m : Message
   IsNewYes p a states = (p.from ≡ k) × (p.to ≡ from) × (a ≡ asked_by h) × ((let r = server.vote k h.path i ties ends s in r.reply) ≡ Some (voted.Yes states))
 
   module _ (v : Parts) (lists : ListsEach v.server) (are : v.server ≡ (let r = server.vote k h.path i ties ends s in r.part)) where
-    pub new_yes : (c : Disk) (N : Seen) (T : State) (V : World) → In (record { from = from; to = k; message = m }) N.sent → SeesLocks f x begun T (up k c v N) → PartsAreBased f x T V v → (p : Post) (a : Asked) (states : List ObjectState) → IsNewYes p a states → IsYesBased f x T V N.sent p a states
+    pub new_yes : (c : Disk) (N : Seen) (T : State) (V : World) → In (record { from = from; to = k; message = m }) N.sent → SeesLocks f x begun T (up k c v N) → PartsAreBased f x T V v → (p : Post) (a : Asked) (states : List ObjectState) → IsNewYes p a states → IsYesBased x (IsVotedState f x T V) N.sent p a states
     new_yes c N T V there sees its p a states new = record {
       request = record { from = from; to = k; message = m };
       asked = there;

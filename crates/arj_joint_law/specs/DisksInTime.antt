@@ -10,7 +10,7 @@ use Rattle.arj_disk.specs.declared.slot.Role.TheVariants as role
 use Rattle.arj_journal.specs.declared.body.Line.{Line}
 use Rattle.arj_journal.specs.declared.header.Header.{Header}
 use Rattle.arj_model.specs.Calls.{Top, tops}
-use Rattle.arj_model.specs.Disks.{Disks, Reading, held, pend}
+use Rattle.arj_model.specs.Disks.{Disks, Reading, held}
 use Rattle.arj_model.specs.Last.{is_among, last_state}
 use Rattle.arj_protocol.specs.Values.{state_entry}
 use Rattle.arj_view_law.specs.Moves.{Move, world_by}
@@ -29,7 +29,7 @@ pub record Lists (read : Reading) (x s : ℕ) : Type 0 where
 
 -- on the disk the action has prepared this state
 abbrev pub HasPrepared : Reading → Role → Uid → ObjectState → Type 0
-HasPrepared read r act st = IsSomeAnd (pend read r act) (λ states. new_of states (let z = st in z.uid) ≡ Some (state_bytes st))
+HasPrepared read r act st = IsSomeAnd (read.pend r act) (λ states. new_of states (let z = st in z.uid) ≡ Some (state_bytes st))
 
 -- On naming's disk an entry of the object without the store is prepared, for the top or for another committed constituent of its serializing
 -- action.

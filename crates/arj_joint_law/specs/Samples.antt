@@ -134,11 +134,11 @@ prepared_with r (Some new) q a = if role_eq q r && uid_eq a its_uid then Some ((
 
 -- a disk with one state of a role, and another one prepared there for the top, or nothing
 abbrev pub reading_with : Side → ObjectState → Option ObjectState → Reading
-reading_with r held new = record {
-  committed = λ q u. if role_eq q r && uid_eq u held.uid then Some (state_bytes held) else None;
-  prepared = prepared_with r new;
+reading_with r state new = record {
+  held = λ q u. if role_eq q r && uid_eq u state.uid then Some (state_bytes state) else None;
+  pend = prepared_with r new;
   records = λ a. None;
-  incarnation = 1;
+  inc = 1;
 }
 
 -- The stores 2 and 3 hold the first state, and store 2 has the new one prepared; naming's entry is the old one, and this one is prepared, if any.

@@ -5,7 +5,7 @@ use Rattle.arj_disk.specs.declared.slot.Role.{Role}
 use Rattle.arj_disk.specs.declared.slot.Role.TheVariants as role
 use Rattle.arj_journal.specs.ScriptForm.{HeaderInForm}
 use Rattle.arj_model.specs.Actions.{Placed}
-use Rattle.arj_model.specs.Disks.{Disks, Reading, held, pend}
+use Rattle.arj_model.specs.Disks.{Disks, Reading}
 use Rattle.arj_model.specs.Last.{Inclusion, included, is_among, listed, object_line}
 use Rattle.arj_protocol.specs.Effect.{Disk, Intent}
 use Rattle.arj_protocol.specs.Order.{at_uid}
@@ -20,7 +20,7 @@ use Rattle.arj_serial_law.specs.Readings.{AreShown}
 
 -- the pair of a role, as a disk is read
 abbrev pub pair_in : Reading → Role → Pair
-pair_in read r = record { held = held read r; pend = pend read r }
+pair_in read r = record { held = λ u. read.held r u; pend = λ a. read.pend r a }
 
 -- a record of a commit, as it is read
 abbrev pub record_of : Intent → Record
@@ -31,7 +31,7 @@ pub record IsReadingOf (read : Reading) (d : Disk) : Type 0 where
   pub store : IsPairOf (pair_in read role.Store) d.store
   pub names : IsPairOf (pair_in read role.Names) d.names
   pub records : (top : Uid) → (let r = read in r.records top) ≡ option_map record_of (at_uid top d.intents)
-  pub incarnation : (let r = read in r.incarnation) ≡ d.inc
+  pub inc : (let r = read in r.inc) ≡ d.inc
 
 -- so it is of the disk of each node
 abbrev pub DisksAre : Seen → Disks → Type 0

@@ -1,6 +1,8 @@
 -- A line outside of events takes nothing of what a run shows.
 use Rattle.std.proofs.Common.{◌≡◌, ◌⊎◌, inl, inr, ⊎_elim, ◌<◌, ◌≤◌, ◌++◌, ◌==◌, ◌&&◌, nat_lt, ℕ, zero, suc, Bool, true, false, cond, not, List, [], ◌∷◌, Option, Some, None, map, length, refl, sym, ◌∙◌, ap, subst, append-nil, filter}
 use Rattle.std.specs.Prelude.{Contains, take}
+use Rattle.std.proofs.lemmas.List.{append_assoc}
+use Rattle.arj_view_law.specs.Moves.{journal_by}
 use Rattle.std.specs.List.{AllByRecursion, filter_map, list_all, list_any}
 use Rattle.arj_base.specs.Rows.{Row, is_on, last_uid}
 use Rattle.arj_base.specs.State.{state_bytes}
@@ -115,6 +117,11 @@ cut_more e (k ∷ lines) l = by (nat_lt k.event e) (cut_more e lines l)
         → (cond b (k ∷ lines_before e (more lines l)) [] ≡ cond b (k ∷ lines_before e lines) []) ⊎ (cond b (k ∷ lines_before e (more lines l)) [] ≡ more (cond b (k ∷ lines_before e lines) []) l)
     by true cut = ⊎_elim (λ same. inl (ap (λ ks. k ∷ ks) same)) (λ one. inr (ap (λ ks. k ∷ ks) one)) cut
     by false cut = inl refl
+
+-- what holds of each line, and of one more
+one_more : (P : Line → Type 0) (lines : List Line) (l : Line) → AllByRecursion P lines → P l → AllByRecursion P (lines ++ l ∷ [])
+one_more P [] l all its = (its, tt)
+one_more P (k ∷ lines) l all its = (all.0, one_more P lines l all.1 its)
 
 -- lists that end alike have like fronts
 pub one_behind : {A : Type 0} (xs ys : List A) (x y : A) → xs ++ x ∷ [] ≡ ys ++ y ∷ [] → (xs ≡ ys) × (x ≡ y)
@@ -354,6 +361,15 @@ module _ (lines : List Line) (l : Line) (is : ends_run l.body ≡ true) where
 
   promise_more : {D : Type 0} (d : disk.Ghosts D) (read : Reads) (t : Task D) (over : Bool) (rack : List D) → ShowsThePromise d read t over lines rack → ShowsThePromise d read t over (more lines l) rack
   promise_more d read t over rack shows = record {
+    run = let r = shows.run in record {
+      moves = r.moves;
+      are = r.are;
+      form = r.form;
+      last = more r.last l;
+      outside = one_more (λ (k : Line). ends_run k.body ≡ true) r.last l r.outside is;
+      lines = ap (λ ls. ls ++ l ∷ []) r.lines ∙ append_assoc (journal_by t.header r.moves) r.last (l ∷ []);
+      disks = r.disks;
+    };
     serial = serial_more t.header shows.serial;
     book = book_more (first_values t.header) shows.book;
     held = holds_more shows.held;

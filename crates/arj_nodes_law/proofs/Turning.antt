@@ -1,5 +1,5 @@
 -- Turns of nodes are moves.
-use Rattle.std.proofs.Common.{◌≡◌, ◌≤◌, ◌<◌, ◌++◌, ℕ, zero, suc, Bool, true, false, inl, inr, List, [], ◌∷◌, length, map, Option, Some, None, refl, sym, ◌∙◌, ap, subst, arith}
+use Rattle.std.proofs.Common.{append-nil, ◌≡◌, ◌≤◌, ◌<◌, ◌++◌, ℕ, zero, suc, Bool, true, false, inl, inr, List, [], ◌∷◌, length, map, Option, Some, None, refl, sym, ◌∙◌, ap, subst, arith}
 use Rattle.std.specs.Prelude.{slice_get}
 use Rattle.std.proofs.Math.Logic.{⊎_elim}
 use Rattle.std.specs.List.{AllByRecursion}
@@ -52,9 +52,9 @@ use Rattle.arj_promise_law.specs.Resting.{HoldAllStates}
 use Rattle.arj_promise_law.proofs.Keeping.{quiet_end, runs_keep}
 use Rattle.arj_nodes_law.specs.Cores.{SaysReadings}
 use Rattle.arj_nodes_law.specs.Last.{EndsBehind, IsLast, ends_run}
-use Rattle.arj_nodes_law.specs.Promised.{EndsIdle, ShowsThePromise}
+use Rattle.arj_nodes_law.specs.Promised.{EndsIdle, ShowsThePromise, event_of}
 use Rattle.arj_nodes_law.specs.Readings.{Reads, files_at, readings_of}
-use Rattle.arj_nodes_law.specs.Turns.{Came, ClosesMove, ClosesShow, HasMoved, NodesMove, RunsShow, ScriptsMove, SoFarShows, StopsShow, as_move, event_of}
+use Rattle.arj_nodes_law.specs.Turns.{Came, ClosesMove, ClosesShow, HasMoved, NodesMove, RunsShow, ScriptsMove, SoFarShows, StopsShow, as_move}
 
 pub turns_move : (ts : List Turn) (w : World) → all_turned ts w ≡ all_moved (map as_move ts) w
 turns_move [] w = refl
@@ -156,6 +156,7 @@ module _ {C D : Type 0} (c : core.Ghosts C) (d : disk.Ghosts D) (read : Reads) (
   -- what is at hand shows the promise
   moved_shows : (t : Task D) (over : Bool) (now : Hand C D) → HasMoved c d t over now → ShowsThePromise d read t over now.journal now.disks
   moved_shows t over now h = record {
+    run = record { moves = h.moves; are = h.are; form = h.form; last = []; outside = tt; lines = h.journal ∙ sym (append-nil (journal_by t.header h.moves)); disks = are };
     serial = subst (IsSerialBy t.header) (sym h.journal) k.serial;
     book = subst (KeepsTheBook (first_values t.header)) (sym h.journal) k.book;
     held = subst HoldsEach (sym h.journal) k.held;

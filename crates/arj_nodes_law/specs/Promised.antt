@@ -1,10 +1,13 @@
 -- What the journal of a run shows of the promise, and the disks that the run leaves.
-use Rattle.std.specs.Prelude.{◌≡◌, ◌++◌, ℕ, Bool, true, false, List, [], ◌∷◌, length}
+use Rattle.std.specs.Prelude.{◌≡◌, ◌++◌, ℕ, Bool, true, false, List, [], ◌∷◌, length, map}
+use Rattle.std.specs.List.{AllByRecursion}
 use Rattle.arj_disk.specs.declared.disk.Disk as disk
 use Rattle.arj_held_law.specs.Along.{HoldsEach}
 use Rattle.arj_joint_law.specs.Booked.{KeepsTheBook}
 use Rattle.arj_joint_law.specs.DisksInTime.{DisksAreInTime}
+use Rattle.arj_joint_law.specs.FitRuns.{IsInForm}
 use Rattle.arj_joint_law.specs.Outcome.{ShowsOneOutcome}
+use Rattle.arj_joint_law.specs.Shown.{DisksAre}
 use Rattle.arj_journal.specs.declared.event.Event.{Event}
 use Rattle.arj_model.specs.Clean.{Clean}
 use Rattle.arj_model.specs.Last.{first_values}
@@ -14,7 +17,9 @@ use Rattle.arj_protocol.specs.Words.{Line}
 use Rattle.arj_protocol.specs.Words.body
 use Rattle.arj_protocol.specs.Words.event
 use Rattle.arj_serial_law.specs.Seen.{IsSerialBy}
-use Rattle.arj_nodes_law.specs.Last.{EndsBehind, IsLast}
+use Rattle.arj_view_law.specs.Moves.{Move, journal_by, world_by}
+use Rattle.arj_view_law.specs.Seen.{see}
+use Rattle.arj_nodes_law.specs.Last.{EndsBehind, IsLast, ends_run}
 use Rattle.arj_nodes_law.specs.Readings.{Reads, readings_of}
 
 -- The last event is a quiesce, and the journal's last line, but for one outside of events, says that every node is idle.
@@ -27,9 +32,26 @@ pub record EndsIdle (events : List Event) (lines : List Line) : Type 0 where
   pub outside : IsLast last
   pub line : lines ≡ front ++ record { event = number; body = body.Quiet true } ∷ last
 
+-- the event of a move
+abbrev pub event_of : Move → Event
+event_of m = let a = m.asked in a.event
+
+-- The journal, but for lines outside of events, is that of a run in form of the protocol with these events, whatever stops fell in it; and each
+-- node's disk is what the files of its disk say: its pairs, its records and its incarnation.
+pub record IsOfRun {D : Type 0} (d : disk.Ghosts D) (read : Reads) (t : Task D) (journal : List Line) (rack : List D) : Type 0 where
+  pub moves : List Move
+  pub are : map event_of moves ≡ t.events
+  pub form : IsInForm t.header moves
+  pub last : List Line
+  pub outside : AllByRecursion (λ (l : Line). ends_run l.body ≡ true) last
+  pub lines : journal ≡ journal_by t.header moves ++ last
+  pub disks : DisksAre (see [] (world_by t.header moves)) (readings_of d read rack)
+
 -- A run shows the promise (`arj_promise_law`): by its journal, which may have a line outside of events behind it, and by the files of its disks, as
 -- they are read. Whether the run is over, since a frame was too many, is told beside.
 pub record ShowsThePromise {D : Type 0} (d : disk.Ghosts D) (read : Reads) (t : Task D) (over : Bool) (journal : List Line) (rack : List D) : Type 0 where
+  -- it is a run of the protocol, whose nodes' disks the files say
+  pub run : IsOfRun d read t journal rack
   -- committed tops got the answers of running them alone, one after another, and so did nested actions, each whole at its commit
   pub serial : IsSerialBy (let a = t in a.header) journal
   -- calls that conflict stand in the order in which locks let them through, and each is answered by the writes before it

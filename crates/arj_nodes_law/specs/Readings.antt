@@ -14,10 +14,10 @@ Reads = FileMap → Reading
 -- With an object store: each role's pair as the store has it by the files, and the records and the incarnation as every disk has them.
 abbrev pub reading_of : {O : Type 0} → store.Ghosts O → Reads
 reading_of o file = record {
-  committed = λ role u. (let p = o.pair file role in p.held u);
-  prepared = λ role a. (let p = o.pair file role in p.pend a);
+  held = λ role u. (let p = o.pair file role in p.held u);
+  pend = λ role a. (let p = o.pair file role in p.pend a);
   records = files.records file;
-  incarnation = files.inc file;
+  inc = files.inc file;
 }
 
 -- the files of a disk, if one is there

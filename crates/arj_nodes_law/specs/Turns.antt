@@ -5,7 +5,6 @@ use Rattle.std.specs.List.{AllByRecursion}
 use Rattle.arj_core.specs.declared.node.Core as core
 use Rattle.arj_disk.specs.declared.disk.Disk as disk
 use Rattle.arj_journal.specs.ScriptForm.{EventInForm, HeaderInForm}
-use Rattle.arj_journal.specs.declared.event.Event.{Event}
 use Rattle.arj_loop.specs.Input.{Arrived}
 use Rattle.arj_loop.specs.Replayed.{Answer, Closes, ComesSoFar, EndsSo, Outside, StopsShort}
 use Rattle.arj_loop.specs.Running as loop
@@ -26,7 +25,7 @@ use Rattle.arj_joint_law.specs.FitRuns.{IsInForm}
 use Rattle.arj_joint_law.specs.Shown.{DisksAre}
 use Rattle.arj_nodes_law.specs.Cores.{SaysReadings}
 use Rattle.arj_nodes_law.specs.Last.{EndsBehind, IsLast}
-use Rattle.arj_nodes_law.specs.Promised.{ShowsThePromise}
+use Rattle.arj_nodes_law.specs.Promised.{ShowsThePromise, event_of}
 use Rattle.arj_nodes_law.specs.Readings.{Reads, readings_of}
 
 -- ---- turns
@@ -34,10 +33,6 @@ use Rattle.arj_nodes_law.specs.Readings.{Reads, readings_of}
 -- a turn as a move: its event arms nothing, and these stops fell in it
 abbrev pub as_move : Turn → Move
 as_move t = record { asked = asked t.event; falls = t.falls }
-
--- the event of a move
-abbrev pub event_of : Move → Event
-event_of m = let a = m.asked in a.event
 
 -- ---- what is run
 

@@ -26,7 +26,7 @@ disk_so o file d is = record {
   store = pair_so o file _ d.store is.store;
   names = pair_so o file _ d.names is.names;
   records = λ top. (let i = is.intents in read_back (records file top) ∙ ap (option_map record_of) (sym (i.there top)));
-  incarnation = sym is.inc;
+  inc = sym is.inc;
 }
 
 pub parts_rest : {O : Type 0} (o : Ghosts O) → PartsRest o

@@ -8,7 +8,7 @@ use Rattle.arj_disk.specs.Says.{names}
 use Rattle.arj_disk.specs.declared.slot.Role.{Role}
 use Rattle.arj_disk.specs.declared.slot.Role.TheVariants.{Names, Store}
 use Rattle.arj_joint_law.specs.Shown.{IsReadingOf, record_of}
-use Rattle.arj_model.specs.Disks.{InDoubt, Reading, pend}
+use Rattle.arj_model.specs.Disks.{InDoubt, Reading}
 use Rattle.arj_protocol.specs.Node.{Parts}
 use Rattle.arj_protocol.specs.Order.{at_uid}
 use Rattle.arj_protocol.specs.Step.{Node, has_none, is_idle, is_idle_with, is_settled, waits_for_nothing}
@@ -42,7 +42,7 @@ nothing_left read a are idle = record {
   records = λ top. are.records top ∙ ap (option_map record_of) (none_there (let d = a.disk in d.intents) top (idle_free a idle).2);
 }
   where
-    by : (r : Role) → (has_none (let d = a.disk in let p = d.store in p.pend) ≡ true) × (has_none (let d = a.disk in let p = d.names in p.pend) ≡ true) × (has_none (let d = a.disk in d.intents) ≡ true) → (act : Uid) → pend read r act ≡ None
+    by : (r : Role) → (has_none (let d = a.disk in let p = d.store in p.pend) ≡ true) × (has_none (let d = a.disk in let p = d.names in p.pend) ≡ true) × (has_none (let d = a.disk in d.intents) ≡ true) → (act : Uid) → read.pend r act ≡ None
     by Store none act = (let p = are.store in p.pend act ∙ ap (option_map packed) (none_there (let d = a.disk in let q = d.store in q.pend) act none.0))
     by Names none act = (let p = are.names in p.pend act ∙ ap (option_map packed) (none_there (let d = a.disk in let q = d.names in q.pend) act none.1))
 

@@ -6,7 +6,7 @@ use Rattle.arj_disk.specs.declared.slot.Role.{Role}
 use Rattle.arj_disk.specs.declared.slot.Role.TheVariants.{Names, Store}
 use Rattle.arj_journal.specs.ScriptForm.{HeaderInForm}
 use Rattle.arj_model.specs.Clean.{Clean}
-use Rattle.arj_model.specs.Disks.{Disks, Reading, held, pend}
+use Rattle.arj_model.specs.Disks.{Disks, Reading, held}
 use Rattle.arj_model.specs.Last.{entry_state, is_among, last_state, listed, object_line}
 use Rattle.arj_protocol.specs.Words.{Header, Line, Uid}
 use Rattle.arj_protocol.specs.World.{World}
@@ -17,7 +17,7 @@ use Rattle.arj_joint_law.specs.Shown.{DisksAre}
 
 -- by its reading nothing is prepared on a disk, for either role, and it has no record
 pub record HasNothingLeft (read : Reading) : Type 0 where
-  pub prepared : (r : Role) (act : Uid) → pend read r act ≡ None
+  pub prepared : (r : Role) (act : Uid) → (let d = read in d.pend r act) ≡ None
   pub records : (top : Uid) → (let d = read in d.records top) ≡ None
 
 -- Naming holds each entry as the journal gives it, and each listed store that is a node of the header the object's last committed state; and on
