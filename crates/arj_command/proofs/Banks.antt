@@ -1,108 +1,103 @@
 -- What a run of a bank shows.
-use Rattle.std.proofs.Common.{◌≡◌, ◌≢◌, ◌⊎◌, inl, inr, ℕ, zero, suc, ◌≤◌, append_assoc, List, [], ◌∷◌, ◌++◌, Option, Some, None, false, refl, sym, ◌∙◌, ap, subst, arith}
+use Rattle.std.proofs.Common.{◌≡◌, ◌≢◌, ◌⊎◌, inl, inr, ℕ, zero, suc, ◌-◌, ◌≤◌, append_assoc, List, [], ◌∷◌, ◌++◌, Option, Some, None, false, refl, sym, ◌∙◌, ap, subst, arith}
 use Rattle.std.proofs.Math.Logic.{⊎_elim}
 use Rattle.std.proofs.lemmas.List.{append-nil}
-use Rattle.arj_bank.specs.Bank.{AreOfBank, ChangedBy, ComesSoFar, EndsAtLimit, Generates, HaveBeenRead, IsSummary, Left, RanBank, RanFront, StopsBank, WantsMemory, left}
+use Rattle.arj_bank.specs.Bank.{AreOfBank, ComesSoFar, EndsAtLimit, Generates, HaveBeenRead, IsSummary, RanBank, left}
 use Rattle.arj_bank.proofs.Ending.{read_none}
 use Rattle.arj_command.specs.Facts.{Facts, behind}
-use Rattle.arj_command.specs.Outcome.{AreAsOfBank, BankHeadline, RanOfBank, Said, world_of}
+use Rattle.arj_command.specs.Outcome.{BankHeadline, FrontShows, RanOfBank, Said, around, world_of}
 use Rattle.arj_command.proofs.Shows.{behind_none, facts_of}
 use Rattle.arj_core.specs.declared.node.Core as core
+use Rattle.arj_disk.specs.FileMap.{FileMap}
 use Rattle.arj_disk.specs.declared.disk.Disk as disk
 use Rattle.arj_gen.specs.Bank.{bank_header}
 use Rattle.arj_gen.specs.declared.bank.TheConstants.{NODES}
 use Rattle.arj_journal.specs.declared.body.Line.{Line}
 use Rattle.arj_journal.specs.declared.event.Event.{Event}
 use Rattle.arj_loop.specs.Replayed.{Outside, answer}
-use Rattle.arj_nodes.specs.AllNodes.{RanAll, task}
+use Rattle.arj_nodes.specs.AllNodes.{Task, task}
 use Rattle.arj_nodes.specs.AsMachine.{all_nodes}
 use Rattle.arj_nodes.specs.declared.all_nodes.AllNodes.{AllNodes}
-use Rattle.arj_nodes_law.specs.Banks.{BankLimitsShow, BanksShow}
+use Rattle.arj_nodes_law.specs.Banks.{BankFrontsShow, BankLimitsShow, BanksShow}
 use Rattle.arj_nodes_law.specs.Last.{EndsBehind}
 use Rattle.arj_nodes_law.specs.Promised.{ShowsThePromise}
-use Rattle.arj_nodes_law.specs.Readings.{Reads}
-use Rattle.arj_world.specs.Disks.{HaveMoved}
-use Rattle.arj_world.specs.Stands.{hand}
-use Rattle.arj_world.proofs.Disks.{moved_none, moved_then, some_one}
+use Rattle.arj_nodes_law.specs.Readings.{Reads, files_at, readings_of}
+use Rattle.arj_bank.specs.Balances.{files_in, is_number, no_files, node_files}
+use Rattle.arj_joint_law.specs.DisksInTime.{DisksAreInTime}
+use Rattle.arj_model.specs.Clean.{Clean}
+use Rattle.arj_promise_law.specs.Resting.{HoldAllStates}
+use Rattle.arj_protocol.specs.Tree.{at_place}
+use Rattle.std.specs.Prelude.{Bool, true, if◌then◌else◌, length, slice_get}
+use Rattle.arj_world.proofs.Disks.{some_one}
 
 whole_bank : (n : ℕ) (events : List Event) → AreOfBank n events → AreOfBank n (events ++ [])
 whole_bank n events are = subst (λ es. AreOfBank n es) (sym (append-nil events)) are
 
+node_is : {D : Type 0} (file : D → FileMap) (node : ℕ) (rack : List D) → is_number node ≡ true → node_files file rack node ≡ files_in file (slice_get rack (node - 1))
+node_is file node rack is = λ i. if is i then files_in file (slice_get rack (node - 1)) else no_files
+
+-- reads leave what each disk says
+same_files : {D : Type 0} (d : disk.Ghosts D) (mid after : List D) → HaveBeenRead d mid after → (n : ℕ) → files_at d (at_place n after) ≡ files_at d (at_place n mid)
+same_files d mid after since zero = refl
+same_files {D} d mid after since (suc k) = by (is_number (suc k)) refl
+  where
+    as_read : (o : Option D) → files_in d.file o ≡ files_at d o
+    as_read None = λ i slot. None
+    as_read (Some one) = λ i slot. d.file one slot
+
+    by : (b : Bool) → is_number (suc k) ≡ b → files_at d (slice_get after k) ≡ files_at d (slice_get mid k)
+    by true is =
+        let back : suc k - 1 ≡ k = omega arith in
+        let here : (rack : List D) → node_files d.file rack (suc k) ≡ files_at d (slice_get rack k) =
+        λ rack. node_is d.file (suc k) rack is ∙ ((λ i. files_in d.file (slice_get rack (back i))) ∙ as_read (slice_get rack k))
+        in
+        sym (here after) ∙ ((λ i. since.files i (suc k)) ∙ here mid)
+    by false is = let past : NODES ≤ k = grind (arith, is) in ap (files_at d) (let m = since.moved in m.others k past)
+
+promise_stays : {D : Type 0} (d : disk.Ghosts D) (read : Reads) (t : Task D) (over : Bool) (journal : List Line) (mid after : List D) → HaveBeenRead d mid after → ShowsThePromise d read t over journal mid → ShowsThePromise d read t over journal after
+promise_stays d read t over journal mid after since p =
+    let same : readings_of d read after ≡ readings_of d read mid = λ i n. read (same_files d mid after since n i) in
+    record {
+      serial = p.serial;
+      book = p.book;
+      held = p.held;
+      outcome = p.outcome;
+      clean = subst (λ disks. Clean (let a = t in a.header) journal disks) (sym same) p.clean;
+      in_time = subst (λ disks. DisksAreInTime (let a = t in a.header) (let a = t in length a.events) journal disks) (sym same) p.in_time;
+      rest = λ going idle. subst (λ disks. HoldAllStates (let a = t in a.header) journal disks) (sym same) (p.rest going idle);
+    }
+
 module _ {C D : Type 0} (c : core.Ghosts C) (d : disk.Ghosts D) where
-  -- ---- what was done to the disks
-
-  -- a front of the events was run, and the disks were read since
-  asked_front : (n : ℕ) (events rest : List Event) (first mid after : List D) → AreOfBank n (events ++ rest) → HaveMoved d NODES events first mid → HaveBeenRead d mid after → AreAsOfBank d n first after
-  asked_front n events rest first mid after are moved read =
-      inr (events, rest, are, subst (λ es. HaveMoved d NODES es first after) (append-nil events) (moved_then d NODES NODES events [] first mid after refl moved read.moved))
-
-  asked_bank : (n : ℕ) (first mid after : List D) (journal : List Line) (nodes : Option (AllNodes C)) → RanBank (all_nodes c d) n first (left mid journal nodes) → HaveBeenRead d mid after → AreAsOfBank d n first after
-  asked_bank n first mid after journal nodes bank read =
-      let ran = bank.ran in
-      let all : RanAll c d (task first bank_header bank.events) (let m = ran.machine in m.over) (hand (let m = ran.machine in m.world) mid journal) = ran.ran in
-      asked_front n bank.events [] first mid after (whole_bank n bank.events bank.are) all.disks read
-
-  asked_ran : (n : ℕ) (first mid after : List D) (events : List Event) → AreOfBank n events → RanFront (all_nodes c d) (task first bank_header events) mid → HaveBeenRead d mid after → AreAsOfBank d n first after
-  asked_ran n first mid after events are f read = by f.rest f.cut f.since
-    where
-      ran : RanAll c d (task first bank_header f.done) (let m = f.machine in m.over) (hand (let m = f.machine in m.world) f.mid f.journal)
-      ran = f.ran
-
-      front : (rest : List Event) → events ≡ f.done ++ rest → mid ≡ f.mid → AreAsOfBank d n first after
-      front rest cut same = asked_front n f.done rest first mid after (subst (λ es. AreOfBank n es) cut are) (subst (λ r. HaveMoved d NODES f.done first r) (sym same) ran.disks) read
-
-      by : (rest : List Event) → events ≡ f.done ++ rest → ChangedBy (all_nodes c d) bank_header rest f.mid mid → AreAsOfBank d n first after
-      by [] cut since = front [] cut since
-      by (e ∷ rest) cut since =
-          ⊎_elim
-          (λ same. front (e ∷ rest) cut same)
-          (λ moved. asked_front n (f.done ++ e ∷ []) rest first mid after (subst (λ es. AreOfBank n es) (cut ∙ sym (append_assoc f.done (e ∷ []) rest)) are) (moved_then d NODES NODES f.done (e ∷ []) first f.mid mid refl ran.disks moved) read)
-          since
-
-  asked_none : (n : ℕ) (first mid after : List D) → HaveMoved d NODES [] first mid → HaveBeenRead d mid after → AreAsOfBank d n first after
-  asked_none n first mid after moved read = inl (moved_then d NODES NODES [] [] first mid after refl moved read.moved)
-
-  asked_wants : (n : ℕ) (first after : List D) → WantsMemory (all_nodes c d) d n first after → AreAsOfBank d n first after
-  asked_wants n first after w =
-      ⊎_elim
-      (λ same. asked_none n first w.mid after (subst (λ r. HaveMoved d NODES [] first r) (sym same) (moved_none d NODES first)) w.read)
-      (λ more. ⊎_elim (λ moved. asked_none n first w.mid after moved w.read) (λ ran. asked_ran n first w.mid after ran.0 ran.1 ran.2 w.read) more)
-      w.comes
-
-  asked_limit : (n : ℕ) (first : List D) (now : Left D (AllNodes C)) → EndsAtLimit (all_nodes c d) n first now → AreAsOfBank d n first now.rack
-  asked_limit n first now l =
-      let e = l.ended in
-      let ran : RanAll c d (task first bank_header e.done) (let m = e.machine in m.over) (hand (let m = e.machine in m.world) now.rack e.before) = e.ran in
-      asked_front n e.done e.rest first now.rack now.rack (subst (λ es. AreOfBank n es) e.cut l.are) ran.disks (read_none d now.rack)
-
-  asked_stopped : (n : ℕ) (first : List D) (now : Left D (AllNodes C)) → StopsBank (all_nodes c d) d n first now → AreAsOfBank d n first now.rack
-  asked_stopped n first now stopped =
-      ⊎_elim (λ format. asked_none n first now.rack now.rack format.moved (read_none d now.rack)) (λ sum. asked_bank n first sum.mid now.rack now.journal now.machine sum.ran sum.read) stopped
-
   module _ (read : Reads) where
     -- ---- what the events show
 
+    -- reads leave what the disks say
     bank_facts : (n : ℕ) (first mid after : List D) (journal : List Line) (nodes : Option (AllNodes C)) (all : AllNodes C) → BanksShow c d read → nodes ≡ Some all → RanBank (all_nodes c d) n first (left mid journal nodes) → HaveBeenRead d mid after
-        → RanOfBank c d read n first after all journal
+        → RanOfBank c d read n first (behind all after journal)
     bank_facts n first mid after journal nodes all show is bank since =
         let ran = bank.ran in
         let same : ran.machine ≡ all = some_one ran.machine all (sym ran.machine_is ∙ is) in
+        let promise : ShowsThePromise d read (task first bank_header bank.events) (let m = ran.machine in m.over) journal mid =
+        subst (λ over. ShowsThePromise d read (task first bank_header bank.events) over journal mid) (sym ran.going) (show n first (left mid journal nodes) bank)
+        in
         record {
           events = bank.events;
           rest = [];
           are = whole_bank n bank.events bank.are;
           mid = mid;
           facts = subst (λ a. Facts c d read (task first bank_header bank.events) (behind a mid journal)) same
-              (facts_of c d read (task first bank_header bank.events) ran.machine mid journal journal (behind_none c d journal) ran.ran
-              (subst (λ over. ShowsThePromise d read (task first bank_header bank.events) over journal mid) (sym ran.going) (show n first (left mid journal nodes) bank)));
+              (facts_of c d read (task first bank_header bank.events) ran.machine mid journal journal (behind_none c d journal) ran.ran promise);
           since = since;
+          promise = promise_stays d read (task first bank_header bank.events) all.over journal mid after since
+              (subst (λ a. ShowsThePromise d read (task first bank_header bank.events) (let m = a in m.over) journal mid) same promise);
         }
 
     limit_facts : (n : ℕ) (first rack : List D) (journal : List Line) (nodes : Option (AllNodes C)) (all : AllNodes C) → BankLimitsShow c d read → nodes ≡ Some all → EndsAtLimit (all_nodes c d) n first (left rack journal nodes)
-        → RanOfBank c d read n first rack all journal
+        → RanOfBank c d read n first (behind all rack journal)
     limit_facts n first rack journal nodes all show is l =
         let e = l.ended in
         let same : e.machine ≡ all = some_one e.machine all (sym e.machine_is ∙ is) in
+        let promise : ShowsThePromise d read (task first bank_header e.done) (let m = e.machine in m.over) journal rack = show n first (left rack journal nodes) l in
         record {
           events = e.done;
           rest = e.rest;
@@ -111,9 +106,16 @@ module _ {C D : Type 0} (c : core.Ghosts C) (d : disk.Ghosts D) where
           facts = subst (λ a. Facts c d read (task first bank_header e.done) (behind a rack journal)) same
               (facts_of c d read (task first bank_header e.done) e.machine rack e.before journal
               (⊎_elim (λ frames. subst (λ ls. EndsBehind e.before ls) (sym frames.same) (behind_none c d e.before)) (λ labels. (_, refl, labels.last)) e.limit)
-              e.ran (show n first (left rack journal nodes) l));
+              e.ran promise);
           since = read_none d rack;
+          promise = subst (λ a. ShowsThePromise d read (task first bank_header e.done) (let m = a in m.over) journal rack) same promise;
         }
+
+    front_shows : (n : ℕ) (first after : List D) (comes : ComesSoFar (all_nodes c d) n first after) → BankFrontsShow c d read → FrontShows c d read n first after comes
+    front_shows n first after (inl same) show = tt
+    front_shows n first after (inr (inl formatted)) show = tt
+    front_shows n first after (inr (inr (events, are, f))) show =
+        facts_of c d read (task first bank_header f.done) f.machine f.mid f.journal f.journal (behind_none c d f.journal) f.ran (show n first events after are f)
 
     -- ---- status by status
 
@@ -129,16 +131,22 @@ module _ {C D : Type 0} (c : core.Ghosts C) (d : disk.Ghosts D) where
     some_status (suc (suc (suc (suc (suc (suc (suc (suc n)))))))) few one two three = absurd (omega (arith, few))
 
     pub bank_headline : (n : ℕ) (before after : Outside D) (says : Said C) (nodes : Option (AllNodes C)) → Generates (all_nodes c d) d n before after (answer says.status says.why says.journal nodes) → says.status ≤ 7
-        → BanksShow c d read → BankLimitsShow c d read → says.world ≡ world_of nodes → BankHeadline c d read n before after says
-    bank_headline n before after says nodes g few whole limits world = record { nodes = nodes; run = g; world_is = world; facts = facts; disks = disks }
+        → BanksShow c d read → BankLimitsShow c d read → BankFrontsShow c d read → says.world ≡ world_of nodes → BankHeadline c d read n (around before after) says
+    bank_headline n before after says nodes g few whole limits fronts world = record {
+      nodes = nodes;
+      run = g;
+      world_is = world;
+      facts = facts;
+      front = λ five. let w = g.memory five in front_shows n before.rack w.mid w.comes fronts;
+    }
       where
         kinds : (says.status ≡ 0) ⊎ ((says.status ≡ 4) ⊎ ((says.status ≡ 5) ⊎ ((says.status ≡ 6) ⊎ (says.status ≡ 7))))
         kinds = let never = g.never in some_status says.status few never.0 never.1 never.2
 
-        summed : (all : AllNodes C) → nodes ≡ Some all → (bytes : List ℕ) → IsSummary (all_nodes c d) d n before.rack (left after.rack says.journal nodes) bytes → RanOfBank c d read n before.rack after.rack all says.journal
+        summed : (all : AllNodes C) → nodes ≡ Some all → (bytes : List ℕ) → IsSummary (all_nodes c d) d n before.rack (left after.rack says.journal nodes) bytes → RanOfBank c d read n before.rack (behind all after.rack says.journal)
         summed all is bytes s = bank_facts n before.rack s.mid after.rack says.journal nodes all whole is s.ran s.read
 
-        facts : says.status ≢ 5 → (all : AllNodes C) → nodes ≡ Some all → RanOfBank c d read n before.rack after.rack all says.journal
+        facts : says.status ≢ 5 → (all : AllNodes C) → nodes ≡ Some all → RanOfBank c d read n before.rack (behind all after.rack says.journal)
         facts five all is =
             ⊎_elim (λ zero. let s = g.summed zero in summed all is s.0 s.1)
             (λ more. ⊎_elim (λ four. let s = g.front four in summed all is s.0 s.2)
@@ -148,13 +156,4 @@ module _ {C D : Type 0} (c : core.Ghosts C) (d : disk.Ghosts D) where
             (λ format. let never : Some all ≡ None = sym is ∙ format.machine in absurd (cc never))
             (λ sum. bank_facts n before.rack sum.mid after.rack says.journal nodes all whole is sum.ran sum.read)
             (g.stopped stop))
-            last) rest) more) kinds
-
-        disks : AreAsOfBank d n before.rack after.rack
-        disks =
-            ⊎_elim (λ zero. let s = g.summed zero in let i = s.1 in asked_bank n before.rack i.mid after.rack says.journal nodes i.ran i.read)
-            (λ more. ⊎_elim (λ four. let s = g.front four in let i = s.2 in asked_bank n before.rack i.mid after.rack says.journal nodes i.ran i.read)
-            (λ rest. ⊎_elim (λ memory. asked_wants n before.rack after.rack (g.memory memory))
-            (λ last. ⊎_elim (λ limit. asked_limit n before.rack (left after.rack says.journal nodes) (g.limit limit))
-            (λ stop. asked_stopped n before.rack (left after.rack says.journal nodes) (g.stopped stop))
             last) rest) more) kinds

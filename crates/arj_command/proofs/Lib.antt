@@ -1,4 +1,3 @@
-pub mod Asked
 pub mod Banks
 pub mod Numbers
 pub mod Shows

@@ -2,9 +2,8 @@
 use Rattle.std.proofs.Common.{◌≡◌, ◌⊎◌, inl, inr, ℕ, true, filter, List, [], ◌∷◌, ◌++◌, Option, Some, None, refl, sym, ◌∙◌, ap, subst, arith}
 use Rattle.std.proofs.Math.Logic.{⊎_elim}
 use Rattle.std.proofs.lemmas.List.{append-nil}
-use Rattle.arj_command.specs.Facts.{AreAsAsked, Facts, behind}
-use Rattle.arj_command.specs.Outcome.{CameSoFar, Headline, Said, Shown, world_of}
-use Rattle.arj_command.proofs.Asked.{asked_end, asked_half}
+use Rattle.arj_command.specs.Facts.{Facts, behind}
+use Rattle.arj_command.specs.Outcome.{Around, CameShows, Headline, Said, Shown, around, world_of}
 use Rattle.arj_core.specs.declared.node.Core as core
 use Rattle.arj_disk.specs.declared.disk.Disk as disk
 use Rattle.arj_event_law.specs.Halts.{armed_node, halted_node}
@@ -14,7 +13,7 @@ use Rattle.arj_protocol.specs.Words.body
 use Rattle.arj_protocol.specs.Words.which
 use Rattle.arj_world.specs.Tells.{halts}
 use Rattle.arj_loop.specs.Input.{Arrived, script_of}
-use Rattle.arj_loop.specs.Replayed.{Answer, Closes, EndsSo, Outside, StopsShort, answer}
+use Rattle.arj_loop.specs.Replayed.{Answer, CameTo, Closes, EndsSo, Outside, StopsShort, answer}
 use Rattle.arj_loop.specs.Running.{Hand, Halfway, MachineRuns, Stage, Why, last_body, last_lines, status_of}
 use Rattle.arj_loop.specs.declared.ending.End.{End}
 use Rattle.arj_loop.specs.declared.ending.End.TheVariants as ending
@@ -29,7 +28,7 @@ use Rattle.arj_nodes.proofs.Telling.{arms_behind, arms_told, halts_behind, halts
 use Rattle.arj_nodes_law.specs.Last.{EndsBehind, IsLast, ends_run}
 use Rattle.arj_nodes_law.specs.Promised.{ShowsThePromise}
 use Rattle.arj_nodes_law.specs.Readings.{Reads}
-use Rattle.arj_nodes_law.specs.Turns.{Came, CloseShows, SoFarShows, StopShows}
+use Rattle.arj_nodes_law.specs.Turns.{CloseShows, SoFarShows, StopShows}
 use Rattle.arj_script.specs.Grammar.{Place}
 use Rattle.arj_script.specs.Input.{AtFault, Stopped, events_of}
 use Rattle.arj_world.specs.Stands.{hand}
@@ -119,16 +118,16 @@ module _ {C D : Type 0} (c : core.Ghosts C) (d : disk.Ghosts D) where
           cc never
 
   module _ (read : Reads) where
-    pub facts_of : (t : Task D) (all : AllNodes C) (rack : List D) (core journal : List Line) → EndsBehind core journal → RanAll c d t all.over (hand all.world rack core) → ShowsThePromise d read t all.over journal rack
+    pub facts_of : (t : Task D) (all : AllNodes C) (rack : List D) (lines journal : List Line) → EndsBehind lines journal → RanAll c d t all.over (hand all.world rack lines) → ShowsThePromise d read t all.over journal rack
         → Facts c d read t (behind all rack journal)
-    facts_of t all rack core journal outside ran promise = record {
-      core = core;
-      outside = outside;
+    facts_of t all rack lines journal last ran promise = record {
+      lines = lines;
+      last = last;
       ran = ran;
       promise = promise;
-      halts = subst (λ lines. HaltsHaveCause d t lines rack) (sym outside.2) (halts_behind d t core outside.0 rack (no_halts outside.0 outside.1) (halts_told c d t all.over (hand all.world rack core) ran));
-      armed = subst (λ lines. ArmsAreTold (let h = t.header in h.nodes) t.events lines) (sym outside.2)
-          (arms_behind (let h = t.header in h.nodes) t.events core outside.0 (no_arms outside.0 outside.1) (arms_told c d t all.over (hand all.world rack core) ran));
+      halts = subst (λ ls. HaltsHaveCause d t ls rack) (sym last.2) (halts_behind d t lines last.0 rack (no_halts last.0 last.1) (halts_told c d t all.over (hand all.world rack lines) ran));
+      armed = subst (λ ls. ArmsAreTold (let h = t.header in h.nodes) t.events ls) (sym last.2)
+          (arms_behind (let h = t.header in h.nodes) t.events lines last.0 (no_arms last.0 last.1) (arms_told c d t all.over (hand all.world rack lines) ran));
     }
 
     -- ---- a run that came to its end
@@ -144,62 +143,30 @@ module _ {C D : Type 0} (c : core.Ghosts C) (d : disk.Ghosts D) where
         promise
 
     pub headline : (before after : Outside D) (says : Said C) (nodes : Option (AllNodes C)) (run : Closes (all_nodes c d) before after (answer says.status says.why says.journal nodes))
-        → CloseShows c d read before after (answer says.status says.why says.journal nodes) run → says.world ≡ world_of nodes → Headline c d read before after says
+        → CloseShows c d read before after (answer says.status says.why says.journal nodes) run → says.world ≡ world_of nodes → Headline c d read (around before after) says
     headline before after says nodes run shows world = record {
       nodes = nodes;
       run = run;
       world_is = world;
       facts = λ all is. let at = sym run.machine_is ∙ is in ended run.given before.rack after.rack run.end says.journal run.ends all at (shows all at);
-      nothing = λ none.
-          let e = run.ends in
-          let r = e.reached in
-          only_last (let at = e.at in at.journal) says.journal (bare_at before.rack e.mid r.done r.place e.at r.stage (sym run.machine_is ∙ none)) (behind_end run.given before.rack after.rack run.end says.journal e);
-      disks = asked_end c d run.given before.rack after.rack run.end says.journal run.ends;
     }
 
     -- ---- a run that stopped short
 
-    so_far_end : (given : Arrived) (first after : List D) (end : End) (journal : List Line) (e : EndsSo (all_nodes c d) given first after end journal)
-        → ((all : AllNodes C) → (let at = e.at in at.machine) ≡ Some all → (let r = e.reached in let s = r.stage in ShowsThePromise d read (task first s.header (events_of s.forms)) all.over journal after))
-        → IsLast journal ⊎ CameSoFar c d read first journal
-    so_far_end given first after end journal e shows = by (let at = e.at in at.machine) refl
-      where
-        by : (machine : Option (AllNodes C)) → (let at = e.at in at.machine) ≡ machine → IsLast journal ⊎ CameSoFar c d read first journal
-        by None none = let r = e.reached in inl (only_last (let at = e.at in at.journal) journal (bare_at first e.mid r.done r.place e.at r.stage none) (behind_end given first after end journal e))
-        by (Some all) some =
-            let r = e.reached in
-            let s = r.stage in
-            inr (record {
-              header = s.header;
-              events = events_of s.forms;
-              all = all;
-              rack = after;
-              facts = ended given first after end journal e all some (shows all some);
-            })
+    came : (given : Arrived) (first after : List D) (status : ℕ) (journal : List Line) (run : CameTo (all_nodes c d) given first after status journal) → SoFarShows c d read given first after status journal run
+        → CameShows c d read given first after status journal run
+    came given first after status journal (inl (at, half, is, went)) shows = (
+      λ none. is ∙ bare_at first half.mid half.done half.place at half.stage none,
+      λ all some.
+          let s = half.stage in
+          facts_of (task first s.header (events_of s.forms)) all half.mid at.journal journal (subst (λ ls. EndsBehind at.journal ls) (sym is) (behind_none at.journal)) (ran_at first half.mid half.done half.place at s all some) (shows all some),
+    )
+    came given first after status journal (inr (four, (end, e))) shows = (
+      λ none.
+          let r = e.reached in
+          only_last (let at = e.at in at.journal) journal (bare_at first e.mid r.done r.place e.at r.stage none) (behind_end given first after end journal e),
+      λ all some. ended given first after end journal e all some (shows all some),
+    )
 
-    so_far : (given : Arrived) (first after : List D) (status : ℕ) (journal : List Line) (run : Came c d given first after status journal) → SoFarShows c d read given first after status journal run
-        → IsLast journal ⊎ CameSoFar c d read first journal
-    so_far given first after status journal (inl (at, half, is, went)) shows = by at.machine refl
-      where
-        by : (machine : Option (AllNodes C)) → at.machine ≡ machine → IsLast journal ⊎ CameSoFar c d read first journal
-        by None none = inl (only_last at.journal journal (bare_at first half.mid half.done half.place at half.stage none) (subst (λ ls. EndsBehind at.journal ls) (sym is) (behind_none at.journal)))
-        by (Some all) some = let s = half.stage in
-            inr (record {
-              header = s.header;
-              events = events_of s.forms;
-              all = all;
-              rack = half.mid;
-              facts = facts_of (task first s.header (events_of s.forms)) all half.mid at.journal journal (subst (λ ls. EndsBehind at.journal ls) (sym is) (behind_none at.journal)) (ran_at first half.mid half.done half.place at s all some) (shows all some);
-            })
-    so_far given first after status journal (inr (four, (end, e))) shows = so_far_end given first after end journal e shows
-
-    asked_so_far : (given : Arrived) (first after : List D) (status : ℕ) (journal : List Line) → Came c d given first after status journal → (let s = script_of given in AreAsAsked d s.lines first after)
-    asked_so_far given first after status journal (inl (at, half, is, went)) = asked_half c d first after given at half
-    asked_so_far given first after status journal (inr (four, (end, e))) = asked_end c d given first after end journal e
-
-    pub shown : (before after : Outside D) (status : ℕ) (run : StopsShort (all_nodes c d) before after status) → StopShows c d read before after status run → Shown c d read before after status
-    shown before after status run shows = record {
-      run = run;
-      facts = so_far run.given before.rack after.rack status run.journal run.run shows;
-      disks = asked_so_far run.given before.rack after.rack status run.journal run.run;
-    }
+    pub shown : (before after : Outside D) (status : ℕ) (run : StopsShort (all_nodes c d) before after status) → StopShows c d read before after status run → Shown c d read (around before after) status
+    shown before after status run shows = record { run = run; facts = came run.given before.rack after.rack status run.journal run.run shows }

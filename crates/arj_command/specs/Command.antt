@@ -34,6 +34,6 @@ Says words command.Replay = IsReplay words
 Says words (command.Bank n) = IsGenerate words n
 Says words command.None = IsCommand words → ⊥
 
--- the text begins with no sign, and with a zero only where that is all of it
+-- the text begins with no `+`, and with a zero only where that is all of it
 abbrev pub IsPlain : List ℕ → Type 0
 IsPlain bytes = (0 < length bytes) × (get_or bytes 0 0 ≢ 43) × (get_or bytes 0 0 ≡ 48 → length bytes ≡ 1)

@@ -3,7 +3,7 @@ ghost use Rattle.std.specs.Prelude.{◌≡◌, ◌≢◌, ◌≤◌, ◌⊎◌, 
 ghost use Rattle.arj_bank.specs.Bank.{Generates};
 ghost use Rattle.arj_base.specs.Count.{Rose};
 ghost use Rattle.arj_command.specs.Command.{IsCommand, IsGenerate, IsReplay};
-ghost use Rattle.arj_command.specs.Outcome.{BankHeadline, Headline, Shown, said, world_of};
+ghost use Rattle.arj_command.specs.Outcome.{BankHeadline, Headline, Shown, around, said, world_of};
 ghost use Rattle.arj_loop.specs.Replayed.{Closes, StopsShort, answer, outside};
 ghost use Rattle.arj_nodes.specs.AllNodes.{AreFresh};
 ghost use Rattle.arj_nodes.specs.AsMachine.{all_nodes};
@@ -53,6 +53,7 @@ fn run_command<S: Source, K: Sink, D: Disk, C: Core + Drop>(
     ensures command { result ≡ 1 → IsCommand words.now → ⊥ }
     ensures no_command { (IsCommand words.now → ⊥) → result ≡ 1 }
     ensures usage { result ≡ 1 → (source.new ≡ source.old) × (sink.new ≡ sink.old) × (rack.new ≡ rack.old) × (journal.new ≡ journal.old) × (why.new ≡ why.old) × (nodes.new ≡ nodes.old) }
+    ensures unread { (n : ℕ) → IsGenerate words.now n → (source.new ≡ source.old) × (why.new ≡ why.old) × (result ≢ 0 → result ≢ 4 → sink.new ≡ sink.old) }
     ensures read_fault { result ≡ 3 → Rose (S.faults source.old) (S.faults source.new) }
     ensures write_fault { result ≡ 4 → Rose (K.faults sink.old) (K.faults sink.new) }
     ensures no_write_fault { result ≢ 4 → K.faults sink.new ≡ K.faults sink.old }
@@ -81,13 +82,14 @@ pub fn run_on<S: Source, K: Sink, D: Disk, C: Core + Drop>(
     requires ready { AreFresh D.Disk rack.old }
     requires fresh { journal.old ≡ [] }
     requires none { world.old ≡ None }
-    ensures headline { (read : Reads) → SaysReadings C.Core read → IsReplay words.now → result ≢ 4 → result ≢ 5 → Headline C.Core D.Disk read (outside (S.left source.old) (S.faults source.old) (K.taken sink.old) rack.old) (outside (S.left source.new) (S.faults source.new) (K.taken sink.new) rack.new) (said result why.new journal.new world.new) }
-    ensures shown { (read : Reads) → SaysReadings C.Core read → IsReplay words.now → (result ≡ 4) ⊎ (result ≡ 5) → Shown C.Core D.Disk read (outside (S.left source.old) (S.faults source.old) (K.taken sink.old) rack.old) (outside (S.left source.new) (S.faults source.new) (K.taken sink.new) rack.new) result }
-    ensures bank { (read : Reads) → SaysReadings C.Core read → (n : ℕ) → IsGenerate words.now n → BankHeadline C.Core D.Disk read n (outside (S.left source.old) (S.faults source.old) (K.taken sink.old) rack.old) (outside (S.left source.new) (S.faults source.new) (K.taken sink.new) rack.new) (said result why.new journal.new world.new) }
+    ensures headline { (read : Reads) → SaysReadings C.Core read → IsReplay words.now → result ≢ 4 → result ≢ 5 → Headline C.Core D.Disk read (around (outside (S.left source.old) (S.faults source.old) (K.taken sink.old) rack.old) (outside (S.left source.new) (S.faults source.new) (K.taken sink.new) rack.new)) (said result why.new journal.new world.new) }
+    ensures shown { (read : Reads) → SaysReadings C.Core read → IsReplay words.now → (result ≡ 4) ⊎ (result ≡ 5) → Shown C.Core D.Disk read (around (outside (S.left source.old) (S.faults source.old) (K.taken sink.old) rack.old) (outside (S.left source.new) (S.faults source.new) (K.taken sink.new) rack.new)) result }
+    ensures bank { (read : Reads) → SaysReadings C.Core read → (n : ℕ) → IsGenerate words.now n → BankHeadline C.Core D.Disk read n (around (outside (S.left source.old) (S.faults source.old) (K.taken sink.old) rack.old) (outside (S.left source.new) (S.faults source.new) (K.taken sink.new) rack.new)) (said result why.new journal.new world.new) }
     ensures statuses { result ≤ 7 }
     ensures command { result ≡ 1 → IsCommand words.now → ⊥ }
     ensures no_command { (IsCommand words.now → ⊥) → result ≡ 1 }
     ensures usage { result ≡ 1 → (source.new ≡ source.old) × (sink.new ≡ sink.old) × (rack.new ≡ rack.old) × (journal.new ≡ journal.old) × (why.new ≡ why.old) × (world.new ≡ world.old) }
+    ensures unread { (n : ℕ) → IsGenerate words.now n → (source.new ≡ source.old) × (why.new ≡ why.old) × (result ≢ 0 → result ≢ 4 → sink.new ≡ sink.old) }
     ensures read_fault { result ≡ 3 → Rose (S.faults source.old) (S.faults source.new) }
     ensures write_fault { result ≡ 4 → Rose (K.faults sink.old) (K.faults sink.new) }
     ensures no_write_fault { result ≢ 4 → K.faults sink.new ≡ K.faults sink.old }

@@ -27,7 +27,7 @@ fn bank_word(words: &[String]) -> Option<&str>
     Some(number.as_str())
 }
 
-// Whether a text begins with no sign, and with a zero only where that is all of it.
+// Whether a text begins with no `+`, and with a zero only where that is all of it.
 fn is_plain(bytes: &[u8]) -> bool
     ensures { MatchBool result (IsPlain bytes.now) (IsPlain bytes.now → ⊥) }
 {

@@ -2,7 +2,7 @@
 ghost use Rattle.std.specs.Prelude.{◌≡◌, ◌≢◌, ◌≤◌, ◌⊎◌, ℕ, [], None};
 ghost use Rattle.arj_base.specs.Count.{Rose};
 ghost use Rattle.arj_command.specs.Command.{IsCommand, IsGenerate, IsReplay};
-ghost use Rattle.arj_command.specs.Outcome.{BankHeadline, Headline, Shown, said};
+ghost use Rattle.arj_command.specs.Outcome.{BankHeadline, Headline, Shown, around, said};
 ghost use Rattle.arj_loop.specs.Replayed.{outside};
 ghost use Rattle.arj_nodes.specs.AllNodes.{AreFresh};
 ghost use Rattle.arj_nodes_law.specs.Readings.{reading_of};
@@ -28,8 +28,9 @@ pub type Node = NodeCore<NodeParts<ShadowStore>>;
 /// why a line is bad in `why`.
 ///
 /// 0: the input was read to its end and every line was run, or the bank was run and its summary written. 1: the words aren't a
-/// command line. 2: a line isn't in the grammar. 3: a read failed. 4: a write failed. 5: memory was wanting. 6: a limit was
-/// met. 7: a disk stopped while it was formatted, or while the bank's balances were read.
+/// command line. 2: a line isn't in the grammar. 3: a read failed. 4: a write failed. 5: memory was wanting; a node answers so too
+/// where it can't spell a message, or restarts at the last incarnation that 32 bits count. 6: a limit was met. 7: a disk stopped while it
+/// was formatted, or while the bank's balances were read.
 pub fn arjuna<S: Source, K: Sink, D: Disk>(
     alloc: Global,
     words: &[String],
@@ -46,17 +47,18 @@ pub fn arjuna<S: Source, K: Sink, D: Disk>(
 
     // A script: which bytes came and which of their lines were run, what each status means, what was written, and what the
     // journal, the disks and the world show of the events.
-    ensures headline { IsReplay words.now → result ≢ 4 → result ≢ 5 → Headline ⟦<Node as Core>⟧ D.Disk (reading_of ⟦<ShadowStore as ObjectStore>⟧) (outside (S.left source.old) (S.faults source.old) (K.taken sink.old) rack.old) (outside (S.left source.new) (S.faults source.new) (K.taken sink.new) rack.new) (said result why.new journal.new world.new) }
+    ensures headline { IsReplay words.now → result ≢ 4 → result ≢ 5 → Headline ⟦<Node as Core>⟧ D.Disk (reading_of ⟦<ShadowStore as ObjectStore>⟧) (around (outside (S.left source.old) (S.faults source.old) (K.taken sink.old) rack.old) (outside (S.left source.new) (S.faults source.new) (K.taken sink.new) rack.new)) (said result why.new journal.new world.new) }
     // What still holds after a write that failed, or where memory was wanting.
-    ensures shown { IsReplay words.now → (result ≡ 4) ⊎ (result ≡ 5) → Shown ⟦<Node as Core>⟧ D.Disk (reading_of ⟦<ShadowStore as ObjectStore>⟧) (outside (S.left source.old) (S.faults source.old) (K.taken sink.old) rack.old) (outside (S.left source.new) (S.faults source.new) (K.taken sink.new) rack.new) result }
+    ensures shown { IsReplay words.now → (result ≡ 4) ⊎ (result ≡ 5) → Shown ⟦<Node as Core>⟧ D.Disk (reading_of ⟦<ShadowStore as ObjectStore>⟧) (around (outside (S.left source.old) (S.faults source.old) (K.taken sink.old) rack.old) (outside (S.left source.new) (S.faults source.new) (K.taken sink.new) rack.new)) result }
     // A generated bank: what each status means, its summary, and the same of its events.
-    ensures bank { (n : ℕ) → IsGenerate words.now n → BankHeadline ⟦<Node as Core>⟧ D.Disk (reading_of ⟦<ShadowStore as ObjectStore>⟧) n (outside (S.left source.old) (S.faults source.old) (K.taken sink.old) rack.old) (outside (S.left source.new) (S.faults source.new) (K.taken sink.new) rack.new) (said result why.new journal.new world.new) }
+    ensures bank { (n : ℕ) → IsGenerate words.now n → BankHeadline ⟦<Node as Core>⟧ D.Disk (reading_of ⟦<ShadowStore as ObjectStore>⟧) n (around (outside (S.left source.old) (S.faults source.old) (K.taken sink.old) rack.old) (outside (S.left source.new) (S.faults source.new) (K.taken sink.new) rack.new)) (said result why.new journal.new world.new) }
 
     // Which status, where no record above says it: 5 alone is free.
     ensures statuses { result ≤ 7 }
     ensures command { result ≡ 1 → IsCommand words.now → ⊥ }
     ensures no_command { (IsCommand words.now → ⊥) → result ≡ 1 }
     ensures usage { result ≡ 1 → (source.new ≡ source.old) × (sink.new ≡ sink.old) × (rack.new ≡ rack.old) × (journal.new ≡ journal.old) × (why.new ≡ why.old) × (world.new ≡ world.old) }
+    ensures unread { (n : ℕ) → IsGenerate words.now n → (source.new ≡ source.old) × (why.new ≡ why.old) × (result ≢ 0 → result ≢ 4 → sink.new ≡ sink.old) }
     ensures read_fault { result ≡ 3 → Rose (S.faults source.old) (S.faults source.new) }
     ensures write_fault { result ≡ 4 → Rose (K.faults sink.old) (K.faults sink.new) }
     ensures no_write_fault { result ≢ 4 → K.faults sink.new ≡ K.faults sink.old }

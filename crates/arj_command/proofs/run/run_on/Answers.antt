@@ -25,4 +25,4 @@ returns-clause-bank g c read says n is =
     let before = outside (g.S.Source.left c.args.source.now) (g.S.Source.faults c.args.source.now) (g.K.Sink.taken c.args.sink.now) c.args.rack.now in
     let after = outside (g.S.Source.left c.run_command-status.new.source) (g.S.Source.faults c.run_command-status.new.source) (g.K.Sink.taken c.run_command-status.new.sink) c.run_command-status.new.rack in
     bank_headline g.C.Core g.D.Disk read n before after (said c.run_command-status.result c.run_command-status.new.why c.run_command-status.new.journal c.world_of.result) c.run_command-status.new.nodes (c.run_command-status.ensures.generates n is) c.run_command-status.ensures.statuses
-    (c.banks_show_what_is_promised.ensures.whole read says) (c.banks_show_what_is_promised.ensures.limits read says) c.world_of.ensures
+    (c.banks_show_what_is_promised.ensures.whole read says) (c.banks_show_what_is_promised.ensures.limits read says) (c.banks_show_what_is_promised.ensures.fronts read says) c.world_of.ensures
