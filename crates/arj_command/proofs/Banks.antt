@@ -24,6 +24,9 @@ use Rattle.arj_nodes_law.specs.Promised.{ShowsThePromise}
 use Rattle.arj_nodes_law.specs.Readings.{Reads, files_at, readings_of}
 use Rattle.arj_bank.specs.Balances.{files_in, is_number, no_files, node_files}
 use Rattle.arj_joint_law.specs.DisksInTime.{DisksAreInTime}
+use Rattle.arj_joint_law.specs.Shown.{DisksAre}
+use Rattle.arj_view_law.specs.Moves.{world_by}
+use Rattle.arj_view_law.specs.Seen.{see}
 use Rattle.arj_model.specs.Clean.{Clean}
 use Rattle.arj_promise_law.specs.Resting.{HoldAllStates}
 use Rattle.arj_protocol.specs.Tree.{at_place}
@@ -57,7 +60,17 @@ same_files {D} d mid after since (suc k) = by (is_number (suc k)) refl
 promise_stays : {D : Type 0} (d : disk.Ghosts D) (read : Reads) (t : Task D) (over : Bool) (journal : List Line) (mid after : List D) → HaveBeenRead d mid after → ShowsThePromise d read t over journal mid → ShowsThePromise d read t over journal after
 promise_stays d read t over journal mid after since p =
     let same : readings_of d read after ≡ readings_of d read mid = λ i n. read (same_files d mid after since n i) in
+    let r = p.run in
     record {
+      run = record {
+        moves = r.moves;
+        are = r.are;
+        form = r.form;
+        last = r.last;
+        outside = r.outside;
+        lines = r.lines;
+        disks = subst (λ disks. DisksAre (let a = t in see [] (world_by a.header r.moves)) disks) (sym same) r.disks;
+      };
       serial = p.serial;
       book = p.book;
       held = p.held;
