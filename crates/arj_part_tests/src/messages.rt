@@ -1,6 +1,7 @@
 // Messages read, written and taken apart.
 ghost use Rattle.std.specs.Prelude.{◌≡◌, ◌≤◌, ℕ, Some, IfOk};
 ghost use Rattle.arj_msg.specs.Layout.{message_bytes};
+ghost use Rattle.arj_msg.specs.Sendable.{IsSendable};
 ghost use Rattle.arj_msg.specs.declared.message.Head.{Head};
 ghost use Rattle.arj_msg.specs.declared.message.Message.TheVariants as of;
 
@@ -28,18 +29,37 @@ fn loads(m: Message) -> Option<u16>
     }
 }
 
+// The bytes of a message, which is let go here alone.
+fn written(alloc: Global, m: Message) -> Result<Bytes, AllocError>
+    requires { IsSendable m }
+{
+    encode(alloc, &m)
+}
+
+// Whether these bytes spell a message, which is encoded to them.
+fn is_written_again(alloc: Global, bytes: &[u8]) -> Result<bool, AllocError> {
+    let Ok(message) = decode(alloc, bytes) else {
+        return Ok(false);
+    };
+    messages_in_form();
+    let again = written(alloc, message)?;
+    Ok(again.as_slice() == bytes)
+}
+
+// The node and the incarnation of a Hello.
+fn hello_of(alloc: Global, bytes: &[u8]) -> Option<(u8, u32)> {
+    match decode(alloc, bytes) {
+        Ok(Message::Hello(hello)) => Some((hello.node, hello.inc)),
+        _ => None,
+    }
+}
+
 #[test]
 fn places_of_faults(rt: HostRuntime) -> Result<(), Fail> {
     let alloc = rt.alloc();
     let hello = [0x14, 2, 0, 0, 0, 3];
-    let Ok(Message::Hello(read)) = decode(alloc, &hello) else {
-        return Err(Fail::new("not read"));
-    };
-    assert_eq!(rt; read.node, 2);
-    messages_in_form();
-    assert_eq!(rt; read.inc, 3);
-    let written = encode(alloc, &Message::Hello(read))?;
-    assert_eq!(rt; written.as_slice(), hello.as_slice());
+    assert!(rt; hello_of(alloc, &hello) == Some((2, 3)));
+    assert!(rt; is_written_again(alloc, &hello)?);
     let faults: [(&[u8], usize); 6] = [
         (&[], 0),
         (&[0xff], 0),
@@ -49,7 +69,7 @@ fn places_of_faults(rt: HostRuntime) -> Result<(), Fail> {
         (&[0x14, 2, 0, 0, 0, 3, 0], 6),
     ];
     for (bytes, place) in faults {
-        assert_eq!(rt; fault_of(alloc, bytes), Some(place));
+        assert!(rt; fault_of(alloc, bytes) == Some(place), "at {place}");
     }
     Ok(())
 }
@@ -208,24 +228,28 @@ fn every_message_is_read_back(rt: HostRuntime) -> Result<(), Fail> {
     Ok(())
 }
 
+// Whether each proper front of the bytes that ends in this field is a fault at the place where the field begins.
+fn fronts_are_faults(alloc: Global, bytes: &[u8], place: usize, end: usize) -> bool {
+    for front in place..bytes.len().min(end) {
+        if fault_of(alloc, &bytes[..front]) != Some(place) {
+            return false;
+        }
+    }
+    true
+}
+
 // Whether the fields spell a message, which is encoded to them, and each proper front of them is a fault at the place
 // where its first field begins that isn't whole.
 fn is_read_back(alloc: Global, fields: &[&[u8]]) -> Result<bool, Fail> {
     let bytes = fields.concat(alloc)?;
-    let Ok(message) = decode(alloc, &bytes) else {
-        return Ok(false);
-    };
-    messages_in_form();
-    if encode(alloc, &message)?.as_slice() != bytes.as_slice() {
+    if !is_written_again(alloc, &bytes)? {
         return Ok(false);
     }
     let mut place = 0usize;
     for field in fields {
         let end = place.saturating_add(field.len());
-        for front in place..bytes.len().min(end) {
-            if fault_of(alloc, &bytes[..front]) != Some(place) {
-                return Ok(false);
-            }
+        if !fronts_are_faults(alloc, &bytes, place, end) {
+            return Ok(false);
         }
         place = end;
     }

@@ -7,7 +7,6 @@ use arj_base::{Bytes, NodeList, Uid};
 use arj_disk::{Disk, DiskFault, MemDisk, Outcome, Slot};
 use arj_intent::{Intent, Intents, list, put, remove};
 use std::alloc::{AllocError, Global};
-use std::process::Abort;
 use std::test::Fail;
 
 const FIRST: Uid = Uid {
@@ -254,32 +253,57 @@ fn has_left(alloc: Global, disk: &mut Recorder, left: Left) -> Result<bool, Disk
     }
 }
 
-// The call with this stop, or with none, makes these calls of the disk and leaves this.
-fn leaves(
-    rt: &impl Abort,
+// Whether the call ends as it should: stopped exactly where a stop is given.
+fn ends(alloc: Global, disk: &mut Recorder, call: Call, stops: bool) -> Result<bool, DiskFault>
+    requires { AreInForm (⟦<Recorder as Disk>⟧.file disk.old) }
+    ensures { AreInForm (⟦<Recorder as Disk>⟧.file disk.new) }
+{
+    match ask(alloc, disk, call) {
+        Ok(()) => Ok(!stops),
+        Err(DiskFault::Stopped) => Ok(stops),
+        Err(DiskFault::Memory) => Err(DiskFault::Memory),
+    }
+}
+
+// Whether the call makes these calls of the disk and leaves this.
+fn makes(
     alloc: Global,
-    case: &Case,
-    stop: Option<(u32, Outcome)>,
+    disk: &mut Recorder,
+    call: Call,
+    stops: bool,
     dids: &[Did],
     left: Left,
-) -> Result<(), DiskFault> {
+) -> Result<bool, DiskFault>
+    requires { AreInForm (⟦<Recorder as Disk>⟧.file disk.old) }
+{
+    if !ends(alloc, disk, call, stops)? || disk.calls.as_slice() != dids {
+        return Ok(false);
+    }
+    has_left(alloc, disk, left)
+}
+
+// Whether the call with no stop makes these calls of the disk and leaves this.
+fn leaves(alloc: Global, case: &Case, dids: &[Did], left: Left) -> Result<bool, DiskFault> {
     let mut disk = start(alloc, case.before)?;
-    let stops = stop.is_some();
-    if let Some((calls, outcome)) = stop {
-        disk.disk.arm(calls.max(1), outcome);
-    }
-    match ask(alloc, &mut disk, case.call) {
-        Ok(()) => assert!(rt; !stops),
-        Err(DiskFault::Stopped) => assert!(rt; stops),
-        Err(DiskFault::Memory) => return Err(DiskFault::Memory),
-    }
-    assert_eq!(rt; disk.calls.as_slice(), dids);
-    assert!(rt; has_left(alloc, &mut disk, left)?);
-    Ok(())
+    makes(alloc, &mut disk, case.call, false, dids, left)
+}
+
+// And so with a stop at this call of the disk.
+fn stopped_leaves(
+    alloc: Global,
+    case: &Case,
+    at: (u32, Ending),
+    dids: &[Did],
+    left: Left,
+) -> Result<bool, DiskFault> {
+    let mut disk = start(alloc, case.before)?;
+    let outcome = outcome(alloc, at.1)?;
+    disk.disk.arm(at.0.max(1), outcome);
+    makes(alloc, &mut disk, case.call, true, dids, left)
 }
 
 // Stops a call at each of its calls of the disk, in each way.
-fn follow(rt: &impl Abort, alloc: Global, case: &Case, before: Left) -> Result<(), DiskFault> {
+fn follow(alloc: Global, case: &Case, before: Left) -> Result<bool, DiskFault> {
     let mut dids = Vec::new(alloc);
     let mut at = 0u32;
     let mut before = before;
@@ -287,23 +311,24 @@ fn follow(rt: &impl Abort, alloc: Global, case: &Case, before: Left) -> Result<(
         dids.push(*did)?;
         at = at.saturating_add(1);
         for ending in [Ending::Undone, Ending::Done, Ending::Torn] {
-            let stop = Some((at, outcome(alloc, ending)?));
             let left = left_by(ending, *did, before, *after);
-            leaves(rt, alloc, case, stop, dids.as_slice(), left)?;
+            if !stopped_leaves(alloc, case, (at, ending), dids.as_slice(), left)? {
+                return Ok(false);
+            }
         }
         before = *after;
     }
-    leaves(rt, alloc, case, None, dids.as_slice(), before)
+    leaves(alloc, case, dids.as_slice(), before)
 }
 
 #[test]
 fn stopped_at_each_call(rt: HostRuntime) -> Result<(), Fail> {
-    for case in CASES {
+    for (place, case) in CASES.iter().enumerate() {
         let before: Left = match case.before {
             [Row::First] => (None, &[Row::First]),
             _ => (None, &[Row::First, Row::Member]),
         };
-        follow(&rt, rt.alloc(), case, before)?;
+        assert!(rt; follow(rt.alloc(), case, before)?, "case {place}");
     }
     Ok(())
 }

@@ -19,7 +19,6 @@ use arj_base::{Bytes, Class, ObjectState, States, Uid, entry_uid, object_uid};
 use arj_disk::{Disk, DiskFault, MemDisk, Outcome, Role, Slot};
 use arj_store::{Found, ObjectStore, Read, ShadowStore, StoreFault};
 use std::alloc::{AllocError, Global};
-use std::process::Abort;
 use std::test::Fail;
 
 fn uid(role: Role, x: u16) -> Uid
@@ -287,25 +286,42 @@ fn again(
     Ok(store)
 }
 
+// Whether a disk got these calls.
+fn did(disk: &Recorder, calls: &[Did]) -> bool {
+    disk.calls.as_slice() == calls
+}
+
+// What a format of objects 1 and 2 asks of the disk.
+const PUTS: &[Did] = &[
+    WRITE_TMP,
+    Did::Rename(Slot::Tmp, COMMITTED_ONE),
+    WRITE_TMP,
+    Did::Rename(Slot::Tmp, COMMITTED_TWO),
+];
+
+fn formats_so(alloc: Global) -> Result<bool, StoreFault> {
+    let (disk, _) = start(alloc, Role::Store, [Some(0), Some(0)])?;
+    Ok(did(&disk, PUTS))
+}
+
+// Whether the store answers the calls so, with these calls of the disk. It is recovered behind each, or not.
+fn answers_so(alloc: Global, recovers: bool) -> Result<bool, StoreFault> {
+    let (mut disk, mut store) = start(alloc, Role::Store, [Some(0), None])?;
+    for (call, want, calls) in CALLS {
+        let answer = ask(alloc, &mut disk, &mut store, Role::Store, *call, None)?;
+        if answer != *want || !did(&disk, calls) {
+            return Ok(false);
+        }
+        store = again(alloc, &mut disk, store, Role::Store, recovers)?;
+    }
+    Ok(true)
+}
+
 #[test]
 fn calls_in_a_row(rt: HostRuntime) -> Result<(), Fail> {
-    let alloc = rt.alloc();
-    let (disk, _) = start(alloc, Role::Store, [Some(0), Some(0)])?;
-    let puts = [
-        WRITE_TMP,
-        Did::Rename(Slot::Tmp, COMMITTED_ONE),
-        WRITE_TMP,
-        Did::Rename(Slot::Tmp, COMMITTED_TWO),
-    ];
-    assert_eq!(rt; disk.calls.as_slice(), puts.as_slice());
+    assert!(rt; formats_so(rt.alloc())?);
     for recovers in [false, true] {
-        let (mut disk, mut store) = start(alloc, Role::Store, [Some(0), None])?;
-        for (call, want, calls) in CALLS {
-            let answer = ask(alloc, &mut disk, &mut store, Role::Store, *call, None)?;
-            assert_eq!(rt; answer, *want);
-            assert_eq!(rt; disk.calls.as_slice(), *calls);
-            store = again(alloc, &mut disk, store, Role::Store, recovers)?;
-        }
+        assert!(rt; answers_so(rt.alloc(), recovers)?);
     }
     Ok(())
 }
@@ -455,31 +471,70 @@ fn answers(alloc: Global, disk: &mut Recorder, role: Role) -> Result<Answers, St
     Ok((one, two))
 }
 
-// The last call with this stop, or with none, makes these calls of the disk and leaves this.
+// Whether the last call ends as it should, over a disk that stops so: stopped exactly where a stop is given.
+fn finishes(
+    alloc: Global,
+    disk: &mut Recorder,
+    store: &mut ShadowStore,
+    case: &Case,
+    stop: Option<(u32, Outcome)>,
+) -> Result<bool, StoreFault>
+    requires role { role_kept store.old ≡ case.now.role }
+    requires keeps { StoreKeeps store.old (⟦<Recorder as Disk>⟧.file disk.old) }
+    requires formed { FormedFor (⟦<Recorder as Disk>⟧.file disk.old) case.now.role }
+    requires arms { ⟦<Recorder as Disk>⟧.arms disk.old ≡ 0 }
+    ensures formed { FormedFor (⟦<Recorder as Disk>⟧.file disk.new) case.now.role }
+    ensures arms { ⟦<Recorder as Disk>⟧.arms disk.new ≤ 2 }
+{
+    let stops = stop.is_some();
+    match finish(alloc, disk, store, case, stop) {
+        Ok(()) => Ok(!stops),
+        Err(StoreFault::Stopped) => Ok(stops),
+        Err(StoreFault::Memory) => Err(StoreFault::Memory),
+    }
+}
+
+// Whether the disk has these files, and a recovered store answers so.
+fn has_all(alloc: Global, disk: &mut Recorder, role: Role, left: Left) -> Result<bool, StoreFault>
+    requires formed { FormedFor (⟦<Recorder as Disk>⟧.file disk.old) role }
+    requires arms { ⟦<Recorder as Disk>⟧.arms disk.old < 9 }
+{
+    let (tmp, files, told) = left;
+    if !has_left(alloc, &mut disk.disk, role, tmp, files)? {
+        return Ok(false);
+    }
+    Ok(answers(alloc, disk, role)? == told)
+}
+
+// Whether the last call with this stop, or with none, makes these calls of the disk and leaves this.
 fn leaves(
-    rt: &impl Abort,
     alloc: Global,
     case: &Case,
     stop: Option<(u32, Outcome)>,
     dids: &[Did],
     left: Left,
-) -> Result<(), StoreFault> {
-    let (tmp, files, told) = left;
+) -> Result<bool, StoreFault> {
     let (mut disk, mut store) = reach(alloc, case.role, case.calls)?;
-    let stops = stop.is_some();
-    match finish(alloc, &mut disk, &mut store, case, stop) {
-        Ok(()) => assert!(rt; !stops),
-        Err(StoreFault::Stopped) => assert!(rt; stops),
-        Err(StoreFault::Memory) => return Err(StoreFault::Memory),
+    if !finishes(alloc, &mut disk, &mut store, case, stop)? || !did(&disk, dids) {
+        return Ok(false);
     }
-    assert_eq!(rt; disk.calls.as_slice(), dids);
-    assert!(rt; has_left(alloc, &mut disk.disk, case.role, tmp, files)?);
-    assert_eq!(rt; answers(alloc, &mut disk, case.role)?, told);
-    Ok(())
+    has_all(alloc, &mut disk, case.role, left)
+}
+
+// And so with a stop at this call of the disk.
+fn stopped_leaves(
+    alloc: Global,
+    case: &Case,
+    at: (u32, Ending),
+    dids: &[Did],
+    left: Left,
+) -> Result<bool, StoreFault> {
+    let outcome = outcome(alloc, at.1)?;
+    leaves(alloc, case, Some((at.0, outcome)), dids, left)
 }
 
 // Stops a call at each of its calls of the disk, in each way.
-fn follow(rt: &impl Abort, alloc: Global, case: &Case) -> Result<(), StoreFault> {
+fn follow(alloc: Global, case: &Case) -> Result<bool, StoreFault> {
     let mut dids = Vec::new(alloc);
     let mut at = 0u32;
     let mut before = case.before;
@@ -487,19 +542,20 @@ fn follow(rt: &impl Abort, alloc: Global, case: &Case) -> Result<(), StoreFault>
         dids.push(*did)?;
         at = at.saturating_add(1);
         for ending in [Ending::Undone, Ending::Done, Ending::Torn] {
-            let stop = Some((at, outcome(alloc, ending)?));
             let left = left_by(ending, *did, before, *after);
-            leaves(rt, alloc, case, stop, dids.as_slice(), left)?;
+            if !stopped_leaves(alloc, case, (at, ending), dids.as_slice(), left)? {
+                return Ok(false);
+            }
         }
         before = *after;
     }
-    leaves(rt, alloc, case, None, dids.as_slice(), before)
+    leaves(alloc, case, None, dids.as_slice(), before)
 }
 
 #[test]
 fn stopped_at_each_call(rt: HostRuntime) -> Result<(), Fail> {
-    for case in CASES {
-        follow(&rt, rt.alloc(), case)?;
+    for (place, case) in CASES.iter().enumerate() {
+        assert!(rt; follow(rt.alloc(), case)?, "case {place}");
     }
     Ok(())
 }
@@ -530,16 +586,22 @@ fn prepared_in(alloc: Global, found: &Found) -> Result<Vec<(Uid, Seen)>, AllocEr
     Ok(prepared)
 }
 
+// Whether the store has found these states, and lists these actions.
+fn has_found(alloc: Global, store: &ShadowStore, finding: &Finding) -> Result<bool, AllocError> {
+    if committed_in(alloc, store.found())?.as_slice() != finding.committed {
+        return Ok(false);
+    }
+    if prepared_in(alloc, store.found())?.as_slice() != finding.prepared {
+        return Ok(false);
+    }
+    Ok(store.actions(alloc)?.as_slice() == finding.actions)
+}
+
 #[test]
 fn a_naming_store_is_found(rt: HostRuntime) -> Result<(), Fail> {
-    let alloc = rt.alloc();
-    for finding in FINDINGS {
-        let store = recover_after(alloc, finding)?;
-        let committed = committed_in(alloc, store.found())?;
-        assert_eq!(rt; committed.as_slice(), finding.committed);
-        let prepared = prepared_in(alloc, store.found())?;
-        assert_eq!(rt; prepared.as_slice(), finding.prepared);
-        assert_eq!(rt; store.actions(alloc)?.as_slice(), finding.actions);
+    for (place, finding) in FINDINGS.iter().enumerate() {
+        let store = recover_after(rt.alloc(), finding)?;
+        assert!(rt; has_found(rt.alloc(), &store, finding)?, "finding {place}");
     }
     Ok(())
 }
