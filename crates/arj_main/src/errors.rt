@@ -2,27 +2,56 @@
 ghost use Rattle.std.specs.Prelude.{◌≡◌, IfSome};
 ghost use Rattle.arj_journal.specs.declared.body.Body.{Body};
 
+use crate::forms::form_of;
+use crate::help::help;
+use crate::pieces::{piece_at, word_at};
+use crate::refused::{count_of_refused, first_refused, refusal_words};
+use crate::shown::Shown;
+use crate::slip_tests::is;
+use crate::{Place, place_of_line, slip_of};
 use arj_journal::{Body, Line, Which};
 use arj_loop::BadLine;
+use std::alloc::Global;
 use std::io;
 
-/// Says on standard error what ended the program's run, and where, by the status, the journal's last line and why a line is bad.
-/// At status 0 it says nothing.
-pub fn explain(
-    rt: &impl Eprint,
-    status: u8,
-    last: Option<&Line>,
-    why: Option<BadLine>,
-) -> io::Result<()> {
+/// What a run leaves, of which is told: its words, whether they are `replay` and a file; the script as far as it was read, where
+/// it is remembered; the journal; and why a line is bad.
+pub struct Ran<'a> {
+    pub gave_file: bool,
+    pub script: Option<&'a [u8]>,
+    pub journal: &'a [Line],
+    pub why: Option<BadLine>,
+}
+
+/// Says on standard error what ended the program's run, and where, by the status and what the run left. At status 0 it says how
+/// many events were refused, if some were.
+pub fn explain(rt: &impl Eprint, alloc: Global, status: u8, ran: &Ran) -> io::Result<()> {
+    let last = ran.journal.last();
     match status {
-        0 => Ok(()),
-        1 => eprintln!(rt; "usage: arjuna replay | arjuna generate N"),
-        2 => bad_line(rt, last, why),
+        0 => refusals(rt, ran.journal),
+        1 => help(rt, ran.gave_file),
+        2 => bad_line(rt, alloc, ran),
         3 => eprintln!(rt; "arjuna: standard input could not be read"),
         4 => eprintln!(rt; "arjuna: standard output could not be written"),
         6 => limit(rt, last),
         7 => stopped_disk(rt, last),
         _ => eprintln!(rt; "arjuna: out of memory"),
+    }
+}
+
+// How many events were refused, and the first.
+fn refusals(rt: &impl Eprint, journal: &[Line]) -> io::Result<()> {
+    let Some(first) = first_refused(journal) else {
+        return Ok(());
+    };
+    let count = count_of_refused(journal);
+    let event = first.event;
+    let words = refusal_words(first.cause);
+    match count {
+        1 => eprintln!(rt; "arjuna: 1 event was refused, event {event}: {words}"),
+        _ => eprintln!(rt;
+            "arjuna: {count} events were refused, the first is event {event}: {words}"
+        ),
     }
 }
 
@@ -34,16 +63,86 @@ fn stopped_disk(rt: &impl Eprint, last: Option<&Line>) -> io::Result<()> {
     }
 }
 
-fn bad_line(rt: &impl Eprint, last: Option<&Line>, why: Option<BadLine>) -> io::Result<()> {
-    let Some(why) = why else {
+fn bad_line(rt: &impl Eprint, alloc: Global, ran: &Ran) -> io::Result<()> {
+    let Some(why) = ran.why else {
         return eprintln!(rt; "arjuna: a line of the script is bad");
     };
-    if let BadLine::Missing = why {
-        return eprintln!(rt; "arjuna: the input ended before `run`");
+    let Some(number) = number_of(ran.journal.last()) else {
+        return eprintln!(rt; "arjuna: a line of the script is {why}");
+    };
+    match ran.script {
+        Some(script) => known_line(rt, alloc, why, script, number),
+        None => eprintln!(rt; "arjuna: line {number} of the script is {why}"),
     }
-    match number_of(last) {
-        Some(number) => eprintln!(rt; "arjuna: line {number} of the script is {why}"),
-        None => eprintln!(rt; "arjuna: a line of the script is {why}"),
+}
+
+// A bad line of a script that is remembered: its text, what could stand there, and the slip.
+fn known_line(
+    rt: &impl Eprint,
+    alloc: Global,
+    why: BadLine,
+    script: &[u8],
+    number: u32,
+) -> io::Result<()> {
+    let place = place_of_line(alloc, script, number);
+    if let BadLine::Missing = why {
+        eprintln!(rt; "arjuna: the input ended before `run`")?;
+        return expected(rt, place.as_ref(), &[]);
+    }
+    let line = line_at(script, number);
+    eprintln!(rt;
+        "arjuna: line {number} of the script is {why}: `{}`",
+        Shown(line)
+    )?;
+    if let BadLine::TooLong = why {
+        return Ok(());
+    }
+    expected(rt, place.as_ref(), line)?;
+    let Some(place) = &place else {
+        return Ok(());
+    };
+    match slip_of(line, place) {
+        Some(slip) => eprintln!(rt; "arjuna: the slip: {slip}"),
+        None => Ok(()),
+    }
+}
+
+// The text of the line with this number, from 1.
+fn line_at(script: &[u8], number: u32) -> &[u8] {
+    match piece_at(script, b'\n', (number as usize).saturating_sub(1)) {
+        Some(line) => line,
+        None => &[],
+    }
+}
+
+// What could stand at a place, in the line of that form if the line begins as one does.
+fn expected(rt: &impl Eprint, place: Option<&Place>, line: &[u8]) -> io::Result<()> {
+    match place {
+        None => Ok(()),
+        Some(Place::Start) => eprintln!(rt;
+            "arjuna: expected here: `nodes N`, with N from 1 to 16, before anything but blank lines and comments"
+        ),
+        Some(Place::Header(header)) if is(word_at(line, 0), b"object") => {
+            let nodes = header.nodes;
+            eprintln!(rt;
+                "arjuna: expected here: `object X CLASS VALUE servers LIST stores LIST`, with X from 1 to 256, and in the lists nodes from 1 to {nodes}"
+            )
+        }
+        Some(Place::Header(_)) => eprintln!(rt;
+            "arjuna: expected here: `object X CLASS VALUE servers LIST stores LIST`, or `run`"
+        ),
+        Some(Place::Running) => expected_event(rt, word_at(line, 0)),
+    }
+}
+
+fn expected_event(rt: &impl Eprint, first: &[u8]) -> io::Result<()> {
+    match form_of(first) {
+        Some(form) => eprintln!(rt;
+            "arjuna: expected here: `{form}` (docs/FORMATS.md, \"Script\")"
+        ),
+        None => eprintln!(rt;
+            "arjuna: expected here: an event, which begins with begin, top, serial, call, include, commit, abort, giveup, deliver, lose, tick, settle, quiesce, crash, restart, stop, junk or show"
+        ),
     }
 }
 

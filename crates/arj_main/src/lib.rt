@@ -1,10 +1,23 @@
-//! The main's own work: the words of the command line, and what is said on standard error.
+//! The main's own work: the words of the command line, a source that remembers what it gave, and what is said on standard error.
 //!
-//! It stands on `arj_loop` and `arj_journal`. It gives no contract upward: what it says tells of a status that is known.
+//! It stands on `arj_script`, whose reader tells where a line stands, `arj_io`, `arj_loop` and `arj_journal`. It gives no contract
+//! upward: what it says tells of a status that is known. Which slip of a bad line is named, and when, says `specs/Slips.antt`.
 #![tactic(auto)]
 
 mod command;
 mod errors;
+mod forms;
+mod help;
+mod pieces;
+mod place;
+mod refused;
+mod remembering;
+mod shown;
+mod slip;
+mod slip_tests;
 
 pub use command::words;
-pub use errors::explain;
+pub use errors::{Ran, explain};
+pub use place::{Place, place_of_line};
+pub use remembering::Remembering;
+pub use slip::{Slip, slip_of};

@@ -5,46 +5,69 @@
 
 ghost use Rattle.std.specs.Prelude.{◌≡◌, []};
 
+use arj_base::Bytes;
 use arj_io::{StdSink, StdSource};
 use arj_journal::Lines;
-use arj_main::{explain, words};
+use arj_main::{Ran, Remembering, explain, words};
 use arj_top::{BadLine, arjuna, empty_rack};
 use std::io::{self, BufReader};
 use std::process::ExitCode;
 
 fn main(rt: HostRuntime) -> ExitCode {
     let alloc = rt.alloc();
-    let mut journal = Lines::new(alloc);
-    let mut why = None;
-    let status = match run(&rt, &mut journal, &mut why) {
+    let mut left = Left {
+        gave_file: false,
+        script: None,
+        journal: Lines::new(alloc),
+        why: None,
+    };
+    let status = match run(&rt, &mut left) {
         Ok(status) => status,
         // A word that isn't UTF-8 is no command line; else memory was wanting.
         Err(error) if error.kind() == io::ErrorKind::InvalidData => 1,
         Err(_) => 5,
     };
+    let ran = Ran {
+        gave_file: left.gave_file,
+        script: left.script.as_ref().map(|script| script.as_slice()),
+        journal: left.journal.as_slice(),
+        why: left.why,
+    };
     // Where standard error takes nothing, the status still says what happened.
-    explain(&rt, status, journal.as_slice().last(), why).ok();
+    explain(&rt, alloc, status, &ran).ok();
     ExitCode::from(status)
 }
 
+// What the run leaves to be told of.
+struct Left {
+    gave_file: bool,
+    script: Option<Bytes>,
+    journal: Lines,
+    why: Option<BadLine>,
+}
+
 // The top call over the real ends. An error is one of the words, or want of memory.
-fn run(rt: &HostRuntime, journal: &mut Lines, why: &mut Option<BadLine>) -> io::Result<u8>
-    requires { journal.old ≡ [] }
+fn run(rt: &HostRuntime, left: &mut Left) -> io::Result<u8>
+    requires { left.old.journal ≡ [] }
 {
     let alloc = rt.alloc();
     let words = words(rt, alloc)?;
-    let mut source = StdSource::new(BufReader::new(alloc, rt.reader())?);
+    left.gave_file = words.len() == 2 && words[0].as_str() == "replay";
+    let input = StdSource::new(BufReader::new(alloc, rt.reader())?);
+    let mut source = Remembering::new(alloc, input);
     let mut sink = StdSink::new(io::writer(rt));
     let mut rack = empty_rack(alloc)?;
     let mut world = None;
-    Ok(arjuna(
+    let status = arjuna(
         alloc,
         words.as_slice(),
         &mut source,
         &mut sink,
         &mut rack,
-        journal,
-        why,
+        &mut left.journal,
+        &mut left.why,
         &mut world,
-    ))
+    );
+    left.script = source.into_given();
+    Ok(status)
 }

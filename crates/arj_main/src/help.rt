@@ -1,0 +1,22 @@
+// The help text.
+use std::io;
+
+/// Says what the commands are, with an example, and where to read on.
+pub fn help(rt: &impl Eprint, gave_file: bool) -> io::Result<()> {
+    eprintln!(rt; "usage: arjuna replay | arjuna generate N")?;
+    if gave_file {
+        eprintln!(rt;
+            "`replay` takes no file: the script comes on standard input, as in `arjuna replay < FILE`"
+        )?;
+    }
+    eprintln!(rt;
+        "  arjuna replay < SCRIPT   runs the script on standard input, and writes its journal"
+    )?;
+    eprintln!(rt;
+        "  arjuna generate N        runs the bank of the number N, from 0 to 4294967295, and writes its summary"
+    )?;
+    eprintln!(rt; "An example: arjuna replay < examples/02-smallest/script")?;
+    eprintln!(rt;
+        "Read on in docs/START.md, a tour; docs/FORMATS.md, each line of scripts and journals; README.md, the statuses."
+    )
+}
