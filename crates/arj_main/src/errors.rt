@@ -16,6 +16,7 @@ use std::io;
 
 /// What a run leaves, of which is told: its words, whether they are `replay` and a file; the script as far as it was read, where
 /// it is remembered; the journal; and why a line is bad.
+#[derive(Clone, Copy)]
 pub struct Ran<'a> {
     pub gave_file: bool,
     pub script: Option<&'a [u8]>,
@@ -84,7 +85,7 @@ fn known_line(
     script: &[u8],
     number: u32,
 ) -> io::Result<()> {
-    let place = place_of_line(alloc, script, number);
+    let place = place_of_line(alloc, script, number as usize);
     if let BadLine::Missing = why {
         eprintln!(rt; "arjuna: the input ended before `run`")?;
         return expected(rt, place.as_ref(), &[]);

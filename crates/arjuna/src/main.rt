@@ -39,6 +39,7 @@ fn main(rt: HostRuntime) -> ExitCode {
 }
 
 // What the run leaves to be told of.
+#[derive(Drop)]
 struct Left {
     gave_file: bool,
     script: Option<Bytes>,
