@@ -1,0 +1,5 @@
+mod Calls
+mod Loops
+mod Marks
+mod Paths
+mod Survive

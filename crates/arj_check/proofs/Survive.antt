@@ -1,0 +1,143 @@
+-- Which calls survive, action by action.
+use Rattle.std.proofs.Common.{◌≡◌, ◌≢◌, ◌<◌, ◌⊎◌, inl, inr, true≢false, ℕ, zero, suc, List, [], ◌∷◌, ◌++◌, map, take, Bool, true, false, cond, ◌&&◌, ◌||◌, ◌==◌, Option, Some, None, slice_get, get_or, refl, sym, ◌∙◌, ap, subst, arith}
+use Rattle.std.specs.List.{list_all}
+use Rattle.std.specs.Prelude.{is_some}
+use Rattle.std.specs.BTreeMap.{get}
+use Rattle.std.specs.Option.{option_map, unwrap_or}
+use Rattle.std.specs.Ordering.{nat_cmp}
+use Rattle.std.proofs.lemmas.Bool.{eq-eqb, eqb-true}
+use Rattle.std.proofs.lemmas.Option.{get_or_from_slice_get, slice_get-map, slice_get_within}
+use Rattle.arj_base.specs.Order.{uid_order}
+use Rattle.arj_base.specs.declared.uid.Uid.{Uid}
+use Rattle.arj_model.specs.Actions.{Act, Placed, acts, chain_in, committed, has_end, is_committed, recovered, root_in, top_in}
+use Rattle.arj_model.specs.Calls.{Top, root_or, top_by, top_of}
+use Rattle.arj_law.proofs.Common.{never}
+use Rattle.arj_journal.specs.declared.body.Line.{Line}
+use Rattle.arj_reading.specs.Reading.{HasRead, actions_of, top_action}
+use Rattle.arj_reading.specs.declared.reading.Reading.{Reading}
+use Rattle.arj_reading.proofs.Numbers.{are_numbered, first_has}
+use Rattle.arj_reading.specs.declared.action.Action.{Action}
+use Rattle.arj_reading.specs.declared.action.TopAction.{TopAction}
+use Rattle.arj_replay.specs.Orders.{paths, survives, survives_below, test_at}
+use Rattle.arj_check.specs.Keys.{is_committed_top, top_at}
+use Rattle.arj_check.proofs.Loops.{next_path}
+use Rattle.arj_check.proofs.Paths.{PathIs, is_at, no_path, path_is, stands_some}
+
+all_push : (t : Act → Bool) (xs : List Act) (a : Act) → list_all t (xs ++ a ∷ []) ≡ (list_all t xs && t a)
+all_push t [] a = one (t a)
+  where
+    one : (b : Bool) → (b && true) ≡ (true && b)
+    one true = refl
+    one false = refl
+all_push t (x ∷ xs) a = by (t x) (all_push t xs a)
+  where
+    by : (b : Bool) → list_all t (xs ++ a ∷ []) ≡ (list_all t xs && t a) → (b && list_all t (xs ++ a ∷ [])) ≡ ((b && list_all t xs) && t a)
+    by true ih = ih
+    by false ih = refl
+
+moved : (x h c : Bool) → ((x && h) && c) ≡ (h && (x && c))
+moved true true c = refl
+moved true false c = refl
+moved false true c = refl
+moved false false c = refl
+
+module _ (ends : List (Placed ℕ)) (found : List (Placed Uid)) (earlier : List (List Act)) (i : ℕ) (a : Action) (p : List Act) (is : PathIs earlier i a p) where
+  -- no top stands on the path
+  pub no_top : a.top ≡ None → survives ends found p ≡ false
+  no_top e = by (top_in p) (sym is.top ∙ e)
+    where
+      by : (o : Option Act) → option_map top_action o ≡ None → survives_below ends found p o ≡ false
+      by None g = refl
+      by (Some t) g = absurd (cc g)
+
+  -- what is kept of the top
+  its_top : (top : TopAction) → a.top ≡ Some top → (t : Act) → top_in p ≡ Some t → top ≡ top_action t
+  its_top top e t g = let same : Some top ≡ Some (top_action t) = sym e ∙ is.top ∙ ap (option_map top_action) g in cc same
+
+  -- the action is a top itself
+  pub own_top : (top : TopAction) → a.top ≡ Some top → (top.number == i) ≡ true → (t : Act) × (top ≡ top_action t) × (survives ends found p ≡ is_committed ends found t)
+  own_top top e same = by is.way
+    where
+      by : ((top_in p ≡ Some is.act) × (chain_in p ≡ [])) ⊎ ((top_in p ≡ None) ⊎ ((j : ℕ) × (q : List Act) × (t : Act) × (a.above ≡ Some j) × (slice_get earlier j ≡ Some q) × (top_in p ≡ Some t) × (top_in q ≡ Some t) × (t.id < i) × (chain_in p ≡ chain_in q ++ is.act ∷ [])))
+          → (t : Act) × (top ≡ top_action t) × (survives ends found p ≡ is_committed ends found t)
+      by (inl w) = (is.act, its_top top e is.act w.0, ap (survives_below ends found p) w.0 ∙ ap (λ c. list_all (λ b. has_end ends b.id) c && is_committed ends found is.act) w.1)
+      by (inr (inl none)) = let no : Some top ≡ None = sym e ∙ is.top ∙ ap (option_map top_action) none in absurd (cc no)
+      by (inr (inr w)) =
+          let t : Act = w.2 in
+          let lt : t.id < i = w.7 in
+          let it : top ≡ top_action t = its_top top e t w.5 in
+          let at : t.id ≡ i = ap (λ x. x.number) (sym it) ∙ eqb-true top.number i same in
+          absurd (omega (arith, lt, at))
+
+  -- the action stands below another top
+  pub other_top : (top : TopAction) → a.top ≡ Some top → (top.number == i) ≡ false → survives ends found p ≡ (has_end ends i && test_at (map (survives ends found) earlier) a.above)
+  other_top top e apart = by is.way
+    where
+      by : ((top_in p ≡ Some is.act) × (chain_in p ≡ [])) ⊎ ((top_in p ≡ None) ⊎ ((j : ℕ) × (q : List Act) × (t : Act) × (a.above ≡ Some j) × (slice_get earlier j ≡ Some q) × (top_in p ≡ Some t) × (top_in q ≡ Some t) × (t.id < i) × (chain_in p ≡ chain_in q ++ is.act ∷ [])))
+          → survives ends found p ≡ (has_end ends i && test_at (map (survives ends found) earlier) a.above)
+      by (inl w) = let it : top ≡ top_action is.act = its_top top e is.act w.0 in let at : top.number ≡ i = ap (λ x. x.number) it ∙ is.id in never (top.number == i) (eq-eqb top.number i at) apart
+      by (inr (inl none)) = let no : Some top ≡ None = sym e ∙ is.top ∙ ap (option_map top_action) none in absurd (cc no)
+      by (inr (inr w)) =
+          let j : ℕ = w.0 in
+          let q : List Act = w.1 in
+          let t : Act = w.2 in
+          let its : survives ends found q ≡ (list_all (λ b. has_end ends b.id) (chain_in q) && is_committed ends found t) = ap (survives_below ends found q) w.6 in
+          let here : test_at (map (survives ends found) earlier) a.above ≡ survives ends found q =
+          ap (test_at (map (survives ends found) earlier)) w.3 ∙ get_or_from_slice_get (map (survives ends found) earlier) j (survives ends found q) false (slice_get-map (survives ends found) earlier j ∙ ap (option_map (survives ends found)) w.4) in
+          ap (survives_below ends found p) w.5
+          ∙ ap (λ c. list_all (λ b. has_end ends b.id) c && is_committed ends found t) w.8
+          ∙ ap (λ b. b && is_committed ends found t) (all_push (λ b. has_end ends b.id) (chain_in q) is.act)
+          ∙ moved (list_all (λ b. has_end ends b.id) (chain_in q)) (has_end ends is.act.id) (is_committed ends found t)
+          ∙ (λ k. has_end ends (is.id k) && sym its k)
+          ∙ ap (λ b. has_end ends i && b) (sym here)
+
+-- a top is committed by a line of its number, or by a record of its Uid
+pub committed_is : (lines : List Line) (r : Reading) → HasRead lines r → (top : TopAction) → (is_some (get nat_cmp r.committed top.number) || is_some (get uid_order r.found top.uid)) ≡ is_committed_top (committed lines) (recovered lines) top
+committed_is lines r has top = (λ i. (ap is_some (has.committed_at top.number) ∙ first_has (committed lines) top.number) i || has.found top.uid i)
+
+-- Tops by marks.
+
+-- the top whose commit was called at a mark, by what is kept of the action
+abbrev pub top_kept : List (Placed ℕ) → List (Placed Uid) → ℕ → Option Action → Option TopAction → Option Top
+top_kept ends found at None top = None
+top_kept ends found at (Some a) None = None
+top_kept ends found at (Some a) (Some top) = cond (is_committed_top ends found top) (Some (record { id = top.number; root = a.root; at = at })) None
+
+-- the top of an action, if there is one
+abbrev pub top_found : Option Action → Option TopAction
+top_found None = None
+top_found (Some a) = a.top
+
+pub mark_top : (ends : List (Placed ℕ)) (found : List (Placed Uid)) (lines : List Line) (i at : ℕ) (o : Option Action) → o ≡ slice_get (actions_of (acts lines)) i → top_kept ends found at o (top_found o) ≡ top_at ends found (paths (acts lines)) (record { at = at; it = i })
+mark_top ends found lines i at None e = sym (ap (λ p. top_of ends found (record { at = at; it = p })) (ap (λ q. unwrap_or q []) none))
+  where
+    none : slice_get (paths (acts lines)) i ≡ None
+    none = no_path (acts lines) i (sym e)
+mark_top ends found lines i at (Some a) e = by (next_path lines i (slice_get_within (actions_of (acts lines)) i a (sym e)))
+  where
+    by : (p : List Act) × (slice_get (paths (acts lines)) i ≡ Some p) × (take (suc i) (paths (acts lines)) ≡ take i (paths (acts lines)) ++ p ∷ []) → top_kept ends found at (Some a) a.top ≡ top_at ends found (paths (acts lines)) (record { at = at; it = i })
+    by next =
+        let it = is_at (acts lines) (are_numbered lines) i a next.0 (sym e) next.1 in
+        (λ k. top_kept ends found at (Some a) (ap (λ b. b.top) it.is k))
+        ∙ same next.0 it.act (ap (λ b. b.root) it.is) (stands_some (take i (paths (acts lines))) i it.act a.above next.0 it.stands) (top_in next.0)
+        ∙ ap (λ q. top_of ends found (record { at = at; it = unwrap_or q [] })) (sym next.1)
+      where
+        same : (p : List Act) (act : Act) → a.root ≡ root_or act.id (root_in p) → p ≢ [] → (t : Option Act) → top_kept ends found at (Some a) (option_map top_action t) ≡ top_by ends found (record { at = at; it = p }) t
+        same [] act root some t = absurd (some refl)
+        same (r ∷ p) act root some None = refl
+        same (r ∷ p) act root some (Some t) = (λ k. cond (is_committed ends found t) (Some (record { id = t.id; root = root k; at = at })) None)
+
+-- Which calls of an action survive, by what is kept of it.
+module _ (lines : List Line) (i : ℕ) (a : Action) (p : List Act) (kept : slice_get (actions_of (acts lines)) i ≡ Some a) (its : slice_get (paths (acts lines)) i ≡ Some p) where
+  here : PathIs (take i (paths (acts lines))) i a p
+  here = path_is (take i (paths (acts lines))) i a p (is_at (acts lines) (are_numbered lines) i a p kept its)
+
+  pub survive_none : a.top ≡ None → false ≡ survives (committed lines) (recovered lines) p
+  survive_none e = sym (no_top (committed lines) (recovered lines) (take i (paths (acts lines))) i a p here e)
+
+  pub survive_own : (top : TopAction) → a.top ≡ Some top → (top.number == i) ≡ true → is_committed_top (committed lines) (recovered lines) top ≡ survives (committed lines) (recovered lines) p
+  survive_own top e same = let o = own_top (committed lines) (recovered lines) (take i (paths (acts lines))) i a p here top e same in ap (is_committed_top (committed lines) (recovered lines)) o.1 ∙ sym o.2
+
+  pub survive_other : (before : List Bool) (top : TopAction) → a.top ≡ Some top → (top.number == i) ≡ false → before ≡ map (survives (committed lines) (recovered lines)) (take i (paths (acts lines)))
+      → (has_end (committed lines) i && test_at before a.above) ≡ survives (committed lines) (recovered lines) p
+  survive_other before top e apart is = ap (λ ts. has_end (committed lines) i && test_at ts a.above) is ∙ sym (other_top (committed lines) (recovered lines) (take i (paths (acts lines))) i a p here top e apart)
