@@ -6,8 +6,10 @@
 #![tactic(auto)]
 
 mod laws;
+mod places;
 
 pub use laws::{
     calls_are_found_by_marks, calls_survive_by_actions, readable_calls_can_be_run,
     serial_places_are_sorted, tops_are_found_by_marks,
 };
+pub use places::{is_committed, survivals};
