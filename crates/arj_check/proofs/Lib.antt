@@ -2,4 +2,5 @@ mod Calls
 mod Loops
 mod Marks
 mod Paths
+mod Roots
 mod Survive

@@ -9,6 +9,7 @@ use Rattle.arj_model.specs.Calls.{Top, top_of}
 use Rattle.arj_model.specs.Serial.{serial_key}
 use Rattle.arj_reading.specs.declared.action.TopAction.{TopAction}
 use Rattle.arj_replay.specs.Orders.{commits_in}
+use Rattle.arj_check.specs.declared.called.CalledTop.{CalledTop}
 
 -- a top's root, as an item of the top's number
 abbrev pub root_item : Top → Placed ℕ
@@ -52,3 +53,7 @@ one_or_none (Some t) = t ∷ []
 -- a top is committed, by what is kept of it
 abbrev pub is_committed_top : List (Placed ℕ) → List (Placed Uid) → TopAction → Bool
 is_committed_top ends found top = has_end ends top.number || list_any (λ u. uid_eq u.it top.uid) found
+
+-- a called commit, as a top
+abbrev pub top_called : CalledTop → Top
+top_called t = record { id = t.number; root = t.root; at = t.at }

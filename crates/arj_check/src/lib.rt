@@ -5,11 +5,14 @@
 //! makes the keys of what was read, sorts them and runs the calls at these places runs the journal's serial order.
 #![tactic(auto)]
 
+mod called;
 mod laws;
 mod places;
+mod tops;
 
 pub use laws::{
     calls_are_found_by_marks, calls_survive_by_actions, readable_calls_can_be_run,
     serial_places_are_sorted, tops_are_found_by_marks,
 };
 pub use places::{is_committed, survivals};
+pub use tops::{Tops, make_tops};
