@@ -22,7 +22,7 @@ use Rattle.arj_check.proofs.Paths.{path_here}
 
 -- Roots, places and units.
 
-root_is : (ts : List Top) (id : ℕ) → unwrap_or (first_place (map root_item ts) id) id ≡ root_of ts id
+pub root_is : (ts : List Top) (id : ℕ) → unwrap_or (first_place (map root_item ts) id) id ≡ root_of ts id
 root_is [] id = refl
 root_is (t ∷ ts) id = by (t.id == id) (root_is ts id)
   where
@@ -30,7 +30,7 @@ root_is (t ∷ ts) id = by (t.id == id) (root_is ts id)
     by true ih = refl
     by false ih = ih
 
-place_is : (ts : List Top) (id : ℕ) → unwrap_or (first_place (map place_item ts) id) 0 ≡ top_place ts id
+pub place_is : (ts : List Top) (id : ℕ) → unwrap_or (first_place (map place_item ts) id) 0 ≡ top_place ts id
 place_is [] id = refl
 place_is (t ∷ ts) id = by (t.id == id) (place_is ts id)
   where

@@ -19,7 +19,8 @@ use Rattle.arj_reading.proofs.Numbers.{are_numbered, first_has}
 use Rattle.arj_reading.specs.declared.action.Action.{Action}
 use Rattle.arj_reading.specs.declared.action.TopAction.{TopAction}
 use Rattle.arj_replay.specs.Orders.{paths, survives, survives_below, test_at}
-use Rattle.arj_check.specs.Keys.{is_committed_top, top_at}
+use Rattle.arj_check.specs.Keys.{is_committed_top, key_below, path_at, serial_of, top_at}
+use Rattle.arj_model.specs.Serial.{serial_key}
 use Rattle.arj_check.proofs.Loops.{next_path}
 use Rattle.arj_check.proofs.Paths.{PathIs, is_at, no_path, path_is, stands_some}
 
@@ -141,3 +142,46 @@ module _ (lines : List Line) (i : ℕ) (a : Action) (p : List Act) (kept : slice
   pub survive_other : (before : List Bool) (top : TopAction) → a.top ≡ Some top → (top.number == i) ≡ false → before ≡ map (survives (committed lines) (recovered lines)) (take i (paths (acts lines)))
       → (has_end (committed lines) i && test_at before a.above) ≡ survives (committed lines) (recovered lines) p
   survive_other before top e apart is = ap (λ ts. has_end (committed lines) i && test_at ts a.above) is ∙ sym (other_top (committed lines) (recovered lines) (take i (paths (acts lines))) i a p here top e apart)
+
+-- Keys by marks.
+module _ (lines : List Line) (ts : List Top) (i at : ℕ) where
+  abbrev its_key : List Act → Option (List ℕ)
+  its_key p = key_below (serial_of ts) (committed lines) (recovered lines) p at (top_in p)
+
+  pub key_none : slice_get (actions_of (acts lines)) i ≡ None → None ≡ its_key (path_at (paths (acts lines)) i)
+  key_none e = sym (ap (λ q. its_key (unwrap_or q [])) (no_path (acts lines) i e))
+
+  path_found : (a : Action) → slice_get (actions_of (acts lines)) i ≡ Some a → (p : List Act) × (slice_get (paths (acts lines)) i ≡ Some p) × (a.top ≡ option_map top_action (top_in p))
+  path_found a e =
+      let next = next_path lines i (slice_get_within (actions_of (acts lines)) i a e) in
+      let it = is_at (acts lines) (are_numbered lines) i a next.0 e next.1 in
+      (next.0, next.1, ap (λ b. b.top) it.is)
+
+  at_path : (p : List Act) → slice_get (paths (acts lines)) i ≡ Some p → its_key p ≡ its_key (path_at (paths (acts lines)) i)
+  at_path p e = ap (λ q. its_key (unwrap_or q [])) (sym e)
+
+  pub key_no_top : (a : Action) → slice_get (actions_of (acts lines)) i ≡ Some a → a.top ≡ None → None ≡ its_key (path_at (paths (acts lines)) i)
+  key_no_top a e none = let f = path_found a e in by f.0 (top_in f.0) (sym f.2 ∙ none) ∙ at_path f.0 f.1
+    where
+      by : (p : List Act) (t : Option Act) → option_map top_action t ≡ None → None ≡ key_below (serial_of ts) (committed lines) (recovered lines) p at t
+      by p None g = refl
+      by p (Some t) g = absurd (cc g)
+
+  test_of : (p : List Act) → slice_get (paths (acts lines)) i ≡ Some p → test_at (map (survives (committed lines) (recovered lines)) (paths (acts lines))) (Some i) ≡ survives (committed lines) (recovered lines) p
+  test_of p e = get_or_from_slice_get (map (survives (committed lines) (recovered lines)) (paths (acts lines))) i (survives (committed lines) (recovered lines) p) false (slice_get-map (survives (committed lines) (recovered lines)) (paths (acts lines)) i ∙ ap (option_map (survives (committed lines) (recovered lines))) e)
+
+  pub key_some : (a : Action) (top : TopAction) → slice_get (actions_of (acts lines)) i ≡ Some a → a.top ≡ Some top → test_at (map (survives (committed lines) (recovered lines)) (paths (acts lines))) (Some i) ≡ true
+      → Some (serial_key ts top.number ++ at ∷ []) ≡ its_key (path_at (paths (acts lines)) i)
+  key_some a top e is test = let f = path_found a e in by f.0 (top_in f.0) (sym f.2 ∙ is) (sym (test_of f.0 f.1) ∙ test) ∙ at_path f.0 f.1
+    where
+      by : (p : List Act) (t : Option Act) → option_map top_action t ≡ Some top → survives_below (committed lines) (recovered lines) p t ≡ true → Some (serial_key ts top.number ++ at ∷ []) ≡ key_below (serial_of ts) (committed lines) (recovered lines) p at t
+      by p None g h = absurd (cc g)
+      by p (Some t) g h = let same : top_action t ≡ top = cc g in (λ k. Some (serial_key ts (ap (λ x. x.number) (sym same) k) ++ at ∷ [])) ∙ (λ k. cond (sym h k) (Some (serial_key ts t.id ++ at ∷ [])) None)
+
+  pub key_not : test_at (map (survives (committed lines) (recovered lines)) (paths (acts lines))) (Some i) ≡ false → (o : Option (List Act)) → slice_get (paths (acts lines)) i ≡ o → None ≡ its_key (path_at (paths (acts lines)) i)
+  key_not test None e = sym (ap (λ q. its_key (unwrap_or q [])) e)
+  key_not test (Some p) e = by (top_in p) (sym (test_of p e) ∙ test) ∙ at_path p e
+    where
+      by : (t : Option Act) → survives_below (committed lines) (recovered lines) p t ≡ false → None ≡ key_below (serial_of ts) (committed lines) (recovered lines) p at t
+      by None h = refl
+      by (Some t) h = (λ k. cond (sym h k) (Some (serial_key ts t.id ++ at ∷ [])) None)

@@ -6,10 +6,12 @@
 #![tactic(auto)]
 
 mod called;
+mod keys;
 mod laws;
 mod places;
 mod tops;
 
+pub use keys::serial_keys;
 pub use laws::{
     calls_are_found_by_marks, calls_survive_by_actions, readable_calls_can_be_run,
     serial_places_are_sorted, tops_are_found_by_marks,

@@ -14,6 +14,7 @@ ghost use Rattle.arj_check.specs.Kept.{HasTops};
 use crate::called::CalledTop;
 use crate::places::is_committed;
 use arj_reading::{Mark, Reading, kept, note};
+use arj_replay::Key;
 use std::alloc::{AllocError, Global};
 use std::collections::BTreeMap;
 
@@ -99,4 +100,48 @@ pub fn make_tops(alloc: Global, reading: &Reading) -> Result<Tops, AllocError>
         put_called(&mut tops, called_top(reading, *mark))?;
     }
     Ok(tops)
+}
+
+impl Tops {
+    ghost use Rattle.std.specs.Prelude.{◌≡◌, List, IfOk};
+    ghost use Rattle.std.specs.BTreeMap.{get};
+    ghost use Rattle.std.specs.Option.{unwrap_or};
+    ghost use Rattle.std.specs.Ordering.{nat_cmp};
+    ghost use Rattle.arj_model.specs.Calls.{Top};
+    ghost use Rattle.arj_model.specs.Serial.{serial_key};
+    ghost use Rattle.arj_check.specs.Kept.{HasTops};
+
+    // The root of a top, itself where none is kept.
+    fn root_of(&self, top: usize) -> usize
+        ensures { result ≡ unwrap_or (get nat_cmp self.now.roots top) top }
+    {
+        self.roots.get(&top).copied().unwrap_or(top)
+    }
+
+    // The place at which the commit of a top was first called.
+    fn place_of(&self, top: usize) -> usize
+        ensures { result ≡ unwrap_or (get nat_cmp self.now.places top) 0 }
+    {
+        self.places.get(&top).copied().unwrap_or(0)
+    }
+
+    // The place of the unit of a root.
+    fn unit_of(&self, root: usize) -> usize
+        ensures { result ≡ unwrap_or (get nat_cmp self.now.units root) 0 }
+    {
+        self.units.get(&root).copied().unwrap_or(0)
+    }
+
+    /// The front of the keys of a top's calls: the place of its unit, and its own.
+    pub fn key(&self, alloc: Global, top: usize) -> Result<Key, AllocError>
+        ensures { (ts : List Top) → HasTops ts self.now → IfOk result (λ key. key.items ≡ serial_key ts top) }
+    {
+        let root = self.root_of(top);
+        let unit = self.unit_of(root);
+        let place = self.place_of(top);
+        let mut key = Vec::new(alloc);
+        key.push(unit)?;
+        key.push(place)?;
+        Ok(key)
+    }
 }

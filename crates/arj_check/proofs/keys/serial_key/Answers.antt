@@ -1,0 +1,29 @@
+use Rattle.std.proofs.Common.{rules, ◌≡◌, List, map, IfOk, ℕ, ◌+◌, ◌-◌, ◌*◌, ◌<◌, ◌≤◌, length, ◌/◌, ◌%◌, Bool, true, false, nat_eq, nat_lt, [], ◌∷◌, ◌++◌, slice_index_or, slice_set, bit_and, bit_or, Fits, w8, w32, w64, Bor, MutBor}
+use Rattle.std.specs.List.{filter_map}
+use Rattle.std.specs.Option.{option_map}
+use Rattle.arj_journal.specs.declared.body.Line.{Line}
+use Rattle.arj_model.specs.Actions.{acts, committed, recovered}
+use Rattle.arj_model.specs.Calls.{committed_calls}
+use Rattle.arj_model.specs.Calls.{tops as tops_of}
+use Rattle.arj_reading.specs.Reading.{HasRead, placed_of}
+use Rattle.arj_replay.specs.Orders.{paths, serial_place}
+use Rattle.arj_replay.specs.Orders.{survives as survives_of}
+use Rattle.arj_check.specs.Keys.{key_at, serial_of}
+use Rattle.arj_check.specs.Kept.{HasTops}
+use Rattle.arj_check.proofs.keys.serial_key.Goals as goal
+use Rattle.std.proofs.Common.{◌∙◌, ap, sym, slice_get, Some}
+use Rattle.arj_replay.specs.Orders.{test_at}
+use Rattle.arj_check.proofs.Survive.{key_no_top, key_none, key_some}
+
+pub returns-in_default : goal.returns-in_default
+returns-in_default c = λ lines has tests tops. key_none lines (tops_of lines) c.args.mark.action c.args.mark.at (sym (ap (λ xs. slice_get xs c.args.mark.action) has.list) ∙ sym c.kept.ensures ∙ c.in_default.is)
+
+pub returns-in_default-top : goal.returns-in_default-top
+returns-in_default-top c = λ lines has tests tops. key_no_top lines (tops_of lines) c.args.mark.action c.args.mark.at c.in-Some.action (sym (ap (λ xs. slice_get xs c.args.mark.action) has.list) ∙ sym c.kept.ensures ∙ c.in-Some.is) c.in_default-top.is
+
+pub returns : goal.returns
+returns c = λ lines has tests tops.
+    let is : c.is_true_at.result ≡ true = search rules in
+    let test : test_at (map (survives_of (committed lines) (recovered lines)) (paths (acts lines))) (Some c.args.mark.action) ≡ true = ap (λ ts. test_at ts (Some c.args.mark.action)) (sym tests) ∙ sym c.is_true_at.ensures ∙ is in
+    ap Some (c.in_ok-push.ensures.items ∙ ap (λ k. k ++ c.args.mark.at ∷ []) (c.in_ok-key.ensures (tops_of lines) tops))
+    ∙ key_some lines (tops_of lines) c.args.mark.action c.args.mark.at c.in-Some.action c.in-Some-top.top (sym (ap (λ xs. slice_get xs c.args.mark.action) has.list) ∙ sym c.kept.ensures ∙ c.in-Some.is) c.in-Some-top.is test

@@ -1,0 +1,20 @@
+use Rattle.std.proofs.Common.{rules, ◌≡◌, List, map, IfOk, ℕ, ◌+◌, ◌-◌, ◌*◌, ◌<◌, ◌≤◌, length, ◌/◌, ◌%◌, Bool, true, false, nat_eq, nat_lt, [], ◌∷◌, ◌++◌, slice_index_or, slice_set, bit_and, bit_or, Fits, w8, w32, w64, Bor, MutBor}
+use Rattle.std.specs.List.{filter_map}
+use Rattle.std.specs.Option.{option_map}
+use Rattle.arj_journal.specs.declared.body.Line.{Line}
+use Rattle.arj_model.specs.Actions.{acts, committed, recovered}
+use Rattle.arj_model.specs.Calls.{committed_calls}
+use Rattle.arj_model.specs.Calls.{tops as tops_of}
+use Rattle.arj_reading.specs.Reading.{HasRead, placed_of}
+use Rattle.arj_replay.specs.Orders.{paths, serial_place}
+use Rattle.arj_replay.specs.Orders.{survives as survives_of}
+use Rattle.arj_check.specs.Keys.{key_at, serial_of}
+use Rattle.arj_check.specs.Kept.{HasTops}
+use Rattle.arj_check.proofs.keys.serial_keys.Goals as goal
+use Rattle.std.proofs.Common.{◌∙◌, ap}
+use Rattle.arj_check.proofs.Loops.{serial_start}
+
+pub loop-mark-init : goal.loop-mark-init
+loop-mark-init c = λ lines has tests tops.
+    ap (λ ks. map (λ k. k.items) ks ++ filter_map (key_at (serial_of (tops_of lines)) (committed lines) (recovered lines) (paths (acts lines))) (map placed_of c.deref-mark-items.result.now)) c.new-keys.ensures.items
+    ∙ ap (λ ms. filter_map (key_at (serial_of (tops_of lines)) (committed lines) (recovered lines) (paths (acts lines))) (map placed_of ms)) c.deref-mark-items.ensures.value ∙ serial_start lines c.args.reading.now has
