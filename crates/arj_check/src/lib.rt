@@ -1,16 +1,19 @@
-//! Laws of journals that any system may have written: what of a readable journal can be run, and by which keys.
+//! A checker of finished journals, which any system may have written: whether a journal can be read as a run, and whether it
+//! is serial.
 //!
-//! It stands on `arj_reading`, which reads a journal, and on `arj_replay`, which sorts calls and runs them. Each law is the
-//! contract of a public function with no parameters that does nothing when it runs. What it gives upward: a checker that
-//! makes the keys of what was read, sorts them and runs the calls at these places runs the journal's serial order.
+//! It stands on `arj_reading`, which reads a journal, and on `arj_replay`, which sorts its calls and runs them. What it gives
+//! upward: `check_serial` tells the first line that breaks a rule, or the first call in serial order whose answer differs,
+//! exactly as the definitions compute them, in time that grows as n log n with the lines.
 #![tactic(auto)]
 
 mod called;
+mod checker;
 mod keys;
 mod laws;
 mod places;
 mod tops;
 
+pub use checker::check_serial;
 pub use keys::serial_keys;
 pub use laws::{
     calls_are_found_by_marks, calls_survive_by_actions, readable_calls_can_be_run,
