@@ -1,9 +1,8 @@
 -- The calls of a readable journal can be run.
-use Rattle.std.proofs.Common.{◌≡◌, ◌<◌, ℕ, zero, suc, ◌+◌, List, [], ◌∷◌, ◌++◌, length, Bool, true, false, cond, ◌&&◌, nat_le, Option, Some, None, slice_get, refl, sym, ◌∙◌, ap, subst, arith}
-use Rattle.std.specs.List.{AllByRecursion, list_all, filter_map}
+use Rattle.std.proofs.Common.{◌≡◌, ℕ, ◌+◌, List, [], ◌∷◌, ◌++◌, length, Bool, true, false, cond, ◌&&◌, nat_le, Option, Some, None, slice_get, refl, sym, ◌∙◌, ap, subst}
+use Rattle.std.specs.List.{AllByRecursion, list_all}
 use Rattle.std.proofs.lemmas.List.{append_assoc, length_push}
 use Rattle.arj_base.specs.declared.uid.Uid.{Uid}
-use Rattle.arj_class.specs.declared.op.Op.{Op}
 use Rattle.arj_journal.specs.declared.body.Body.{Body}
 use Rattle.arj_journal.specs.declared.body.Body.TheVariants as body
 use Rattle.arj_journal.specs.declared.body.Line.{Line}
@@ -15,7 +14,7 @@ use Rattle.arj_model.specs.Calls.{Call, Said, call_of, committed_calls, kept, ke
 use Rattle.arj_model.specs.Last.{object_line}
 use Rattle.arj_model.proofs.Read.{acts-append}
 use Rattle.arj_law.proofs.Common.{all_filter_map}
-use Rattle.arj_reading.specs.Readable.{Readable, answer_rule, body_rule, broken, broken_from, broken_or, line_rule, met, named, object_rule, of_begun, or_else, unless}
+use Rattle.arj_reading.specs.Readable.{Readable, answer_rule, body_rule, broken_from, broken_or, line_rule, met, named, object_rule, of_begun, or_else, unless}
 use Rattle.arj_reading.specs.declared.named.Named.{Named}
 use Rattle.arj_reading.specs.declared.rule.Broken.{Broken}
 use Rattle.arj_reading.specs.declared.rule.Rule.{Rule}

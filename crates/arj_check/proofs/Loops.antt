@@ -1,17 +1,16 @@
 -- The loops over actions and marks.
-use Rattle.std.proofs.Common.{◌≡◌, ◌<◌, ◌≤◌, ℕ, suc, ◌+◌, List, [], ◌∷◌, ◌++◌, length, map, take, drop, Bool, Option, Some, None, slice_get, get_or, refl, sym, ◌∙◌, ap, subst, arith}
+use Rattle.std.proofs.Common.{◌≡◌, ◌<◌, ℕ, suc, ◌+◌, List, [], ◌∷◌, ◌++◌, length, map, take, Bool, Option, Some, None, slice_get, get_or, refl, sym, ◌∙◌, ap, arith}
 use Rattle.std.specs.List.{filter_map, cons_option}
-use Rattle.std.specs.Option.{option_map}
 use Rattle.std.proofs.lemmas.List.{append_assoc, append-nil}
 use Rattle.std.proofs.lemmas.Option.{slice_get-get_or}
 use Rattle.std.proofs.Math.Seq.{take-suc, take-length}
 use Rattle.arj_journal.specs.declared.body.Line.{Line}
-use Rattle.arj_model.specs.Actions.{Act, Placed, acts, committed, recovered}
-use Rattle.arj_model.specs.Calls.{Call, Top, committed_calls, tops}
+use Rattle.arj_model.specs.Actions.{Act, acts, committed, recovered}
+use Rattle.arj_model.specs.Calls.{Top, committed_calls, tops}
 use Rattle.arj_reading.specs.Reading.{HasRead, actions_of, placed_of}
 use Rattle.arj_reading.specs.declared.reading.Reading.{Reading}
-use Rattle.arj_reading.proofs.Numbers.{are_numbered, length_actions}
-use Rattle.arj_replay.specs.Orders.{paths, serial_place, survives}
+use Rattle.arj_reading.proofs.Numbers.{length_actions}
+use Rattle.arj_replay.specs.Orders.{paths, serial_place}
 use Rattle.arj_check.specs.Keys.{key_at, one_or_none, serial_of, top_at}
 use Rattle.arj_check.proofs.Paths.{length_paths}
 use Rattle.arj_check.proofs.Marks.{keys_by, tops_are}

@@ -1,17 +1,15 @@
 -- Committed tops, as they are kept for keys.
-use Rattle.std.proofs.Common.{◌≡◌, ◌<◌, ◌≤◌, ℕ, ◌+◌, List, [], ◌∷◌, ◌++◌, length, map, Bool, true, false, cond, ◌&&◌, ◌==◌, nat_lt, max, Option, Some, None, slice_get, refl, sym, ◌∙◌, ap, subst, arith}
+use Rattle.std.proofs.Common.{◌≡◌, ℕ, ◌+◌, List, [], ◌∷◌, ◌++◌, length, map, Bool, true, false, cond, ◌&&◌, ◌==◌, max, Option, Some, None, slice_get, refl, sym, ◌∙◌, ap, arith}
 use Rattle.std.specs.List.{list_all, filter_map, cons_option}
 use Rattle.arj_class.specs.declared.op.Op.{Op}
 use Rattle.std.specs.Option.{option_map, unwrap_or}
-use Rattle.std.specs.Str.{bytes_eq}
-use Rattle.std.proofs.lemmas.Bool.Decides.{nat_tests}
 use Rattle.arj_base.specs.declared.uid.Uid.{Uid}
 use Rattle.arj_journal.specs.declared.body.Body.{Body}
 use Rattle.arj_journal.specs.declared.body.Body.TheVariants as body
 use Rattle.arj_journal.specs.declared.body.Line.{Line}
 use Rattle.arj_text.specs.Label.{name}
 use Rattle.arj_model.specs.Actions.{Act, Begun, Placed, act_in, acts, acts_after, acts_from, begun_of, chain_in, committed, has_end, id_in, is_committed, numbered, path, path_in, put, read, recovered, top_in}
-use Rattle.arj_model.specs.Calls.{Call, Said, Top, call_of, committed_calls, committing_of, kept, kept_in, said_of, top_by, top_of, tops}
+use Rattle.arj_model.specs.Calls.{Call, Said, Top, call_of, committing_of, kept, kept_in, said_of, top_of, tops}
 use Rattle.arj_model.specs.Serial.{root_of, top_place, unit_place}
 use Rattle.arj_reading.specs.Readable.{called_of}
 use Rattle.arj_reading.specs.Reading.{first_place, said_at}

@@ -1,23 +1,19 @@
 -- Paths of actions, by their numbers.
-use Rattle.std.proofs.Common.{◌≡◌, ◌≢◌, ◌<◌, ◌≤◌, ◌⊎◌, inl, inr, ⊎_elim, true≢false, ℕ, zero, suc, ◌+◌, List, [], ◌∷◌, ◌++◌, length, map, take, Bool, true, false, cond, ◌&&◌, ◌==◌, Option, Some, None, slice_get, refl, sym, ◌∙◌, ap, subst, arith, length-append}
-use Rattle.std.specs.List.{AllByRecursion, list_all}
+use Rattle.std.proofs.Common.{◌≡◌, ◌≢◌, ◌<◌, ◌≤◌, ◌⊎◌, inl, inr, ⊎_elim, true≢false, ℕ, zero, suc, ◌+◌, List, [], ◌∷◌, ◌++◌, length, take, Bool, true, false, cond, ◌==◌, Option, Some, None, slice_get, refl, sym, ◌∙◌, ap, subst, arith}
+use Rattle.std.specs.List.{AllByRecursion}
 use Rattle.std.specs.Option.{option_map}
 use Rattle.std.specs.Str.{bytes_eq}
-use Rattle.std.proofs.lemmas.Bool.{eqb-true, false_from_ne_true}
-use Rattle.std.proofs.lemmas.Bool.Decides.{nat_tests}
+use Rattle.std.proofs.lemmas.Bool.{eqb-true}
 use Rattle.std.proofs.lemmas.List.{length_push}
 use Rattle.std.proofs.lemmas.Option.{slice_get_cases, slice_get_past, slice_get_within}
-use Rattle.arj_base.specs.declared.uid.Uid.{Uid}
 use Rattle.arj_journal.specs.declared.body.Kind.{Kind}
 use Rattle.arj_journal.specs.declared.body.Kind.TheVariants as kind
-use Rattle.arj_model.specs.Actions.{Act, Placed, act_in, behind_first, chain_in, has_end, id_in, is_committed, is_serial, path, path_in, top_in, upwards}
-use Rattle.arj_model.specs.Calls.{ids}
+use Rattle.arj_model.specs.Actions.{Act, act_in, behind_first, chain_in, id_in, is_serial, path, path_in, top_in, upwards}
 use Rattle.arj_law.proofs.Common.{all_map}
 use Rattle.arj_reading.specs.Reading.{above_in, action_of, actions_of, top_action}
 use Rattle.arj_reading.specs.declared.action.Action.{Action}
-use Rattle.arj_reading.specs.declared.action.TopAction.{TopAction}
 use Rattle.arj_reading.proofs.Numbers.{AreNumbered, get_last, get_push, get_stays, length_actions, none_above, path_some}
-use Rattle.arj_replay.specs.Orders.{paths, survives}
+use Rattle.arj_replay.specs.Orders.{paths}
 
 pub length_paths : (us : List Act) → length (paths us) ≡ length us
 length_paths [] = refl

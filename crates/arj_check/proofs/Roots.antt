@@ -1,11 +1,10 @@
 -- Committed tops, as they are kept.
-use Rattle.std.proofs.Common.{◌≡◌, ℕ, List, [], ◌∷◌, ◌++◌, map, Bool, true, false, cond, ◌==◌, max, Option, Some, None, refl, sym, ◌∙◌, ap}
+use Rattle.std.proofs.Common.{◌≡◌, ℕ, List, [], ◌∷◌, ◌++◌, map, Bool, true, false, cond, ◌==◌, max, Some, refl, sym, ◌∙◌, ap}
 use Rattle.std.specs.BTreeMap.{get}
 use Rattle.std.specs.Option.{unwrap_or}
 use Rattle.std.specs.Ordering.{nat_cmp}
 use Rattle.arj_model.specs.Actions.{Placed}
 use Rattle.arj_model.specs.Calls.{Top}
-use Rattle.arj_model.specs.Serial.{unit_place}
 use Rattle.arj_reading.specs.Reading.{first_place, noted}
 use Rattle.arj_check.specs.Keys.{place_item, root_item}
 use Rattle.arj_check.specs.Kept.{HasTops}

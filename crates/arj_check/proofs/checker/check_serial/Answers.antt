@@ -1,10 +1,7 @@
-use Rattle.std.proofs.Common.{rules, ◌≡◌, Some, Err, IfOk, ℕ, ◌+◌, ◌-◌, ◌*◌, ◌<◌, ◌≤◌, length, ◌/◌, ◌%◌, Bool, true, false, nat_eq, nat_lt, List, [], ◌∷◌, ◌++◌, slice_index_or, slice_set, bit_and, bit_or, Fits, w8, w32, w64, Bor, MutBor}
+use Rattle.std.proofs.Common.{IfOk}
 use Rattle.arj_replay.specs.Verdict.{IsWrong}
 use Rattle.arj_replay.specs.Orders.{serial_difference}
-use Rattle.arj_reading.specs.Readable.{Readable, broken}
-use Rattle.arj_reading.specs.Reading.{HasRead}
-use Rattle.arj_reading.specs.declared.fault.CheckFault.TheVariants as check_fault
-use Rattle.arj_reading.specs.declared.rule.Broken.{Broken as broken_type}
+use Rattle.arj_reading.specs.Readable.{Readable}
 use Rattle.arj_check.proofs.checker.check_serial.Goals as goal
 use Rattle.std.proofs.Common.{subst}
 

@@ -1,15 +1,8 @@
-use Rattle.std.proofs.Common.{rules, ◌≡◌, List, map, IfOk, ℕ, ◌+◌, ◌-◌, ◌*◌, ◌<◌, ◌≤◌, length, ◌/◌, ◌%◌, Bool, true, false, nat_eq, nat_lt, [], ◌∷◌, ◌++◌, slice_index_or, slice_set, bit_and, bit_or, Fits, w8, w32, w64, Bor, MutBor}
-use Rattle.std.specs.List.{filter_map}
-use Rattle.std.specs.Option.{option_map}
-use Rattle.arj_journal.specs.declared.body.Line.{Line}
+use Rattle.std.proofs.Common.{rules, ◌≡◌, map, true, [], ◌∷◌, ◌++◌}
 use Rattle.arj_model.specs.Actions.{acts, committed, recovered}
-use Rattle.arj_model.specs.Calls.{committed_calls}
 use Rattle.arj_model.specs.Calls.{tops as tops_of}
-use Rattle.arj_reading.specs.Reading.{HasRead, placed_of}
-use Rattle.arj_replay.specs.Orders.{paths, serial_place}
+use Rattle.arj_replay.specs.Orders.{paths}
 use Rattle.arj_replay.specs.Orders.{survives as survives_of}
-use Rattle.arj_check.specs.Keys.{key_at, serial_of}
-use Rattle.arj_check.specs.Kept.{HasTops}
 use Rattle.arj_check.proofs.keys.serial_key.Goals as goal
 use Rattle.std.proofs.Common.{◌∙◌, ap, sym, slice_get, Some}
 use Rattle.arj_replay.specs.Orders.{test_at}

@@ -1,11 +1,5 @@
-use Rattle.std.proofs.Common.{rules, ◌≡◌, ◌&&◌, ◌||◌, List, Some, map, take, IfOk, slice_get, ℕ, ◌+◌, ◌-◌, ◌*◌, ◌<◌, ◌≤◌, length, ◌/◌, ◌%◌, Bool, true, false, nat_eq, nat_lt, [], ◌∷◌, ◌++◌, slice_index_or, slice_set, bit_and, bit_or, Fits, w8, w32, w64, Bor, MutBor}
-use Rattle.arj_journal.specs.declared.body.Line.{Line}
-use Rattle.arj_model.specs.Actions.{Act, acts, committed, recovered}
-use Rattle.arj_reading.specs.Reading.{HasRead, actions_of}
-use Rattle.arj_check.specs.Keys.{is_committed_top}
-use Rattle.arj_replay.specs.Orders.{paths}
-use Rattle.arj_replay.specs.Orders.{survives as survives_of}
-use Rattle.arj_replay.specs.Orders.{test_at}
+use Rattle.std.proofs.Common.{◌≡◌, Some, slice_get}
+use Rattle.arj_model.specs.Actions.{acts}
 use Rattle.arj_check.proofs.places.survives_at.Goals as goal
 use Rattle.std.proofs.Common.{◌∙◌, ap, sym, None}
 use Rattle.arj_check.proofs.Paths.{no_path}

@@ -1,4 +1,4 @@
-use Rattle.std.proofs.Common.{◌≡◌, ℕ, List, map, drop}
+use Rattle.std.proofs.Common.{◌≡◌, List, map, drop}
 use Rattle.std.specs.List.{AllByRecursion}
 use Rattle.arj_model.specs.Calls.{Call}
 use Rattle.arj_model.specs.Last.{first_values}

@@ -1,19 +1,9 @@
-use Rattle.std.proofs.Common.{rules, ◌≡◌, ◌==◌, ℕ, List, Option, Some, None, map, true, IfOk, OnOk, IsSomeAnd, if◌then◌else◌, slice_get, ◌+◌, ◌-◌, ◌*◌, ◌<◌, ◌≤◌, length, ◌/◌, ◌%◌, Bool, false, nat_eq, nat_lt, [], ◌∷◌, ◌++◌, slice_index_or, slice_set, bit_and, bit_or, Fits, w8, w32, w64, Bor, MutBor}
-use Rattle.std.specs.BTreeMap.{get}
-use Rattle.std.specs.List.{AllByRecursion}
-use Rattle.std.specs.Option.{option_copied}
-use Rattle.std.specs.Ordering.{nat_cmp}
-use Rattle.arj_class.specs.Table.{answer_of, class_of, has_op, value_after}
-use Rattle.arj_class.specs.declared.op.Op.{Op as op_type}
-use Rattle.arj_class.specs.declared.value.Value.{Value as value_type}
+use Rattle.std.proofs.Common.{◌≡◌, None, IfOk}
+use Rattle.arj_class.specs.Table.{answer_of, value_after}
 use Rattle.arj_journal.specs.declared.body.Body.TheVariants as line_body
-use Rattle.arj_journal.specs.declared.header.Header.{Header as header_type}
-use Rattle.arj_text.specs.declared.label.Label.{Label as label_type}
-use Rattle.arj_model.specs.Calls.{Call}
-use Rattle.arj_model.specs.Last.{first_values as values_of_header}
 use Rattle.arj_model.specs.Last.{object_line}
-use Rattle.arj_model.specs.Serial.{Values, with_value}
-use Rattle.arj_replay.specs.Verdict.{HasCall, HasValues, IsWrong, first_difference}
+use Rattle.arj_model.specs.Serial.{with_value}
+use Rattle.arj_replay.specs.Verdict.{HasValues}
 use Rattle.arj_replay.specs.Verdict.{wanted_of}
 use Rattle.arj_reading.specs.Readable.{object_rule}
 use Rattle.arj_replay.proofs.run.run_line.Goals as goal

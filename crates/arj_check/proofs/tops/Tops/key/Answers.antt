@@ -1,4 +1,4 @@
-use Rattle.std.proofs.Common.{rules, ◌≡◌, ◌∙◌, List, [], ◌∷◌, ap}
+use Rattle.std.proofs.Common.{rules, ◌≡◌, ◌∙◌, [], ◌∷◌, ap}
 use Rattle.std.specs.Option.{unwrap_or}
 use Rattle.arj_model.specs.Serial.{root_of, top_place, unit_place}
 use Rattle.arj_check.proofs.Marks.{place_is, root_is}
