@@ -1,30 +1,14 @@
 // Commits, answer by answer, with values worked out by hand.
-ghost use Rattle.std.specs.Prelude.{◌≡◌, ◌≤◌, IfOk, OnOk};
-ghost use Rattle.std.specs.List.{AllByRecursion};
-ghost use Rattle.arj_base.specs.Uid.{object};
-ghost use Rattle.arj_commit.specs.Fits.{IsNode, UsedFits, PlanFits};
-ghost use Rattle.arj_commit.specs.declared.limits.TheConstants.{LAST_START};
-
-use arj_base::{
-    Binding, Bytes, Class, End, Ends, Mode, NodeList, ObjectState, Path, States, Uid, object_uid,
-};
-use arj_commit::{
-    Confirming, NAMING, Plan, Preparing, Requests, Step, Telling, Used, UsedList, Voting, start,
-};
+use crate::plans::{Start, TOP, changed, plan};
+use arj_base::{End, Mode, Uid};
+use arj_commit::{Confirming, NAMING, Plan, Preparing, Requests, Step, Telling, Voting, start};
 use arj_intent::Intent;
 use arj_journal::{Cause, Difference};
 use arj_msg::{
-    Asked, Confirmed, ConfirmedReply, Marks, Message, Prepared, PreparedReply, Told, Voted,
-    VotedReply, What,
+    Asked, Confirmed, ConfirmedReply, Message, Prepared, PreparedReply, Voted, VotedReply, What,
 };
 use std::alloc::{AllocError, Global};
 use std::test::Fail;
-
-const TOP: Uid = Uid {
-    node: 2,
-    inc: 1,
-    num: 1,
-};
 
 const OTHER: Uid = Uid {
     node: 3,
@@ -53,15 +37,6 @@ enum Then {
     Confirming(&'static [(u16, u8)], &'static [(u16, u8)]),
     Decided(Option<&'static [u8]>, &'static [u8]),
     Aborted(Cause),
-}
-
-// Of the whole, object 1 is called at server 3 and stored at 4 and 5, object 2 is called at server 6 and stored at 4,
-// and object 7 is included at store 8; or object 2 is called alone; or nothing is used.
-#[derive(Clone, Copy)]
-enum Start {
-    Whole,
-    Called,
-    Nothing,
 }
 
 struct Case {
@@ -225,126 +200,6 @@ const CASES: &[Case] = &[
     },
 ];
 
-fn nodes(alloc: Global, list: &[u8]) -> Result<NodeList, AllocError>
-    ensures { IfOk result (λ nodes. nodes ≡ list.now) }
-{
-    let mut nodes = NodeList::new(alloc);
-    nodes.extend(list)?;
-    Ok(nodes)
-}
-
-// A state of object x, a counter in version 7.
-fn state(alloc: Global, x: u16) -> Result<ObjectState, AllocError>
-    ensures { IfOk result (λ state. state.uid ≡ object x) }
-{
-    let mut payload = Bytes::new(alloc);
-    payload.extend(&[0, 0, 0, 0, 0, 0, 0, 5])?;
-    Ok(ObjectState {
-        uid: object_uid(x),
-        class: Class::Counter,
-        version: 7,
-        writer: TOP,
-        payload,
-    })
-}
-
-fn called(alloc: Global, x: u16, server: u8, stores: &[u8]) -> Result<Used, AllocError>
-    requires server { IsNode server }
-    requires stores { AllByRecursion IsNode stores.now }
-    ensures { IfOk result UsedFits }
-{
-    Ok(Used {
-        x,
-        called: true,
-        binding: Binding { inc: 1, count: 1 },
-        server,
-        inc: 1,
-        grant: 1,
-        stores: nodes(alloc, stores)?,
-        joins: NodeList::new(alloc),
-        loaded: None,
-    })
-}
-
-fn included(alloc: Global, x: u16, store: u8) -> Result<Used, AllocError>
-    requires { IsNode store }
-    ensures { IfOk result UsedFits }
-{
-    Ok(Used {
-        x,
-        called: false,
-        binding: Binding { inc: 0, count: 0 },
-        server: 0,
-        inc: 0,
-        grant: 1,
-        stores: NodeList::new(alloc),
-        joins: nodes(alloc, &[store])?,
-        loaded: Some(state(alloc, x)?),
-    })
-}
-
-fn put(used: &mut UsedList, one: Used) -> Result<(), AllocError>
-    requires all { AllByRecursion UsedFits used.old }
-    requires one { UsedFits one }
-    ensures { OnOk result (AllByRecursion UsedFits used.new) }
-{
-    used.push(one)
-}
-
-fn whole(alloc: Global) -> Result<UsedList, AllocError>
-    ensures { IfOk result (AllByRecursion UsedFits) }
-{
-    let mut used = UsedList::new(alloc);
-    put(&mut used, called(alloc, 1, 3, &[4, 5])?)?;
-    put(&mut used, called(alloc, 2, 6, &[4])?)?;
-    put(&mut used, included(alloc, 7, 8)?)?;
-    Ok(used)
-}
-
-fn alone(alloc: Global) -> Result<UsedList, AllocError>
-    ensures { IfOk result (AllByRecursion UsedFits) }
-{
-    let mut used = UsedList::new(alloc);
-    put(&mut used, called(alloc, 2, 6, &[4])?)?;
-    Ok(used)
-}
-
-fn used(alloc: Global, start: Start) -> Result<UsedList, AllocError>
-    ensures { IfOk result (AllByRecursion UsedFits) }
-{
-    match start {
-        Start::Whole => whole(alloc),
-        Start::Called => alone(alloc),
-        Start::Nothing => Ok(UsedList::new(alloc)),
-    }
-}
-
-fn plan(alloc: Global, start: Start) -> Result<Plan, AllocError>
-    ensures fits { IfOk result PlanFits }
-    ensures room { IfOk result (λ plan. plan.req ≤ LAST_START) }
-{
-    Ok(Plan {
-        path: Path::new(TOP),
-        req: 4,
-        ends: Ends::new(alloc),
-        used: used(alloc, start)?,
-        sent: nodes(alloc, &[2])?,
-        changed: States::new(alloc),
-        prepared: NodeList::new(alloc),
-        excluded: Marks::new(alloc),
-        confirmed: false,
-    })
-}
-
-// States of these objects.
-fn changed(alloc: Global, objects: &[u16]) -> Result<States, AllocError> {
-    let mut states = States::new(alloc);
-    for x in objects {
-        states.push(state(alloc, *x)?)?;
-    }
-    Ok(states)
-}
-
 fn votes(asked: Asked, reply: VotedReply) -> Message {
     Message::Voted(Voted { asked, reply })
 }
@@ -402,15 +257,7 @@ fn req_of(step: &Step) -> u32 {
     }
 }
 
-// The step after what is heard.
-fn after(alloc: Global, step: Step, heard: Heard) -> Result<Step, AllocError> {
-    if let Heard::GiveUp = heard {
-        return given_up(step);
-    }
-    let m = message(alloc, heard, req_of(&step))?;
-    answered(step, sender(heard), &m)
-}
-
+// The step after a message is heard.
 fn answered(step: Step, from: u8, m: &Message) -> Result<Step, AllocError> {
     match step {
         Step::Voting(voting) => vote_heard(voting, from, m),
@@ -448,6 +295,40 @@ fn given_up(step: Step) -> Result<Step, AllocError> {
         Step::Confirming(confirming) => Ok(confirming.give_up()),
         Step::Decide(_) | Step::Aborted { .. } => Err(AllocError),
     }
+}
+
+fn answer(place: &mut Option<Step>, from: u8, m: &Message) -> Result<(), AllocError> {
+    let Some(step) = place.take() else {
+        return Ok(());
+    };
+    let next = answered(step, from, m)?;
+    place.insert(next);
+    Ok(())
+}
+
+fn give_up(place: &mut Option<Step>) -> Result<(), AllocError> {
+    let Some(step) = place.take() else {
+        return Ok(());
+    };
+    let next = given_up(step)?;
+    place.insert(next);
+    Ok(())
+}
+
+fn awaited(step: &Option<Step>) -> u32 {
+    match step {
+        Some(step) => req_of(step),
+        None => 0,
+    }
+}
+
+// The commit goes on with what is heard.
+fn go_on(alloc: Global, step: &mut Option<Step>, heard: Heard) -> Result<(), AllocError> {
+    if let Heard::GiveUp = heard {
+        return give_up(step);
+    }
+    let m = message(alloc, heard, awaited(step))?;
+    answer(step, sender(heard), &m)
 }
 
 // Whether the requests go to these nodes, and carry so many objects or states.
@@ -500,23 +381,108 @@ fn are_others(told: &Requests, others: &[u8]) -> bool {
         .all(|node| is_told(told, *node, End::Abort, false))
 }
 
-// Whether the record lists these nodes, and they are told to commit.
-fn are_nodes(told: &Requests, record: &Option<Intent>, nodes: Option<&[u8]>) -> bool {
+// Whether the record lists these nodes.
+fn lists(record: &Option<Intent>, nodes: Option<&[u8]>) -> bool {
     match (record, nodes) {
-        (Some(record), Some(nodes)) => {
-            record.nodes.as_slice() == nodes
-                && nodes
-                    .iter()
-                    .all(|node| is_told(told, *node, End::Commit, true))
-        }
+        (Some(record), Some(nodes)) => record.nodes.as_slice() == nodes,
         (None, None) => true,
         _ => false,
     }
 }
 
+// Whether the nodes are told to commit.
+fn are_told(told: &Requests, nodes: &[u8]) -> bool {
+    nodes
+        .iter()
+        .all(|node| is_told(told, *node, End::Commit, true))
+}
+
+fn votes_so(
+    alloc: Global,
+    voting: &Voting,
+    nodes: &[u8],
+    sizes: &[usize],
+) -> Result<bool, AllocError> {
+    let all = voting.waiting(alloc)?;
+    Ok(are_for(&all, nodes, sizes))
+}
+
+fn prepares_so(
+    alloc: Global,
+    preparing: &Preparing,
+    nodes: &[u8],
+    sizes: &[usize],
+) -> Result<bool, AllocError> {
+    let all = preparing.waiting(alloc)?;
+    Ok(are_for(&all, nodes, sizes))
+}
+
+fn confirms_so(
+    alloc: Global,
+    confirming: &Confirming,
+    excluded: &[(u16, u8)],
+    included: &[(u16, u8)],
+) -> Result<bool, AllocError> {
+    let all = confirming.waiting(alloc)?;
+    Ok(confirms(&all, excluded, included))
+}
+
+fn records(alloc: Global, telling: &Telling, nodes: Option<&[u8]>) -> Result<bool, AllocError> {
+    let record = telling.intent(alloc)?;
+    Ok(lists(&record, nodes))
+}
+
+fn tells(
+    alloc: Global,
+    telling: &Telling,
+    nodes: &[u8],
+    others: &[u8],
+) -> Result<bool, AllocError> {
+    let told = telling.first(alloc)?;
+    Ok(are_others(&told, others) && are_told(&told, nodes))
+}
+
+// Whether the record lists these nodes, and they are told to commit and the others to abort.
+fn decides(
+    alloc: Global,
+    telling: &Telling,
+    nodes: Option<&[u8]>,
+    others: &[u8],
+) -> Result<bool, AllocError> {
+    Ok(records(alloc, telling, nodes)? && tells(alloc, telling, nodes.unwrap_or(&[]), others)?)
+}
+
+fn aborts(cause: &Cause, plan: &Plan, why: Cause) -> bool {
+    *cause == why && plan.path.last() == TOP
+}
+
+// Whether the step is this one.
+fn is(alloc: Global, step: &Step, then: Then) -> Result<bool, AllocError> {
+    match (step, then) {
+        (Step::Voting(voting), Then::Voting(nodes, sizes)) => votes_so(alloc, voting, nodes, sizes),
+        (Step::Preparing(preparing), Then::Preparing(nodes, sizes)) => {
+            prepares_so(alloc, preparing, nodes, sizes)
+        }
+        (Step::Confirming(confirming), Then::Confirming(excluded, included)) => {
+            confirms_so(alloc, confirming, excluded, included)
+        }
+        (Step::Decide(telling), Then::Decided(nodes, others)) => {
+            decides(alloc, telling, nodes, others)
+        }
+        (Step::Aborted { cause, plan }, Then::Aborted(why)) => Ok(aborts(cause, plan, why)),
+        _ => Ok(false),
+    }
+}
+
+fn is_now(alloc: Global, step: &Option<Step>, then: Then) -> Result<bool, AllocError> {
+    match step {
+        Some(step) => is(alloc, step, then),
+        None => Ok(false),
+    }
+}
+
 // Whether the last of the nodes to acknowledge is the last, and none counts twice.
-fn end_with_the_last(telling: Telling, nodes: &[u8]) -> bool {
-    let mut telling = telling;
+fn end_with_the_last(telling: &mut Telling, nodes: &[u8]) -> bool {
     let mut awaited = nodes.len();
     for node in nodes {
         awaited = awaited.saturating_sub(1);
@@ -527,89 +493,43 @@ fn end_with_the_last(telling: Telling, nodes: &[u8]) -> bool {
     telling.left().is_empty()
 }
 
-// Whether the record lists these nodes, and they are told to commit and the others to abort.
-fn decides(
-    alloc: Global,
-    telling: &Telling,
-    nodes: Option<&[u8]>,
-    others: &[u8],
-) -> Result<bool, AllocError> {
-    let told = telling.first(alloc)?;
-    let record = telling.intent(alloc)?;
-    Ok(are_others(&told, others) && are_nodes(&told, &record, nodes))
-}
-
-// Whether the step is this one.
-fn is(alloc: Global, step: &Step, then: Then) -> Result<bool, AllocError> {
-    match (step, then) {
-        (Step::Voting(voting), Then::Voting(nodes, sizes)) => {
-            Ok(are_for(&voting.waiting(alloc)?, nodes, sizes))
-        }
-        (Step::Preparing(preparing), Then::Preparing(nodes, sizes)) => {
-            Ok(are_for(&preparing.waiting(alloc)?, nodes, sizes))
-        }
-        (Step::Confirming(confirming), Then::Confirming(excluded, included)) => {
-            Ok(confirms(&confirming.waiting(alloc)?, excluded, included))
-        }
-        (Step::Decide(telling), Then::Decided(nodes, others)) => {
-            decides(alloc, telling, nodes, others)
-        }
-        (Step::Aborted { cause, plan }, Then::Aborted(why)) => {
-            Ok(*cause == why && plan.path.last() == TOP)
-        }
-        _ => Ok(false),
+fn decided_nodes(then: Then) -> &'static [u8] {
+    match then {
+        Then::Decided(Some(nodes), _) => nodes,
+        _ => &[],
     }
 }
 
-// The first step of a commit.
-fn first(alloc: Global, of: Start) -> Result<Step, AllocError> {
-    let plan = plan(alloc, of)?;
-    Ok(start(alloc, plan)?)
-}
-
 // Whether the nodes of a decided commit acknowledge it, the last one last.
-fn ends(step: Step, then: Then) -> bool {
-    match (step, then) {
-        (Step::Decide(telling), Then::Decided(nodes, _)) => {
-            end_with_the_last(telling, nodes.unwrap_or(&[]))
-        }
+fn ends(step: &mut Option<Step>, then: Then) -> bool {
+    match step {
+        Some(Step::Decide(telling)) => end_with_the_last(telling, decided_nodes(then)),
         _ => true,
     }
 }
 
-// A commit that goes on, and whether it went as its case says so far.
-#[derive(Drop)]
-struct Going {
-    step: Option<Step>,
-    fits: bool,
+// Hears this, and is then in that step.
+fn hears(
+    alloc: Global,
+    step: &mut Option<Step>,
+    heard: Heard,
+    then: Then,
+) -> Result<bool, AllocError> {
+    go_on(alloc, step, heard)?;
+    is_now(alloc, step, then)
 }
 
-// Hears this, and is then to be in that step.
-fn hear(alloc: Global, going: &mut Going, heard: Heard, then: Then) -> Result<(), AllocError> {
-    let Some(step) = going.step.take() else {
-        return Ok(());
-    };
-    let next = after(alloc, step, heard)?;
-    let fits = is(alloc, &next, then)?;
-    going.fits = fits && going.fits;
-    going.step = Some(next);
-    Ok(())
-}
-
-fn hear_all(alloc: Global, going: &mut Going, steps: &[(Heard, Then)]) -> Result<(), AllocError> {
+fn hears_all(
+    alloc: Global,
+    step: &mut Option<Step>,
+    steps: &[(Heard, Then)],
+) -> Result<bool, AllocError> {
     for (heard, then) in steps {
-        hear(alloc, going, *heard, *then)?;
+        if !hears(alloc, step, *heard, *then)? {
+            return Ok(false);
+        }
     }
-    Ok(())
-}
-
-fn begun(alloc: Global, case: &Case) -> Result<Going, AllocError> {
-    let step = first(alloc, case.start)?;
-    let fits = is(alloc, &step, case.first)?;
-    Ok(Going {
-        step: Some(step),
-        fits,
-    })
+    Ok(true)
 }
 
 // The step in which a commit is last.
@@ -620,26 +540,30 @@ fn last(case: &Case) -> Then {
     }
 }
 
-// Whether it went as the case says, to this end.
-fn ended(going: Going, then: Then) -> bool {
-    let Going { step, fits } = going;
-    match step {
-        Some(step) => fits && ends(step, then),
-        None => false,
+// Whether a commit that begins goes on as the case says, to its end.
+fn goes_on(alloc: Global, step: &mut Option<Step>, case: &Case) -> Result<bool, AllocError> {
+    if !is_now(alloc, step, case.first)? || !hears_all(alloc, step, case.steps)? {
+        return Ok(false);
     }
+    Ok(ends(step, last(case)))
+}
+
+// The first step of a commit.
+fn first(alloc: Global, of: Start) -> Result<Step, AllocError> {
+    let plan = plan(alloc, of)?;
+    Ok(start(alloc, plan)?)
 }
 
 // Whether a commit goes as the case says.
 fn goes(alloc: Global, case: &Case) -> Result<bool, AllocError> {
-    let mut going = begun(alloc, case)?;
-    hear_all(alloc, &mut going, case.steps)?;
-    Ok(ended(going, last(case)))
+    let mut step = Some(first(alloc, case.start)?);
+    goes_on(alloc, &mut step, case)
 }
 
 #[test]
 fn each_answer_and_refusal(rt: HostRuntime) -> Result<(), Fail> {
-    for case in CASES {
-        assert!(rt; goes(rt.alloc(), case)?);
+    for (place, case) in CASES.iter().enumerate() {
+        assert!(rt; goes(rt.alloc(), case)?, "case {place}");
     }
     Ok(())
 }

@@ -5,3 +5,5 @@
 
 #[cfg(test)]
 mod commits;
+#[cfg(test)]
+mod plans;
