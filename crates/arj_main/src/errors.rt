@@ -3,7 +3,7 @@ ghost use Rattle.std.specs.Prelude.{◌≡◌, IfSome};
 ghost use Rattle.arj_journal.specs.declared.body.Body.{Body};
 
 use crate::forms::form_of;
-use crate::help::help;
+use crate::help::{help, usage};
 use crate::pieces::{piece_at, word_at};
 use crate::refused::{count_of_refused, first_refused, refusal_words};
 use crate::shown::Shown;
@@ -14,10 +14,11 @@ use arj_loop::BadLine;
 use std::alloc::Global;
 use std::io;
 
-/// What a run leaves, of which is told: its words, whether they are `replay` and a file; the script as far as it was read, where
+/// What a run leaves, of which is told: its words, whether there are none, or they are `replay` and a file; the script as far as it was read, where
 /// it is remembered; the journal; and why a line is bad.
 #[derive(Clone, Copy)]
 pub struct Ran<'a> {
+    pub no_words: bool,
     pub gave_file: bool,
     pub script: Option<&'a [u8]>,
     pub journal: &'a [Line],
@@ -30,6 +31,7 @@ pub fn explain(rt: &impl Eprint, alloc: Global, status: u8, ran: &Ran) -> io::Re
     let last = ran.journal.last();
     match status {
         0 => refusals(rt, ran.journal),
+        1 if ran.no_words => usage(rt),
         1 => help(rt, ran.gave_file),
         2 => bad_line(rt, alloc, ran),
         3 => eprintln!(rt; "arjuna: standard input could not be read"),

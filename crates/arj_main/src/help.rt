@@ -1,9 +1,14 @@
 // The help text.
 use std::io;
 
+/// Says what the commands are, in a line.
+pub fn usage(rt: &impl Eprint) -> io::Result<()> {
+    eprintln!(rt; "usage: arjuna replay | arjuna generate N")
+}
+
 /// Says what the commands are, with an example, and where to read on.
 pub fn help(rt: &impl Eprint, gave_file: bool) -> io::Result<()> {
-    eprintln!(rt; "usage: arjuna replay | arjuna generate N")?;
+    usage(rt)?;
     if gave_file {
         eprintln!(rt;
             "`replay` takes no file: the script comes on standard input, as in `arjuna replay < FILE`"

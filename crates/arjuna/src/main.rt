@@ -16,6 +16,7 @@ use std::process::ExitCode;
 fn main(rt: HostRuntime) -> ExitCode {
     let alloc = rt.alloc();
     let mut left = Left {
+        no_words: false,
         gave_file: false,
         script: None,
         journal: Lines::new(alloc),
@@ -28,6 +29,7 @@ fn main(rt: HostRuntime) -> ExitCode {
         Err(_) => 5,
     };
     let ran = Ran {
+        no_words: left.no_words,
         gave_file: left.gave_file,
         script: left.script.as_ref().map(|script| script.as_slice()),
         journal: left.journal.as_slice(),
@@ -41,6 +43,7 @@ fn main(rt: HostRuntime) -> ExitCode {
 // What the run leaves to be told of.
 #[derive(Drop)]
 struct Left {
+    no_words: bool,
     gave_file: bool,
     script: Option<Bytes>,
     journal: Lines,
@@ -53,6 +56,7 @@ fn run(rt: &HostRuntime, left: &mut Left) -> io::Result<u8>
 {
     let alloc = rt.alloc();
     let words = words(rt, alloc)?;
+    left.no_words = words.len() == 0;
     left.gave_file = words.len() == 2 && words[0].as_str() == "replay";
     let input = StdSource::new(BufReader::new(alloc, rt.reader())?);
     let mut source = Remembering::new(alloc, input);
