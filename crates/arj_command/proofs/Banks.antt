@@ -18,17 +18,17 @@ use Rattle.arj_loop.specs.Replayed.{Outside, answer}
 use Rattle.arj_nodes.specs.AllNodes.{Task, task}
 use Rattle.arj_nodes.specs.AsMachine.{all_nodes}
 use Rattle.arj_nodes.specs.declared.all_nodes.AllNodes.{AllNodes}
-use Rattle.arj_nodes_law.specs.Banks.{BankFrontsShow, BankLimitsShow, BanksShow}
-use Rattle.arj_nodes_law.specs.Last.{EndsBehind}
-use Rattle.arj_nodes_law.specs.Promised.{ShowsThePromise}
-use Rattle.arj_nodes_law.specs.Readings.{Reads, files_at, readings_of}
+use Rattle.arj_law_nodes.specs.nodes.Banks.{BankFrontsShow, BankLimitsShow, BanksShow}
+use Rattle.arj_law_nodes.specs.nodes.Last.{EndsBehind}
+use Rattle.arj_law_nodes.specs.nodes.Promised.{ShowsThePromise}
+use Rattle.arj_law_nodes.specs.nodes.Readings.{Reads, files_at, readings_of}
 use Rattle.arj_bank.specs.Balances.{files_in, is_number, no_files, node_files}
-use Rattle.arj_joint_law.specs.DisksInTime.{DisksAreInTime}
-use Rattle.arj_joint_law.specs.Shown.{DisksAre}
-use Rattle.arj_view_law.specs.Moves.{world_by}
-use Rattle.arj_view_law.specs.Seen.{see}
+use Rattle.arj_law_serial.specs.joint.DisksInTime.{DisksAreInTime}
+use Rattle.arj_law_serial.specs.joint.Shown.{DisksAre}
+use Rattle.arj_law_parts.specs.moves.Moves.{world_by}
+use Rattle.arj_law_parts.specs.moves.Seen.{see}
 use Rattle.arj_model.specs.Clean.{Clean}
-use Rattle.arj_promise_law.specs.Resting.{HoldAllStates}
+use Rattle.arj_law_promise.specs.statement.Resting.{HoldAllStates}
 use Rattle.arj_protocol.specs.Tree.{at_place}
 use Rattle.std.specs.Prelude.{Bool, true, if◌then◌else◌, length, slice_get}
 use Rattle.arj_world.proofs.Disks.{some_one}

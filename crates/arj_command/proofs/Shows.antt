@@ -6,7 +6,7 @@ use Rattle.arj_command.specs.Facts.{Facts, behind}
 use Rattle.arj_command.specs.Outcome.{Around, CameShows, Headline, Said, Shown, around, world_of}
 use Rattle.arj_core.specs.declared.node.Core as core
 use Rattle.arj_disk.specs.declared.disk.Disk as disk
-use Rattle.arj_event_law.specs.Halts.{armed_node, halted_node}
+use Rattle.arj_law_parts.specs.steps.Halts.{armed_node, halted_node}
 use Rattle.arj_journal.specs.declared.body.Line.{Line}
 use Rattle.arj_protocol.specs.Words.{Body}
 use Rattle.arj_protocol.specs.Words.body
@@ -25,10 +25,10 @@ use Rattle.arj_nodes.specs.AsMachine.{all_nodes}
 use Rattle.arj_nodes.specs.declared.all_nodes.AllNodes.{AllNodes}
 use Rattle.arj_nodes.specs.Told.{ArmsAreTold, HaltsHaveCause, tells_arm}
 use Rattle.arj_nodes.proofs.Telling.{arms_behind, arms_told, halts_behind, halts_told}
-use Rattle.arj_nodes_law.specs.Last.{EndsBehind, IsLast, ends_run}
-use Rattle.arj_nodes_law.specs.Promised.{ShowsThePromise}
-use Rattle.arj_nodes_law.specs.Readings.{Reads}
-use Rattle.arj_nodes_law.specs.Turns.{CloseShows, SoFarShows, StopShows}
+use Rattle.arj_law_nodes.specs.nodes.Last.{EndsBehind, IsLast, ends_run}
+use Rattle.arj_law_nodes.specs.nodes.Promised.{ShowsThePromise}
+use Rattle.arj_law_nodes.specs.nodes.Readings.{Reads}
+use Rattle.arj_law_nodes.specs.nodes.Turns.{CloseShows, SoFarShows, StopShows}
 use Rattle.arj_script.specs.Grammar.{Place}
 use Rattle.arj_script.specs.Input.{AtFault, Stopped, events_of}
 use Rattle.arj_world.specs.Stands.{hand}

@@ -6,9 +6,9 @@ use Rattle.arj_journal.specs.declared.body.Line.{Line}
 use Rattle.arj_nodes.specs.AllNodes.{RanAll, Task}
 use Rattle.arj_nodes.specs.Told.{ArmsAreTold, HaltsHaveCause}
 use Rattle.arj_nodes.specs.declared.all_nodes.AllNodes.{AllNodes}
-use Rattle.arj_nodes_law.specs.Last.{EndsBehind}
-use Rattle.arj_nodes_law.specs.Promised.{ShowsThePromise}
-use Rattle.arj_nodes_law.specs.Readings.{Reads}
+use Rattle.arj_law_nodes.specs.nodes.Last.{EndsBehind}
+use Rattle.arj_law_nodes.specs.nodes.Promised.{ShowsThePromise}
+use Rattle.arj_law_nodes.specs.nodes.Readings.{Reads}
 use Rattle.arj_world.specs.Stands.{hand}
 
 -- What a run leaves behind its last event: the nodes, the disks, and the journal, which may have a line outside of events behind it.

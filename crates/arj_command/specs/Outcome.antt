@@ -13,9 +13,9 @@ use Rattle.arj_loop.specs.declared.ending.BadLine.{BadLine}
 use Rattle.arj_nodes.specs.AllNodes.{task}
 use Rattle.arj_nodes.specs.AsMachine.{all_nodes}
 use Rattle.arj_nodes.specs.declared.all_nodes.AllNodes.{AllNodes}
-use Rattle.arj_nodes_law.specs.Last.{IsLast}
-use Rattle.arj_nodes_law.specs.Promised.{ShowsThePromise}
-use Rattle.arj_nodes_law.specs.Readings.{Reads}
+use Rattle.arj_law_nodes.specs.nodes.Last.{IsLast}
+use Rattle.arj_law_nodes.specs.nodes.Promised.{ShowsThePromise}
+use Rattle.arj_law_nodes.specs.nodes.Readings.{Reads}
 use Rattle.arj_script.specs.Input.{events_of}
 use Rattle.arj_world.specs.Stands.{Kept}
 use Rattle.arj_command.specs.Facts.{Behind, Facts, behind}

@@ -7,8 +7,8 @@ ghost use Rattle.arj_command.specs.Outcome.{BankHeadline, Headline, Shown, aroun
 ghost use Rattle.arj_loop.specs.Replayed.{Closes, StopsShort, answer, outside};
 ghost use Rattle.arj_nodes.specs.AllNodes.{AreFresh};
 ghost use Rattle.arj_nodes.specs.AsMachine.{all_nodes};
-ghost use Rattle.arj_nodes_law.specs.Cores.{SaysReadings};
-ghost use Rattle.arj_nodes_law.specs.Readings.{Reads};
+ghost use Rattle.arj_law_nodes.specs.nodes.Cores.{SaysReadings};
+ghost use Rattle.arj_law_nodes.specs.nodes.Readings.{Reads};
 
 use crate::words::{Command, asked_for};
 use arj_bank::generated;
@@ -18,7 +18,7 @@ use arj_io::{Sink, Source};
 use arj_journal::Lines;
 use arj_loop::{BadLine, replay};
 use arj_nodes::AllNodes;
-use arj_nodes_law::{banks_show_what_is_promised, nodes_show_what_is_promised};
+use arj_law_nodes::{banks_show_what_is_promised, nodes_show_what_is_promised};
 use arj_world::World;
 use std::alloc::Global;
 

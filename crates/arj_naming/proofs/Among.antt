@@ -14,8 +14,8 @@ use Rattle.arj_base.specs.declared.state.ObjectState.{ObjectState}
 use Rattle.arj_base.specs.declared.uid.Uid.{Uid}
 use Rattle.arj_base.proofs.Uids.{uid_is}
 use Rattle.arj_protocol.specs.Order.{at_uid}
-use Rattle.arj_store_law.proofs.Keys.{among}
-use Rattle.arj_store_law.proofs.Sets.{same_set}
+use Rattle.arj_law_store.proofs.store.Keys.{among}
+use Rattle.arj_law_store.proofs.store.Sets.{same_set}
 
 -- who is among those of a list that pass a test
 pub on_filter : (p : Uid → Bool) (us : List Uid) (u : Uid) → is_on (filter p us) u ≡ (p u && is_on us u)

@@ -16,7 +16,7 @@ use Rattle.arj_lock.proofs.PassLeaves.{came_by, pass_fewer}
 use Rattle.arj_lock.proofs.Passes.{nothing_passes}
 use Rattle.arj_lock.proofs.Paths.{heir_is, on_front, on_last}
 use Rattle.arj_lock.specs.Passing.{CameBy, passed_on, stayed}
-use Rattle.arj_store_law.proofs.Keys.{put_other, tied_is, with_on}
+use Rattle.arj_law_store.proofs.store.Keys.{put_other, tied_is, with_on}
 use Rattle.arj_protocol.specs.Ask.{top_of}
 use Rattle.arj_protocol.specs.Copy.{is_granted}
 use Rattle.arj_protocol.specs.Effect.{reply, void}

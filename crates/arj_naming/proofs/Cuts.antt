@@ -3,7 +3,7 @@ use Rattle.std.proofs.Common.{◌≡◌, ◌⊎◌, ◌∙◌, List, [], ◌∷�
 use Rattle.std.proofs.lemmas.List.{append-nil, append_assoc}
 use Rattle.arj_journal.specs.declared.body.Line.{Line}
 use Rattle.arj_naming.specs.Confirming.{AreLines}
-use Rattle.arj_store_law.specs.Files.{IsPairOf}
+use Rattle.arj_law_store.specs.store.Files.{IsPairOf}
 use Rattle.arj_naming.specs.Kept.{IsCut, IsDoneInPart, pair_stopped}
 use Rattle.arj_naming.specs.Said.{said, pair_after, pair_worked}
 use Rattle.arj_protocol.specs.Effect.{Effect, Say, Send, Do, Work, Pair, Stop}

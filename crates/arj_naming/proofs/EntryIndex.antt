@@ -26,7 +26,7 @@ use Rattle.arj_entry.specs.Entry.{is_listed}
 use Rattle.arj_protocol.specs.Values.{state_entry}
 use Rattle.arj_protocol.specs.Order.{at_uid, drop_uid, put_uid, with_uid, without_uid}
 use Rattle.arj_store.proofs.Entries.{same_entries}
-use Rattle.arj_store_law.proofs.Keys.{Rises, put_rises, tied_is, total, with_on, tied, without_here, without_other, without_rises}
+use Rattle.arj_law_store.proofs.store.Keys.{Rises, put_rises, tied_is, total, with_on, tied, without_here, without_other, without_rises}
 
 -- ---- one entry
 

@@ -33,10 +33,10 @@ use Rattle.arj_protocol.specs.Words.{Uid, ObjectState, Entry, entry, entry_paylo
 use Rattle.arj_store.specs.Pair as files
 use Rattle.arj_store.specs.Pair.{packed, uid_of}
 use Rattle.arj_store.specs.declared.answer.Found.{Found}
-use Rattle.arj_store_law.specs.Files.{IsPairOf}
-use Rattle.arj_store_law.specs.Found.{by_uid, pair_found}
-use Rattle.arj_store_law.proofs.Keys.{tied_is, total}
-use Rattle.arj_store_law.proofs.Finds.{keys_by_uid, pair_of_found}
+use Rattle.arj_law_store.specs.store.Files.{IsPairOf}
+use Rattle.arj_law_store.specs.store.Found.{by_uid, pair_found}
+use Rattle.arj_law_store.proofs.store.Keys.{tied_is, total}
+use Rattle.arj_law_store.proofs.store.Finds.{keys_by_uid, pair_of_found}
 use Rattle.arj_text.specs.Fields.{NodesInForm, is_distinct}
 
 -- ---- one entry

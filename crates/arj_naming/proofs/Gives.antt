@@ -16,9 +16,9 @@ use Rattle.arj_store.specs.Pair as files
 use Rattle.arj_store.specs.Pair.{packed}
 use Rattle.arj_store.specs.declared.answer.Prep.{Prep}
 use Rattle.arj_store.specs.declared.answer.Prep.TheVariants as prep
-use Rattle.arj_store_law.specs.Files.{IsPairOf}
-use Rattle.arj_store_law.proofs.Held.{all_put, all_without, found}
-use Rattle.arj_store_law.proofs.Pairs.{moved_all, packed_once, pair_adds, pair_drops, pair_moves, pair_moves_some, pair_same}
+use Rattle.arj_law_store.specs.store.Files.{IsPairOf}
+use Rattle.arj_law_store.proofs.store.Held.{all_put, all_without, found}
+use Rattle.arj_law_store.proofs.store.Pairs.{moved_all, packed_once, pair_adds, pair_drops, pair_moves, pair_moves_some, pair_same}
 
 -- ---- from the pair
 

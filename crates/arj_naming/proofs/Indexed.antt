@@ -22,7 +22,7 @@ use Rattle.arj_base.specs.declared.state.ObjectState.{ObjectState}
 use Rattle.arj_base.proofs.Uids.{uid_is, uid_same}
 use Rattle.arj_lock.proofs.OneEach.{none_in}
 use Rattle.arj_lock.proofs.Paths.{on_last}
-use Rattle.arj_store_law.proofs.Keys.{order_itself, put_other, tied as tied_uid, without_other}
+use Rattle.arj_law_store.proofs.store.Keys.{order_itself, put_other, tied as tied_uid, without_other}
 use Rattle.arj_naming.proofs.Apart.{none_each}
 use Rattle.arj_naming.proofs.Listed.{on_append, or_nothing}
 use Rattle.arj_naming.proofs.Servers.{in_passed}

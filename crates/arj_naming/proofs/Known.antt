@@ -13,8 +13,8 @@ use Rattle.arj_disk.specs.Says.{names, new_of, role_of}
 use Rattle.arj_disk.specs.declared.slot.Role.TheVariants.{Names}
 use Rattle.arj_msg.specs.InForm.{IsObject}
 use Rattle.arj_naming.specs.Entries.{AreEntries, AreOfEntries, IsEntryState}
-use Rattle.arj_store_law.specs.Files.{IsPairOf}
-use Rattle.arj_store_law.proofs.Held.{found}
+use Rattle.arj_law_store.specs.store.Files.{IsPairOf}
+use Rattle.arj_law_store.proofs.store.Held.{found}
 use Rattle.arj_naming.proofs.Nodes.{few_nodes}
 use Rattle.arj_protocol.specs.Effect.{Pair, held_at}
 use Rattle.arj_protocol.specs.Order.{at_uid}

@@ -7,7 +7,7 @@ use Rattle.arj_base.specs.Uid.{uid_eq}
 use Rattle.arj_base.specs.declared.uid.Uid.{Uid}
 use Rattle.arj_base.proofs.Uids.{uid_is, uid_same}
 use Rattle.arj_lock.specs.Held.{AreListed, below, holder_of}
-use Rattle.arj_store_law.proofs.Keys.{or_three}
+use Rattle.arj_law_store.proofs.store.Keys.{or_three}
 use Rattle.arj_protocol.specs.Naming.{loses}
 
 at_on : (us : List Uid) (i : ℕ) (u : Uid) → i < length us → get_or us i u ≡ u → is_on us u ≡ true

@@ -6,7 +6,7 @@ use Rattle.std.specs.Map.{keys_of}
 use Rattle.std.specs.Ordering.{nat_cmp}
 use Rattle.std.specs.declared.cmp.Ordering.TheVariants.{Less}
 use Rattle.arj_naming.specs.Entries.{IsEntryState}
-use Rattle.arj_store_law.specs.Found.{by_uid}
+use Rattle.arj_law_store.specs.store.Found.{by_uid}
 use Rattle.arj_protocol.specs.Confirm.{named_back}
 use Rattle.arj_protocol.specs.Effect.{Pair}
 use Rattle.arj_protocol.specs.Words.{Uid, ObjectState, uid_order}

@@ -14,10 +14,10 @@ use Rattle.arj_protocol.specs.Effect.{Pair, held_at, holder_of}
 use Rattle.arj_protocol.specs.Step.{entry_line, shown}
 use Rattle.arj_store.specs.Pair as files
 use Rattle.arj_store.specs.declared.answer.Read.{Read}
-use Rattle.arj_store_law.specs.Files.{IsPairOf}
-use Rattle.arj_store_law.specs.Reads.{state_of}
-use Rattle.arj_store_law.proofs.Held.{found}
-use Rattle.arj_store_law.proofs.Lookups.{read_is, reads}
+use Rattle.arj_law_store.specs.store.Files.{IsPairOf}
+use Rattle.arj_law_store.specs.store.Reads.{state_of}
+use Rattle.arj_law_store.proofs.store.Held.{found}
+use Rattle.arj_law_store.proofs.store.Lookups.{read_is, reads}
 
 entry_form : (u : Uid) (d : Pair) → AreEntries d → IfSome (held_at u d) StateInForm
 entry_form u d good = by (held_at u d) (found IsEntryState u d.held good.held)

@@ -10,15 +10,15 @@ use Rattle.arj_disk.specs.declared.slot.Role.TheVariants.{Names}
 use Rattle.arj_journal.specs.declared.body.Line.{Line}
 use Rattle.arj_naming.specs.Confirming.{did_of, prepare_by, refusal_by}
 use Rattle.arj_naming.specs.Entries.{AreEntries, AreOfEntries, IsEntryState}
-use Rattle.arj_store_law.specs.Files.{IsPairOf}
+use Rattle.arj_law_store.specs.store.Files.{IsPairOf}
 use Rattle.arj_naming.specs.Kept.{Kept, HasDone, IsCut, IsDoneInPart}
 use Rattle.arj_naming.specs.Said.{said, pair_after}
 use Rattle.arj_naming.proofs.Cuts.{part_all}
-use Rattle.arj_store_law.specs.Prep.{prep_of}
-use Rattle.arj_store_law.proofs.Held.{found}
-use Rattle.arj_store_law.proofs.Pairs.{pair_same, pair_adds, pair_drops, pair_moves, pair_moves_some}
-use Rattle.arj_store_law.specs.Files.{IsOneOfEach}
-use Rattle.arj_store_law.proofs.Refused.{answer_is}
+use Rattle.arj_law_store.specs.store.Prep.{prep_of}
+use Rattle.arj_law_store.proofs.store.Held.{found}
+use Rattle.arj_law_store.proofs.store.Pairs.{pair_same, pair_adds, pair_drops, pair_moves, pair_moves_some}
+use Rattle.arj_law_store.specs.store.Files.{IsOneOfEach}
+use Rattle.arj_law_store.proofs.store.Refused.{answer_is}
 use Rattle.arj_protocol.specs.Confirm.{confirms, prepared_by}
 use Rattle.arj_protocol.specs.Effect.{Effect, Say, Do, Look, Prepare, Commit, Abort, Before, After, InPart, Pair, held_at, is_prepared, new_states, pair_prepared, pair_committed, pair_aborted, prepare_answer}
 use Rattle.arj_protocol.specs.Effect as protocol

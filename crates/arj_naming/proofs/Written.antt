@@ -12,7 +12,7 @@ use Rattle.arj_base.specs.Uid.{uid_eq}
 use Rattle.arj_base.specs.declared.uid.Uid.{Uid}
 use Rattle.arj_base.proofs.Uids.{uid_is, uid_sym}
 use Rattle.arj_protocol.specs.Order.{at_uid, put_uid}
-use Rattle.arj_store_law.proofs.Keys.{put_here, put_other, tied_is, tied as tied_uid, total}
+use Rattle.arj_law_store.proofs.store.Keys.{put_here, put_other, tied_is, tied as tied_uid, total}
 
 pub written_at : {K X : Type 0} (cmp : K → K → Ordering) → IsTotalOrder cmp → ((x y : K) → is_eq (cmp x y) ≡ true → x ≡ y) → (k : K) (v : X) (m : List (K × X)) → IsSome (lookup (is_at (cmp k)) m)
     → (q : K) → lookup (is_at (cmp q)) (set_value (is_at (cmp k)) m v) ≡ cond (is_eq (cmp k q)) (Some v) (lookup (is_at (cmp q)) m)

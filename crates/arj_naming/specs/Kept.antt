@@ -3,7 +3,7 @@ use Rattle.std.specs.Prelude.{◌≡◌, ◌⊎◌, List, ◌∷◌, ◌++◌}
 use Rattle.arj_disk.specs.FileMap.{FileMap}
 use Rattle.arj_disk.specs.declared.slot.Role.TheVariants as role
 use Rattle.arj_journal.specs.declared.body.Line.{Line}
-use Rattle.arj_store_law.specs.Files.{IsPairOf}
+use Rattle.arj_law_store.specs.store.Files.{IsPairOf}
 use Rattle.arj_naming.specs.Said.{said, names_disk, pair_after}
 use Rattle.arj_protocol.specs.Effect.{Effect, Do, Work, Pair, Stop, Did, stopped}
 use Rattle.arj_protocol.specs.Naming.{Naming}

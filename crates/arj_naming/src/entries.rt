@@ -13,7 +13,7 @@ ghost use Rattle.arj_naming.specs.Back.{ArePending};
 ghost use Rattle.arj_naming.specs.ByEntry.{any_lists, lists_store, lists_store_in};
 ghost use Rattle.arj_naming.specs.Entries.{AreEntries, AreOfEntries, IsEntryState};
 ghost use Rattle.arj_naming.specs.Found.{AreFound};
-ghost use Rattle.arj_store_law.specs.Found.{pair_found};
+ghost use Rattle.arj_law_store.specs.store.Found.{pair_found};
 ghost use Rattle.arj_naming.specs.Said.{said};
 ghost use Rattle.arj_protocol.specs.Confirm.{adds_store, back_lines, is_prepared_with, is_wanted, mode_back, named_back, pending_of, rows_back};
 ghost use Rattle.arj_protocol.specs.Effect.{held_at, is_prepared, moved, pair_prepared, pair_committed, pair_aborted};

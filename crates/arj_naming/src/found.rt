@@ -2,7 +2,7 @@
 ghost use Rattle.std.specs.Prelude.{◌≡◌, IfOk, map};
 ghost use Rattle.std.specs.List.Sorted.{IsStrictlySortedBy};
 ghost use Rattle.arj_base.specs.Order.{uid_order};
-ghost use Rattle.arj_store_law.specs.Found.{by_uid};
+ghost use Rattle.arj_law_store.specs.store.Found.{by_uid};
 ghost use Rattle.arj_store.specs.Pair.{uid_of};
 
 use arj_base::{ObjectState, States, Uid};

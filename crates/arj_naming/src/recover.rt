@@ -6,7 +6,7 @@ ghost use Rattle.arj_disk.specs.Says.{OnlyOfRole};
 ghost use Rattle.arj_disk.specs.declared.slot.Role.{Role};
 ghost use Rattle.arj_naming.specs.Files.{GivesEntries};
 ghost use Rattle.arj_naming.specs.Found.{AreFound};
-ghost use Rattle.arj_store_law.specs.Found.{pair_found};
+ghost use Rattle.arj_law_store.specs.store.Found.{pair_found};
 ghost use Rattle.arj_naming.specs.Kept.{StandsOn};
 ghost use Rattle.arj_naming.specs.Said.{said};
 ghost use Rattle.arj_protocol.specs.Confirm.{recovered_lines, recovered_naming};

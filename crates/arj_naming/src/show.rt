@@ -8,7 +8,7 @@ ghost use Rattle.arj_naming.specs.Said.{said};
 ghost use Rattle.arj_protocol.specs.Effect.{holder_of};
 ghost use Rattle.arj_protocol.specs.Step.{entry_line, shown};
 ghost use Rattle.arj_store.specs.declared.answer.StoreFault.{StoreFault};
-ghost use Rattle.arj_store_law.specs.Reads.{state_of};
+ghost use Rattle.arj_law_store.specs.store.Reads.{state_of};
 
 use crate::Naming;
 use crate::lines::say;

@@ -7,8 +7,8 @@ use Rattle.std.proofs.lemmas.List.{append_cancel_left, length-map}
 use Rattle.std.proofs.lemmas.List.Elements.{filter-append}
 use Rattle.arj_core.specs.declared.node.Core as core
 use Rattle.arj_disk.specs.declared.disk.Disk as disk
-use Rattle.arj_event_law.specs.Halts.{armed_node, halted_node, is_no_arm, says_no_arm}
-use Rattle.arj_event_law.proofs.NoHalts.{step_unarmed}
+use Rattle.arj_law_parts.specs.steps.Halts.{armed_node, halted_node, is_no_arm, says_no_arm}
+use Rattle.arj_law_parts.proofs.steps.NoHalts.{step_unarmed}
 use Rattle.arj_journal.specs.declared.event.StopKind.{StopKind}
 use Rattle.arj_protocol.specs.Effect.{Effect, Say, Send, Do}
 use Rattle.arj_protocol.specs.Step.{first_reason, step}

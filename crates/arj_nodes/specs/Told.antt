@@ -1,7 +1,7 @@
 -- What a journal tells of the stops and the arms of the disks on which its events were run.
 use Rattle.std.specs.Prelude.{ℕ, ◌≡◌, ◌+◌, ◌-◌, ◌≤◌, ◌&&◌, Bool, false, not, if◌then◌else◌, List, [], ◌∷◌, ◌++◌, length, filter, nat_le, Option, Some, None, is_some, slice_get}
 use Rattle.arj_disk.specs.declared.disk.Disk as disk
-use Rattle.arj_event_law.specs.Halts.{armed_node, halted_node}
+use Rattle.arj_law_parts.specs.steps.Halts.{armed_node, halted_node}
 use Rattle.arj_journal.specs.declared.event.Event.{Event}
 use Rattle.arj_protocol.specs.Words.{Line}
 use Rattle.arj_protocol.specs.Words.body

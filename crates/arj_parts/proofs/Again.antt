@@ -49,8 +49,8 @@ use Rattle.arj_serve.specs.Objects.{AreObjects}
 use Rattle.arj_store.specs.Pair as files
 use Rattle.arj_store.specs.Pair.{packed}
 use Rattle.arj_store.specs.declared.store.ObjectStore.{Ghosts}
-use Rattle.arj_store_law.specs.Files.{IsPairOf}
-use Rattle.arj_store_law.proofs.Pairs.{one_pair, pair_same}
+use Rattle.arj_law_store.specs.store.Files.{IsPairOf}
+use Rattle.arj_law_store.proofs.store.Pairs.{one_pair, pair_same}
 
 -- ---- effects by what they are
 

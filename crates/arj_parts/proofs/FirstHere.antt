@@ -30,9 +30,9 @@ use Rattle.arj_serve.specs.Objects.{AreObjects, IsObjectState}
 use Rattle.arj_serve.proofs.Roles.{KeepsOn, Stays, naming_goes_on, names_stay, store_stays, gives_same}
 use Rattle.arj_store.specs.Pair as files
 use Rattle.arj_store.specs.declared.store.ObjectStore.{Ghosts}
-use Rattle.arj_store_law.specs.Files.{IsPairOf}
-use Rattle.arj_store_law.proofs.Held.{all_put}
-use Rattle.arj_store_law.proofs.Pairs.{pair_same}
+use Rattle.arj_law_store.specs.store.Files.{IsPairOf}
+use Rattle.arj_law_store.proofs.store.Held.{all_put}
+use Rattle.arj_law_store.proofs.store.Pairs.{pair_same}
 use Rattle.arj_text.proofs.Values.{value_in_form}
 
 -- ---- the first states are of objects

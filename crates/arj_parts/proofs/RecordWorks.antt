@@ -18,7 +18,7 @@ use Rattle.arj_parts.proofs.Rests.{has_still, inc_same}
 use Rattle.arj_serve.specs.Kept as serve
 use Rattle.arj_serve.specs.Kept.{NamesOn}
 use Rattle.arj_serve.proofs.Roles.{KeepsOn, Stays, gives_same, naming_goes_on}
-use Rattle.arj_store_law.proofs.Pairs.{pair_same}
+use Rattle.arj_law_store.proofs.store.Pairs.{pair_same}
 use Rattle.arj_store.specs.declared.store.ObjectStore.{Ghosts}
 
 -- a disk with these records

@@ -17,8 +17,8 @@ use Rattle.arj_recover.specs.OnDisk.{HasIncarnation}
 use Rattle.arj_serve.specs.Kept as serve
 use Rattle.arj_serve.specs.Kept.{NamesOn, OnlyStates}
 use Rattle.arj_serve.proofs.Roles.{Stays, names_stay}
-use Rattle.arj_store_law.specs.Files.{IsPairOf}
-use Rattle.arj_store_law.proofs.Pairs.{pair_same}
+use Rattle.arj_law_store.specs.store.Files.{IsPairOf}
+use Rattle.arj_law_store.proofs.store.Pairs.{pair_same}
 use Rattle.arj_store.specs.declared.store.ObjectStore.{Ghosts}
 
 -- a file that is of no role is as before

@@ -28,7 +28,7 @@ ghost use Rattle.arj_recover.specs.Done.{sent_again};
 ghost use Rattle.arj_serve.specs.Kept.{NamesOn};
 ghost use Rattle.arj_store.specs.Pair.{SamePair};
 ghost use Rattle.arj_store.specs.declared.answer.StoreFault.{StoreFault};
-ghost use Rattle.arj_store_law.specs.Files.{IsPairOf};
+ghost use Rattle.arj_law_store.specs.store.Files.{IsPairOf};
 
 use crate::NodeParts;
 use crate::said::{ask_about, say_lines, tell};

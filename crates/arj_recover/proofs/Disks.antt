@@ -15,7 +15,7 @@ use Rattle.arj_protocol.specs.Words.{Uid}
 use Rattle.arj_recover.specs.OnDisk.{HasIncarnation, IsDiskOf, IsFormed, SaysSame}
 use Rattle.arj_store.specs.Pair as files
 use Rattle.arj_store.specs.declared.store.ObjectStore.{Ghosts}
-use Rattle.arj_store_law.specs.Files.{IsPairOf}
+use Rattle.arj_law_store.specs.store.Files.{IsPairOf}
 
 -- a role's pair is told from its files
 abbrev pub Stays : {O : Type 0} → Ghosts O → Type 0

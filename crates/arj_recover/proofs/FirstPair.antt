@@ -13,9 +13,9 @@ use Rattle.arj_protocol.specs.Step.{put_states, pair_with}
 use Rattle.arj_protocol.specs.Words.{ObjectState, Uid}
 use Rattle.arj_store.specs.Pair as files
 use Rattle.arj_store.specs.Pair.{HasOnly, packed, uid_of, newer}
-use Rattle.arj_store_law.specs.Files.{IsPairOf}
-use Rattle.arj_store_law.proofs.Keys.{tied_is}
-use Rattle.arj_store_law.proofs.Pairs.{pair_moves}
+use Rattle.arj_law_store.specs.store.Files.{IsPairOf}
+use Rattle.arj_law_store.proofs.store.Keys.{tied_is}
+use Rattle.arj_law_store.proofs.store.Pairs.{pair_moves}
 
 module _ (q : files.Pair) where
   held_of : (ss : List ObjectState) (u : Uid) → AllByRecursion (λ (s : ObjectState). q.held s.uid ≡ Some (state_bytes s)) ss → IfSome (new_of (packed ss) u) (λ bytes. q.held u ≡ Some bytes)

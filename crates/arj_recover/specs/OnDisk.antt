@@ -12,7 +12,7 @@ use Rattle.arj_protocol.specs.Order.{has}
 use Rattle.arj_protocol.specs.Step.{first_state}
 use Rattle.arj_protocol.specs.Words.{Header, ObjectLine, ObjectState}
 use Rattle.arj_store.specs.declared.store.ObjectStore.{Ghosts}
-use Rattle.arj_store_law.specs.Files.{IsPairOf}
+use Rattle.arj_law_store.specs.store.Files.{IsPairOf}
 
 -- the file of the incarnation is there, and in its grammar
 abbrev pub HasIncarnation : FileMap → Type 0

@@ -16,7 +16,7 @@ ghost use Rattle.arj_base.specs.declared.uid.Uid.{Uid};
 ghost use Rattle.arj_recover.specs.OnDisk.{IsFirst, IsFormed, states_at};
 ghost use Rattle.arj_store.specs.Pair.{HasFirst};
 ghost use Rattle.arj_store.specs.declared.answer.StoreFault.{StoreFault};
-ghost use Rattle.arj_store_law.specs.Files.{IsPairOf};
+ghost use Rattle.arj_law_store.specs.store.Files.{IsPairOf};
 
 use crate::beginning::put_inc;
 use arj_base::{ObjectState, States, Uid, object_uid};

@@ -30,8 +30,8 @@ use Rattle.arj_serve.proofs.Notes.{confirm_nothing}
 use Rattle.arj_serve.proofs.Roles.{KeepsOn, RoomOfRole, Stays, only_names, room_of_names, store_stays}
 use Rattle.arj_serve.proofs.Served.{VoidIsNothing, confirm_served, no_entries}
 use Rattle.arj_store.specs.declared.store.ObjectStore.{Ghosts}
-use Rattle.arj_store_law.specs.Files.{IsPairOf}
-use Rattle.arj_store_law.proofs.Pairs.{pair_same}
+use Rattle.arj_law_store.specs.store.Files.{IsPairOf}
+use Rattle.arj_law_store.proofs.store.Pairs.{pair_same}
 
 -- a cut of what a part did is one of what its node does
 served_cut : {O S R : Type 0} (o : Ghosts O) (call : Call O) (d : Disk) (from : ℕ) (h : Head) (put : S → Parts) (say : R → Reply) (s : S) (r : Served S R) → VoidIsNothing s r → IsCut o r.outs call d

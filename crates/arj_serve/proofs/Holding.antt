@@ -30,9 +30,9 @@ use Rattle.arj_serve.specs.Kept.{Kept, NamingStands, StandsOn, part_of, parts_wi
 use Rattle.arj_store.specs.Pair as files
 use Rattle.arj_store.specs.Pair.{packed}
 use Rattle.arj_store.specs.declared.store.ObjectStore.{Ghosts}
-use Rattle.arj_store_law.specs.Files.{IsPairOf}
-use Rattle.arj_store_law.proofs.Keys.{here, tied_is}
-use Rattle.arj_store_law.proofs.Sets.{same_set, set_on, set_rises}
+use Rattle.arj_law_store.specs.store.Files.{IsPairOf}
+use Rattle.arj_law_store.proofs.store.Keys.{here, tied_is}
+use Rattle.arj_law_store.proofs.store.Sets.{same_set, set_on, set_rises}
 
 both_ways : (a b : Bool) → (a ≡ true → b ≡ true) → (b ≡ true → a ≡ true) → a ≡ b
 both_ways true true to back = refl

@@ -6,9 +6,9 @@ use Rattle.arj_disk.specs.FileMap.{FileMap}
 use Rattle.arj_disk.specs.Says.{names}
 use Rattle.arj_disk.specs.declared.slot.Role.{Role}
 use Rattle.arj_disk.specs.declared.slot.Role.TheVariants.{Store}
-use Rattle.arj_store_law.specs.Reads.{ReadsAs}
-use Rattle.arj_store_law.proofs.Held.{found}
-use Rattle.arj_store_law.proofs.Lookups.{holder_as, prepared_as, reads}
+use Rattle.arj_law_store.specs.store.Reads.{ReadsAs}
+use Rattle.arj_law_store.proofs.store.Held.{found}
+use Rattle.arj_law_store.proofs.store.Lookups.{holder_as, prepared_as, reads}
 use Rattle.arj_protocol.specs.Effect.{Disk, Pair, held_at, holder_of, is_prepared}
 use Rattle.arj_protocol.specs.Words.{Uid, ObjectState}
 use Rattle.arj_serve.specs.Kept.{Kept, StandsOn}

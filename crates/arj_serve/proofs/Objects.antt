@@ -2,8 +2,8 @@
 use Rattle.std.proofs.Common.{Bool, true, false, cond, List, [], ◌∷◌, sym, subst, Option, Some, None}
 use Rattle.std.specs.Prelude.{IfSome, unwrap_or}
 use Rattle.std.specs.List.{AllByRecursion, IsDistinct}
-use Rattle.arj_store_law.proofs.Held.{all_put, all_without, found}
-use Rattle.arj_store_law.proofs.Pairs.{moved_all}
+use Rattle.arj_law_store.proofs.store.Held.{all_put, all_without, found}
+use Rattle.arj_law_store.proofs.store.Pairs.{moved_all}
 use Rattle.arj_protocol.specs.Effect.{Pair, moved_some, new_states, pair_prepared, pair_committed, pair_aborted, pair_in_part}
 use Rattle.arj_protocol.specs.Order.{at_uid, put_uid}
 use Rattle.arj_protocol.specs.Words.{Uid, ObjectState, uid_eq}

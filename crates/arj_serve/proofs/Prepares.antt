@@ -11,9 +11,9 @@ use Rattle.arj_protocol.specs.Words.{Uid, ObjectState, object}
 use Rattle.arj_serve.specs.Objects.{AreObjects, AreOfObjects, IsObjectState}
 use Rattle.arj_store.specs.Pair as files
 use Rattle.arj_store.specs.Pair.{uid_of}
-use Rattle.arj_store_law.specs.Files.{IsPairOf}
-use Rattle.arj_store_law.proofs.Numbered as numbered
-use Rattle.arj_store_law.proofs.Numbered.{IsOneOf, uids_to}
+use Rattle.arj_law_store.specs.store.Files.{IsPairOf}
+use Rattle.arj_law_store.proofs.store.Numbered as numbered
+use Rattle.arj_law_store.proofs.store.Numbered.{IsOneOf, uids_to}
 
 pub all_store : (states : List ObjectState) → AllByRecursion (λ s. IsObjectState s.uid s) states → AllByRecursion (λ s. role_of s.uid ≡ Store) states
 all_store [] all = tt

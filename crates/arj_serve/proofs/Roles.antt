@@ -8,8 +8,8 @@ use Rattle.arj_disk.specs.declared.slot.Role.TheVariants.{Store, Names}
 use Rattle.arj_disk.specs.declared.slot.Slot.TheVariants.{Tmp}
 use Rattle.arj_naming.specs.Files.{GivesEntries}
 use Rattle.arj_naming.specs.Kept as naming
-use Rattle.arj_store_law.specs.Files.{IsPairOf}
-use Rattle.arj_store_law.proofs.Pairs.{pair_same}
+use Rattle.arj_law_store.specs.store.Files.{IsPairOf}
+use Rattle.arj_law_store.proofs.store.Pairs.{pair_same}
 use Rattle.arj_protocol.specs.Effect.{Disk, Pair}
 use Rattle.arj_serve.specs.Kept.{Kept, NamesOn, IsDiskOf, IsFormed, Leaves, NamingStands, OnlyStates, RoomFalls, Stands, StandsOn}
 use Rattle.arj_store.specs.Pair as files

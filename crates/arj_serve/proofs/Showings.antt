@@ -23,7 +23,7 @@ use Rattle.arj_serve.proofs.Served.{lines_after, lines_local}
 use Rattle.arj_store.specs.declared.answer.Read.{Read}
 use Rattle.arj_store.specs.declared.answer.Read.TheVariants as read
 use Rattle.arj_store.specs.declared.store.ObjectStore.{Ghosts}
-use Rattle.arj_store_law.specs.Reads.{ReadsAs, state_of}
+use Rattle.arj_law_store.specs.store.Reads.{ReadsAs, state_of}
 
 -- ---- one line
 

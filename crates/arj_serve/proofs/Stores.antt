@@ -8,13 +8,13 @@ use Rattle.arj_disk.specs.FileMap.{FileMap}
 use Rattle.arj_disk.specs.Says.{OnlyOfRole, SameOfRole, names}
 use Rattle.arj_disk.specs.declared.slot.Role.{Role}
 use Rattle.arj_disk.specs.declared.slot.Role.TheVariants.{Store, Names}
-use Rattle.arj_store_law.specs.Files.{IsPairOf}
-use Rattle.arj_store_law.specs.Prep.{prep_of}
+use Rattle.arj_law_store.specs.store.Files.{IsPairOf}
+use Rattle.arj_law_store.specs.store.Prep.{prep_of}
 use Rattle.arj_msg.specs.InForm.{IsObject}
 use Rattle.arj_naming.specs.Said.{said}
-use Rattle.arj_store_law.proofs.Held.{found}
-use Rattle.arj_store_law.proofs.Pairs.{pair_same, pair_adds, pair_drops, pair_moves, pair_moves_some}
-use Rattle.arj_store_law.proofs.Refused.{answer_is}
+use Rattle.arj_law_store.proofs.store.Held.{found}
+use Rattle.arj_law_store.proofs.store.Pairs.{pair_same, pair_adds, pair_drops, pair_moves, pair_moves_some}
+use Rattle.arj_law_store.proofs.store.Refused.{answer_is}
 use Rattle.arj_protocol.specs.Ask.{Reply, actor, asked_by, response}
 use Rattle.arj_protocol.specs.Coord.{Coord}
 use Rattle.arj_protocol.specs.Effect as protocol
@@ -35,7 +35,7 @@ use Rattle.arj_serve.specs.Ended.{IsDone, IsNumbered, prep_done, prep_reply, pre
 use Rattle.arj_serve.specs.Kept.{IsDiskOf, Leaves, LeavesRole, StandsOn, parts_with}
 use Rattle.arj_serve.specs.Objects.{AreObjects, AreOfObjects, IsObjectState}
 use Rattle.arj_serve.specs.Parts.{loaded_by}
-use Rattle.arj_store_law.specs.Reads.{ReadsAs}
+use Rattle.arj_law_store.specs.store.Reads.{ReadsAs}
 use Rattle.arj_serve.proofs.Cuts.{look_cut}
 use Rattle.arj_serve.proofs.Objects.{new_objects, objects_aborted, objects_committed, objects_in_part, objects_prepared}
 use Rattle.arj_serve.proofs.Places.{place_same, place_store}

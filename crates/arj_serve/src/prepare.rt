@@ -13,7 +13,7 @@ ghost use Rattle.arj_serve.specs.Ended.{IsNumbered, prep_done, prep_reply, prepa
 ghost use Rattle.arj_serve.specs.Kept.{Leaves, Stands, StandsOn};
 ghost use Rattle.arj_serve.specs.Objects.{AreOfObjects};
 ghost use Rattle.arj_store.specs.declared.answer.StoreFault.{StoreFault};
-ghost use Rattle.arj_store_law.specs.Prep.{prep_of};
+ghost use Rattle.arj_law_store.specs.store.Prep.{prep_of};
 
 use crate::Services;
 use crate::answers::asked;

@@ -10,7 +10,7 @@ ghost use Rattle.arj_protocol.specs.Step.{copy_line, show_entry, show_outs, show
 ghost use Rattle.arj_serve.specs.Kept.{Stands};
 ghost use Rattle.arj_serve.specs.Shown.{Shows, ShowsInPart};
 ghost use Rattle.arj_store.specs.declared.answer.StoreFault.{StoreFault};
-ghost use Rattle.arj_store_law.specs.Reads.{state_of};
+ghost use Rattle.arj_law_store.specs.store.Reads.{state_of};
 
 use crate::Services;
 use arj_base::object_uid;

@@ -15,7 +15,7 @@ ghost use Rattle.arj_serve.specs.Ended.{EndsAll, EndsAllInPart, EndsStates, Ends
 ghost use Rattle.arj_serve.specs.Kept.{Leaves, LeavesRole, Stands, StandsOn};
 ghost use Rattle.arj_serve.specs.Parts.{loaded_by};
 ghost use Rattle.arj_store.specs.declared.answer.StoreFault.{StoreFault};
-ghost use Rattle.arj_store_law.specs.Reads.{ReadsAs};
+ghost use Rattle.arj_law_store.specs.store.Reads.{ReadsAs};
 
 use crate::Services;
 use crate::answers::asked;

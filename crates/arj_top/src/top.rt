@@ -5,7 +5,7 @@ ghost use Rattle.arj_command.specs.Command.{IsCommand, IsGenerate, IsReplay};
 ghost use Rattle.arj_command.specs.Outcome.{BankHeadline, Headline, Shown, around, said};
 ghost use Rattle.arj_loop.specs.Replayed.{outside};
 ghost use Rattle.arj_nodes.specs.AllNodes.{AreFresh};
-ghost use Rattle.arj_nodes_law.specs.Readings.{reading_of};
+ghost use Rattle.arj_law_nodes.specs.nodes.Readings.{reading_of};
 
 use arj_command::run_on;
 use arj_core::Core;
@@ -15,7 +15,7 @@ use arj_journal::Lines;
 use arj_loop::BadLine;
 use arj_node::NodeCore;
 use arj_parts::NodeParts;
-use arj_parts_law::cores_say_their_readings;
+use arj_law_nodes::cores_say_their_readings;
 use arj_store::{ObjectStore, ShadowStore};
 use arj_world::World;
 use std::alloc::Global;

@@ -6,12 +6,12 @@ use Rattle.std.proofs.lemmas.List.{length-append, length-map}
 use Rattle.std.proofs.Math.Logic.{⊎_elim}
 use Rattle.arj_core.specs.declared.node.Core.{Ghosts}
 use Rattle.arj_disk.specs.FileMap.{FileMap}
-use Rattle.arj_event_law.proofs.EndLines.{ends_write}
-use Rattle.arj_event_law.proofs.Settled.{events_settle}
-use Rattle.arj_event_law.proofs.Spoken.{event_writes}
-use Rattle.arj_event_law.proofs.Whole.{event_whole, format_whole, whole_with}
-use Rattle.arj_event_law.specs.Named.{AnswersEnd, AreNamed, EndHalted, EndRefused, IsEndAnswered, OwnEnd, ends_label}
-use Rattle.arj_event_law.specs.Writes.{Answers, Own, IsRefused, HasHalted, IsFrames, IsLabels, IsAnswered, IsDone, IsOwn, IsRefusedWith, IsRun, IsWhole, Owes, asks, halts_for, may_lack_frames, node_refusal, refused_to}
+use Rattle.arj_law_parts.proofs.steps.EndLines.{ends_write}
+use Rattle.arj_law_parts.proofs.steps.Settled.{events_settle}
+use Rattle.arj_law_parts.proofs.steps.Spoken.{event_writes}
+use Rattle.arj_law_parts.proofs.steps.Whole.{event_whole, format_whole, whole_with}
+use Rattle.arj_law_parts.specs.steps.Named.{AnswersEnd, AreNamed, EndHalted, EndRefused, IsEndAnswered, OwnEnd, ends_label}
+use Rattle.arj_law_parts.specs.steps.Writes.{Answers, Own, IsRefused, HasHalted, IsFrames, IsLabels, IsAnswered, IsDone, IsOwn, IsRefusedWith, IsRun, IsWhole, Owes, asks, halts_for, may_lack_frames, node_refusal, refused_to}
 use Rattle.arj_journal.specs.declared.body.Line.{Line}
 use Rattle.arj_journal.specs.declared.header.Header.{Header}
 use Rattle.arj_net.specs.Net as nets

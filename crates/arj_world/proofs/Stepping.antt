@@ -7,7 +7,7 @@ use Rattle.arj_core.specs.declared.output.Output.{Output}
 use Rattle.arj_core.specs.declared.output.Output.TheVariants as output
 use Rattle.arj_core.specs.Steps as steps
 use Rattle.arj_core.specs.Steps.{Did, Seen, Said, WasCut, seen, seen_of}
-use Rattle.arj_event_law.proofs.Whole.{step_number}
+use Rattle.arj_law_parts.proofs.steps.Whole.{step_number}
 use Rattle.arj_net.specs.declared.net.Sent.{Sent}
 use Rattle.arj_protocol.specs.Ask.{frame_kind}
 use Rattle.arj_disk.specs.FileMap.{FileMap}

@@ -10,8 +10,8 @@ use Rattle.arj_core.specs.declared.output.Output.{Output}
 use Rattle.arj_core.specs.Steps.{Did, PutsOut, WasCut, seen, seen_of}
 use Rattle.arj_disk.specs.FileMap.{FileMap}
 use Rattle.arj_disk.specs.declared.disk.Disk.{Ghosts}
-use Rattle.arj_event_law.proofs.NoHalts.{crash_own, step_both}
-use Rattle.arj_event_law.specs.Halts.{halted_node, is_crash, is_no_halt, is_only, says_no_halt, says_own_halt}
+use Rattle.arj_law_parts.proofs.steps.NoHalts.{crash_own, step_both}
+use Rattle.arj_law_parts.specs.steps.Halts.{halted_node, is_crash, is_no_halt, is_only, says_no_halt, says_own_halt}
 use Rattle.arj_journal.specs.declared.body.Line.{Line}
 use Rattle.arj_journal.specs.declared.header.Header.{Header}
 use Rattle.arj_protocol.specs.Ask.{frame_kind}

@@ -1,12 +1,12 @@
 -- What each handler keeps holds after each turn.
 use Rattle.std.proofs.Common.{List, [], ◌∷◌}
-use Rattle.arj_coord_law.proofs.RunCoords.{IsSo, holds_named, keeps_names, names_are_kept}
-use Rattle.arj_event_law.specs.Named.{AreNamed, HasNames}
+use Rattle.arj_law_runs.proofs.coordinators.RunCoords.{IsSo, holds_named, keeps_names, names_are_kept}
+use Rattle.arj_law_parts.specs.steps.Named.{AreNamed, HasNames}
 use Rattle.arj_protocol.specs.Words.{Header}
 use Rattle.arj_protocol.specs.World.{World, format, run_event}
-use Rattle.arj_view_law.specs.Keeps.{Holds, Keeps}
-use Rattle.arj_view_law.specs.Seen.{Seen}
-use Rattle.arj_view_law.proofs.Happens.{arms_hold, event_holds, first_holds}
+use Rattle.arj_law_parts.specs.moves.Keeps.{Holds, Keeps}
+use Rattle.arj_law_parts.specs.moves.Seen.{Seen}
+use Rattle.arj_law_parts.proofs.moves.Happens.{arms_hold, event_holds, first_holds}
 use Rattle.arj_world.specs.Turns.{Turn, all_turned, asked, turned, with_arms}
 
 module _ (hd : Header) (P : Seen → Type 0) (keeps : Keeps hd P) where

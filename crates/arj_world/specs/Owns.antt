@@ -2,8 +2,8 @@
 use Rattle.std.specs.Prelude.{ℕ, ◌≡◌, Bool, false, List}
 use Rattle.arj_core.specs.declared.node.Core.{Ghosts}
 use Rattle.arj_disk.specs.FileMap.{FileMap}
-use Rattle.arj_event_law.specs.Named.{AreNamed, IsEndAnswered, ends_label}
-use Rattle.arj_event_law.specs.Writes.{IsAnswered, IsWhole, Owes}
+use Rattle.arj_law_parts.specs.steps.Named.{AreNamed, IsEndAnswered, ends_label}
+use Rattle.arj_law_parts.specs.steps.Writes.{IsAnswered, IsWhole, Owes}
 use Rattle.arj_journal.specs.declared.body.Line.{Line}
 use Rattle.arj_net.specs.Net.{is_open}
 use Rattle.arj_net.specs.declared.net.Sent.{Sent}

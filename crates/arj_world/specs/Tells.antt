@@ -1,7 +1,7 @@
 -- Which lines of a journal tell of stops.
 use Rattle.std.specs.Prelude.{ℕ, ◌≡◌, ◌≤◌, ◌<◌, ◌+◌, ◌==◌, ◌&&◌, Bool, false, if◌then◌else◌, List, [], ◌∷◌, ◌++◌, Option, Some, None, length, slice_get}
 use Rattle.arj_disk.specs.declared.disk.Disk.{Ghosts}
-use Rattle.arj_event_law.specs.Halts.{halted_node, is_crash}
+use Rattle.arj_law_parts.specs.steps.Halts.{halted_node, is_crash}
 use Rattle.arj_journal.specs.declared.body.Line.{Line}
 use Rattle.arj_protocol.specs.Step.{Input}
 use Rattle.arj_protocol.specs.Words.{Event}

@@ -3,7 +3,7 @@ ghost use Rattle.std.specs.Prelude.{◌≡◌, ◌≤◌, ◌<◌, ◌+◌, ◌�
 ghost use Rattle.std.specs.BTreeMap.{insert_entry};
 ghost use Rattle.arj_core.specs.Steps.{Sent, input_of, message_of};
 ghost use Rattle.arj_disk.specs.declared.limits.TheConstants.{LAST_ARM};
-ghost use Rattle.arj_event_law.specs.Halts.{is_crash};
+ghost use Rattle.arj_law_parts.specs.steps.Halts.{is_crash};
 ghost use Rattle.arj_journal.specs.ScriptForm.{EventInForm};
 ghost use Rattle.arj_protocol.specs.Step.{first_reason};
 ghost use Rattle.arj_protocol.specs.Step as inputs;

@@ -1,7 +1,7 @@
 //! The nodes, the net and the journal under a script.
 //!
 //! It stands on `arj_core` (a node), `arj_net` (frames), `arj_disk` (disks), the definitions of `arj_protocol` and the laws of
-//! events (`arj_event_law`). What it gives upward: a world that is formatted is the protocol's first world, and no disk was
+//! events (`arj_law_parts/steps`). What it gives upward: a world that is formatted is the protocol's first world, and no disk was
 //! stopped in its format (`World::format`); and each event makes of it what the protocol makes of its world, with the stops that
 //! the disks made (`World::step`; `specs/Stands.antt`, `specs/Happens.antt`). What an event makes of the disks' arms, which lines
 //! tell of stops, and which lines an event owes or writes in their place, say `specs/Disks.antt`, `specs/Tells.antt` and

@@ -4,7 +4,7 @@ use Rattle.arj_base.specs.declared.uid.Uid.{Uid}
 use Rattle.arj_naming.proofs.EntryIndex.{put_again, put_back, put_in}
 use Rattle.arj_naming.specs.ByEntry.{AreByEntry, is_of, stands_under}
 use Rattle.arj_protocol.specs.Order.{at_uid, put_uid}
-use Rattle.arj_store_law.proofs.Keys.{without_here}
+use Rattle.arj_law_store.proofs.store.Keys.{without_here}
 use Rattle.arj_naming.proofs.by_entry.put_prepared.Goals as goal
 
 pub returns-in-Err-clause-by_entry : goal.returns-in-Err-clause-by_entry

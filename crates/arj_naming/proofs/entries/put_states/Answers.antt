@@ -4,7 +4,7 @@ use Rattle.std.specs.Vec.Iter.{into_iter_items, into_iter_len, into_iter_steps}
 use Rattle.arj_base.specs.declared.state.ObjectState.{ObjectState}
 use Rattle.arj_base.specs.declared.uid.Uid.{Uid}
 use Rattle.arj_naming.specs.Entries.{IsEntryState}
-use Rattle.arj_store_law.proofs.Held.{all_put}
+use Rattle.arj_law_store.proofs.store.Held.{all_put}
 use Rattle.arj_protocol.specs.Effect.{moved}
 use Rattle.arj_naming.proofs.entries.put_states.Goals as goal
 

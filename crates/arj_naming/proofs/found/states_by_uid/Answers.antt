@@ -3,10 +3,10 @@ use Rattle.std.proofs.lemmas.List.{drop_more}
 use Rattle.std.specs.List.Sorted.{IsStrictlySortedBy}
 use Rattle.arj_base.specs.Order.{uid_order}
 use Rattle.arj_base.specs.declared.state.ObjectState.{ObjectState}
-use Rattle.arj_store_law.specs.Found.{by_uid}
+use Rattle.arj_law_store.specs.store.Found.{by_uid}
 use Rattle.arj_naming.proofs.Appended.{entry_goes}
-use Rattle.arj_store_law.proofs.Keys.{total}
-use Rattle.arj_store_law.proofs.Finds.{keys_by_uid}
+use Rattle.arj_law_store.proofs.store.Keys.{total}
+use Rattle.arj_law_store.proofs.store.Finds.{keys_by_uid}
 use Rattle.arj_naming.proofs.found.states_by_uid.Goals as goal
 
 pub loop-state-preserved : goal.loop-state-preserved

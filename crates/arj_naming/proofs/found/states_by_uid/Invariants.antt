@@ -1,5 +1,5 @@
 use Rattle.std.proofs.Common.{◌≡◌, ◌++◌, drop}
-use Rattle.arj_store_law.specs.Found.{by_uid}
+use Rattle.arj_law_store.specs.store.Found.{by_uid}
 use Rattle.arj_naming.proofs.found.states_by_uid.Given as goal
 
 -- the states so far

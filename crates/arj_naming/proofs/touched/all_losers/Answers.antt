@@ -5,7 +5,7 @@ use Rattle.arj_naming.specs.Touched.{any_of, test_at}
 use Rattle.arj_protocol.specs.Named.{Named}
 use Rattle.arj_protocol.specs.Naming.{loses}
 use Rattle.arj_protocol.specs.Order.{at_number}
-use Rattle.arj_store_law.proofs.Keys.{or_three}
+use Rattle.arj_law_store.proofs.store.Keys.{or_three}
 use Rattle.arj_naming.proofs.touched.all_losers.Goals as goal
 
 pub loop-x-preserved : goal.loop-x-preserved

@@ -1,5 +1,5 @@
 use Rattle.std.proofs.Common.{◌∙◌}
-use Rattle.arj_store_law.proofs.Keys.{drop_is}
+use Rattle.arj_law_store.proofs.store.Keys.{drop_is}
 use Rattle.arj_naming.proofs.uids.drop_uid.Goals as goal
 
 pub returns : goal.returns

@@ -2,7 +2,7 @@ use Rattle.std.proofs.Common.{◌∙◌, ◌||◌, ◌+◌, sym, drop, get_or}
 use Rattle.std.proofs.lemmas.List.{drop_more}
 use Rattle.arj_base.specs.Rows.{is_on}
 use Rattle.arj_base.specs.Uid.{nobody, uid_eq}
-use Rattle.arj_store_law.proofs.Keys.{with_on, or_three}
+use Rattle.arj_law_store.proofs.store.Keys.{with_on, or_three}
 use Rattle.arj_naming.proofs.uids.insert_all.Goals as goal
 
 pub loop-uid-preserved : goal.loop-uid-preserved

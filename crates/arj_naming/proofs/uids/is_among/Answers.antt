@@ -1,5 +1,5 @@
 use Rattle.std.proofs.Common.{◌∙◌}
-use Rattle.arj_store_law.proofs.Keys.{among}
+use Rattle.arj_law_store.proofs.store.Keys.{among}
 use Rattle.arj_naming.proofs.uids.is_among.Goals as goal
 
 pub returns : goal.returns

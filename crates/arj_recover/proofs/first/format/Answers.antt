@@ -9,7 +9,7 @@ use Rattle.arj_protocol.specs.Step.{first_state, pair_with}
 use Rattle.arj_protocol.specs.Words.{ObjectLine, ObjectState}
 use Rattle.arj_store.specs.Pair.{AreDistinct, HasFirst, HasOnly, uid_of}
 use Rattle.arj_store.proofs.Ends.{on_err}
-use Rattle.arj_store_law.specs.Files.{IsPairOf}
+use Rattle.arj_law_store.specs.store.Files.{IsPairOf}
 use Rattle.arj_recover.proofs.FirstPair.{first_pair}
 use Rattle.arj_recover.proofs.Firsts.{are_distinct, are_few, distinct_at, firsts_form}
 use Rattle.arj_recover.proofs.first.format.Goals as goal

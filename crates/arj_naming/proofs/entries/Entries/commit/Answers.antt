@@ -4,7 +4,7 @@ use Rattle.std.specs.List.{AllByRecursion}
 use Rattle.arj_base.specs.declared.state.ObjectState.{ObjectState}
 use Rattle.arj_base.specs.declared.uid.Uid.{Uid}
 use Rattle.arj_naming.specs.Entries.{AreOfEntries, IsEntryState}
-use Rattle.arj_store_law.proofs.Held.{all_without, found}
+use Rattle.arj_law_store.proofs.store.Held.{all_without, found}
 use Rattle.arj_naming.proofs.entries.Entries.commit.Goals as goal
 
 pub put_states-requires-clause-states : goal.put_states-requires-clause-states

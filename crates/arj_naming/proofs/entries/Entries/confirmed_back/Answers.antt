@@ -4,7 +4,7 @@ use Rattle.arj_base.specs.Order.{uid_order}
 use Rattle.arj_base.specs.declared.state.ObjectState.{ObjectState}
 use Rattle.arj_base.specs.declared.uid.Uid.{Uid}
 use Rattle.arj_naming.proofs.Appended.{key_goes}
-use Rattle.arj_store_law.proofs.Keys.{total}
+use Rattle.arj_law_store.proofs.store.Keys.{total}
 use Rattle.arj_protocol.specs.Effect.{Pair}
 use Rattle.arj_naming.proofs.entries.Entries.confirmed_back.Goals as goal
 

@@ -3,7 +3,7 @@ use Rattle.std.specs.Prelude.{IfSome}
 use Rattle.arj_base.specs.Uid.{entry}
 use Rattle.arj_base.specs.declared.uid.Uid.{Uid}
 use Rattle.arj_naming.specs.Entries.{IsEntryState}
-use Rattle.arj_store_law.proofs.Held.{found}
+use Rattle.arj_law_store.proofs.store.Held.{found}
 use Rattle.arj_protocol.specs.Order.{at_uid}
 use Rattle.arj_naming.proofs.entries.Entries.get.Goals as goal
 

@@ -4,7 +4,7 @@ use Rattle.arj_base.specs.declared.state.ObjectState.{ObjectState}
 use Rattle.arj_base.specs.declared.uid.Uid.{Uid}
 use Rattle.arj_naming.specs.ByEntry.{has_state_in, is_on_set}
 use Rattle.arj_naming.specs.Entries.{AreOfEntries, IsEntryState}
-use Rattle.arj_store_law.specs.Found.{by_uid}
+use Rattle.arj_law_store.specs.store.Found.{by_uid}
 use Rattle.arj_protocol.specs.Order.{at_uid}
 use Rattle.arj_naming.proofs.Recovered.{each_by_uid}
 use Rattle.arj_naming.proofs.entries.Entries.of_found.Goals as goal

@@ -3,7 +3,7 @@ use Rattle.std.specs.List.{AllByRecursion}
 use Rattle.arj_base.specs.declared.state.ObjectState.{ObjectState}
 use Rattle.arj_base.specs.declared.uid.Uid.{Uid}
 use Rattle.arj_naming.specs.Entries.{AreOfEntries}
-use Rattle.arj_store_law.proofs.Held.{all_put, all_without}
+use Rattle.arj_law_store.proofs.store.Held.{all_put, all_without}
 use Rattle.arj_naming.proofs.entries.Entries.prepare.Goals as goal
 
 pub invariant_of-self : goal.invariant_of-self

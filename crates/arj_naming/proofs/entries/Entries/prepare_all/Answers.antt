@@ -6,7 +6,7 @@ use Rattle.arj_base.specs.declared.state.ObjectState.{ObjectState}
 use Rattle.arj_base.specs.declared.uid.Uid.{Uid}
 use Rattle.arj_naming.proofs.Appended.{entry_goes}
 use Rattle.arj_naming.specs.Entries.{AreOfEntries}
-use Rattle.arj_store_law.proofs.Keys.{total}
+use Rattle.arj_law_store.proofs.store.Keys.{total}
 use Rattle.arj_naming.proofs.entries.Entries.prepare_all.Goals as goal
 
 pub prepare-requires : goal.prepare-requires

@@ -1,7 +1,7 @@
 use Rattle.std.proofs.Common.{◌∙◌, ap, inr, sym, subst}
 use Rattle.arj_disk.specs.declared.slot.Role.{Role}
 use Rattle.arj_disk.specs.declared.slot.Role.TheVariants.{Names}
-use Rattle.arj_store_law.specs.Files.{IsPairOf}
+use Rattle.arj_law_store.specs.store.Files.{IsPairOf}
 use Rattle.arj_naming.specs.Entries.{AreEntries}
 use Rattle.arj_naming.proofs.Cuts.{part_all}
 use Rattle.arj_naming.proofs.Store.{on_err, cut_part, commit_cut, moved}

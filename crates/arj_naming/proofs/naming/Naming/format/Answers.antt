@@ -12,8 +12,8 @@ use Rattle.arj_protocol.specs.Confirm.{recovered_naming}
 use Rattle.arj_protocol.specs.Step.{first_disk}
 use Rattle.arj_store.specs.Pair.{HasFirst, HasOnly}
 use Rattle.arj_store.specs.declared.answer.Found.{Found}
-use Rattle.arj_store_law.specs.Files.{IsPairOf}
-use Rattle.arj_store_law.specs.Found.{by_uid, pair_found}
+use Rattle.arj_law_store.specs.store.Files.{IsPairOf}
+use Rattle.arj_law_store.specs.store.Found.{by_uid, pair_found}
 use Rattle.arj_naming.proofs.naming.Naming.format.Goals as goal
 
 pub first_entries-requires : goal.first_entries-requires

@@ -5,7 +5,7 @@ use Rattle.arj_disk.specs.Says.{names}
 use Rattle.arj_disk.specs.declared.slot.Role.TheVariants.{Names}
 use Rattle.arj_naming.specs.Kept.{Kept}
 use Rattle.arj_store.specs.Pair as files
-use Rattle.arj_store_law.proofs.Lookups.{holder_as}
+use Rattle.arj_law_store.proofs.store.Lookups.{holder_as}
 use Rattle.arj_naming.proofs.naming.Naming.holder.Goals as goal
 
 pub returns : goal.returns

@@ -9,7 +9,7 @@ use Rattle.arj_naming.proofs.Store.{on_err, cut_part, prepare_cut, prepared_done
 use Rattle.arj_protocol.specs.Confirm.{confirms}
 use Rattle.arj_protocol.specs.Effect.{pair_prepared}
 use Rattle.arj_store.specs.Pair as files
-use Rattle.arj_store_law.specs.Files.{IsPairOf}
+use Rattle.arj_law_store.specs.store.Files.{IsPairOf}
 use Rattle.arj_naming.proofs.naming.Naming.prepare.Goals as goal
 
 pub prepare-requires-clause-sizes : goal.prepare-requires-clause-sizes

@@ -1,10 +1,10 @@
 use Rattle.std.proofs.Common.{◌∙◌, ap, subst, sym}
 use Rattle.arj_disk.specs.declared.slot.Role.TheVariants.{Names}
-use Rattle.arj_store_law.specs.Files.{IsPairOf}
+use Rattle.arj_law_store.specs.store.Files.{IsPairOf}
 use Rattle.arj_naming.specs.Found.{AreFound}
-use Rattle.arj_store_law.specs.Found.{pair_found}
+use Rattle.arj_law_store.specs.store.Found.{pair_found}
 use Rattle.arj_naming.proofs.Finds.{are_found}
-use Rattle.arj_store_law.proofs.Finds.{pair_of_found}
+use Rattle.arj_law_store.proofs.store.Finds.{pair_of_found}
 use Rattle.arj_naming.proofs.Gives.{gives_same}
 use Rattle.arj_naming.proofs.naming.Naming.recover.Goals as goal
 

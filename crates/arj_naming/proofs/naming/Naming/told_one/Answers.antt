@@ -1,7 +1,7 @@
 use Rattle.std.proofs.Common.{◌≡◌, ◌∙◌, ◌++◌, ap, sym, subst}
 use Rattle.arj_disk.specs.declared.slot.Role.TheVariants.{Names}
 use Rattle.arj_naming.specs.Ends.{finished, orphans_by, taken_by}
-use Rattle.arj_store_law.specs.Files.{IsPairOf}
+use Rattle.arj_law_store.specs.store.Files.{IsPairOf}
 use Rattle.arj_naming.specs.Said.{said}
 use Rattle.arj_naming.proofs.Cuts.{part_all}
 use Rattle.arj_naming.proofs.Store.{on_err}

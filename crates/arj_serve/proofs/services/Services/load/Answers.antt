@@ -6,7 +6,7 @@ use Rattle.arj_protocol.specs.Words.{object}
 use Rattle.arj_serve.specs.Asked.{IsServed}
 use Rattle.arj_serve.specs.Did.{Call}
 use Rattle.arj_serve.specs.Kept.{IsDiskOf, Leaves, StandsOn}
-use Rattle.arj_store_law.specs.Reads.{ReadsAs}
+use Rattle.arj_law_store.specs.store.Reads.{ReadsAs}
 use Rattle.arj_serve.proofs.Roles.{disk_is, left_as_was}
 use Rattle.arj_serve.proofs.Stores.{load_cut, load_served}
 use Rattle.arj_serve.proofs.services.Services.load.Goals as goal

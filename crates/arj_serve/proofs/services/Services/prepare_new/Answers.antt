@@ -12,7 +12,7 @@ use Rattle.arj_serve.specs.Kept.{Kept}
 use Rattle.arj_serve.proofs.Prepares.{added_objects, all_objects, all_small, as_many, known_objects}
 use Rattle.arj_serve.proofs.Stores.{numbered, prepare_cut, prepared_served, store_leaves}
 use Rattle.arj_store.specs.Pair as files
-use Rattle.arj_store_law.specs.Prep.{prep_of}
+use Rattle.arj_law_store.specs.store.Prep.{prep_of}
 use Rattle.arj_serve.proofs.services.Services.prepare_new.Goals as goal
 
 pub prepare-requires-clause-sizes : goal.prepare-requires-clause-sizes

@@ -2,7 +2,7 @@ use Rattle.std.proofs.Common.{◌∙◌, ap}
 use Rattle.std.proofs.lemmas.Result.{IfOk-weaker}
 use Rattle.arj_protocol.specs.Effect.{Disk}
 use Rattle.arj_serve.specs.Kept.{Kept, StandsOn}
-use Rattle.arj_store_law.specs.Reads.{ReadsAs}
+use Rattle.arj_law_store.specs.store.Reads.{ReadsAs}
 use Rattle.arj_serve.proofs.Looked.{on_err, store_holder, store_reads}
 use Rattle.arj_store.specs.Pair.{Reads}
 use Rattle.arj_serve.proofs.services.Services.read.Goals as goal

@@ -1,9 +1,0 @@
-use Rattle.std.specs.Prelude.{◌≡◌, true}
-use Rattle.arj_address_law.proofs.Runs.{runs_so, within}
-use Rattle.arj_address_law.proofs.frames.frames_go_within.Goals as goal
-
-pub returns-clause-named : goal.returns-clause-named
-returns-clause-named c = λ hd test one nodes objects ms. runs_so (λ n. test n ≡ true) one hd nodes objects ms
-
-pub returns-clause-runs : goal.returns-clause-runs
-returns-clause-runs c = λ hd form ms. within hd form ms

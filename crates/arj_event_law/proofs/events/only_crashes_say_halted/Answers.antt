@@ -1,5 +1,0 @@
-use Rattle.arj_event_law.proofs.NoHalts.{crash_own, step_both}
-use Rattle.arj_event_law.proofs.events.only_crashes_say_halted.Goals as goal
-
-pub returns : goal.returns
-returns c = record { crashes = step_both; own = crash_own }

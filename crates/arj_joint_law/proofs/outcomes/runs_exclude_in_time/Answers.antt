@@ -1,9 +1,0 @@
-use Rattle.arj_joint_law.proofs.DisksInTime.{runs_exclude_on_disks}
-use Rattle.arj_joint_law.proofs.RunsInTime.{runs_exclude}
-use Rattle.arj_joint_law.proofs.outcomes.runs_exclude_in_time.Goals as goal
-
-pub returns-clause-pairs : goal.returns-clause-pairs
-returns-clause-pairs c = runs_exclude
-
-pub returns-clause-disks : goal.returns-clause-disks
-returns-clause-disks c = runs_exclude_on_disks

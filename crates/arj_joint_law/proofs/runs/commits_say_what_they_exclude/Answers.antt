@@ -1,9 +1,0 @@
-use Rattle.arj_joint_law.proofs.MarkAsks.{runs_ask_marks}
-use Rattle.arj_joint_law.proofs.MarkRuns.{runs_say_marks}
-use Rattle.arj_joint_law.proofs.runs.commits_say_what_they_exclude.Goals as goal
-
-pub returns-clause-said : goal.returns-clause-said
-returns-clause-said c = runs_say_marks
-
-pub returns-clause-asked : goal.returns-clause-asked
-returns-clause-asked c = runs_ask_marks

@@ -1,0 +1,87 @@
+-- What a working top's write lock gives: the entry stays, and loads are of the last state.
+use Rattle.std.proofs.Common.{◌≡◌, ℕ, true, Option, Some, None, is_some, refl, sym, ◌∙◌, ap, subst, inl, inr, ⊎_elim}
+use Rattle.arj_law_disk.specs.machine.Core.{Core}
+use Rattle.arj_law_disk.specs.machine.Effects
+use Rattle.arj_law_disk.specs.machine.Named.{Named}
+use Rattle.arj_law_disk.specs.machine.Names
+use Rattle.arj_law_disk.specs.machine.Names.{Office}
+use Rattle.arj_law_disk.specs.machine.NamingLaws.{EntryStays, HoldsWrite, LoadsTheLast}
+use Rattle.arj_law_disk.specs.machine.State.{State, Packed, Hold, decided, undecided, last, last_entry, IsExcused}
+use Rattle.arj_law_disk.specs.machine.Words.{has}
+use Rattle.arj_law_disk.proofs.machine.Base.{never_some, some_is}
+use Rattle.arj_law_disk.proofs.machine.History.{effective_none}
+use Rattle.arj_law_disk.proofs.machine.Restarts.{write_clears}
+
+pub entry_stays : EntryStays
+entry_stays A (Names.Do (Effects.MoveEntry h)) w x c holds = absurd (write_clears A c w holds.0 holds.1 holds.2 h x.0)
+entry_stays A (Names.Do (Effects.Begin t p)) w x c holds = refl
+entry_stays A (Names.Do (Effects.Take t s)) w x c holds = refl
+entry_stays A (Names.Do (Effects.Seal t)) w x c holds = refl
+entry_stays A (Names.Do (Effects.Intend t nodes)) w x c holds = refl
+entry_stays A (Names.Do (Effects.Decide t)) w x c holds = refl
+entry_stays A (Names.Do (Effects.Remove t nodes)) w x c holds = refl
+entry_stays A (Names.Do (Effects.EndBare t)) w x c holds = refl
+entry_stays A (Names.Do (Effects.Halt t)) w x c holds = refl
+entry_stays A (Names.Do (Effects.Keep t s)) w x c holds = refl
+entry_stays A (Names.Do (Effects.Move s h)) w x c holds = refl
+entry_stays A (Names.Do (Effects.Finish s h)) w x c holds = refl
+entry_stays A (Names.Do (Effects.Drop s h)) w x c holds = refl
+entry_stays A (Names.Do (Effects.Agree t)) w x c holds = refl
+entry_stays A (Names.Do (Effects.Pass t)) w x c holds = refl
+entry_stays A (Names.Do (Effects.Enter t)) w x c holds = refl
+entry_stays A (Names.Do (Effects.FinishEntry h)) w x c holds = refl
+entry_stays A (Names.Do (Effects.DropEntry h)) w x c holds = refl
+entry_stays A (Names.Do (Effects.Forget r h)) w x c holds = refl
+entry_stays A (Names.Do (Effects.Send m)) w x c holds = refl
+entry_stays A (Names.Commit t) w x c holds = refl
+entry_stays A (Names.CommitBare t) w x c holds = refl
+entry_stays A (Names.Read t) w x c holds = refl
+entry_stays A (Names.Write t b) w x c holds = refl
+entry_stays A (Names.Exclude t) w x c holds = refl
+entry_stays A (Names.Lower t) w x c holds = refl
+entry_stays A Names.Unbind w x c holds = refl
+entry_stays A (Names.EndTop t commits) w x c holds = refl
+entry_stays A (Names.EndSerial r) w x c holds = refl
+entry_stays A (Names.Restart yes_again) w x c holds = refl
+entry_stays A (Names.Hear t i b l) w x c holds = refl
+entry_stays A (Names.KeepList h t i l) w x c holds = refl
+entry_stays A (Names.AnswerLoad t i s l g) w x c holds = refl
+
+-- and then it is the last one
+pub entry_is_last : (A : Office) → Named A → (t : ℕ) → HoldsWrite A t → A.world.disk.entry ≡ last_entry A.world.disk
+entry_is_last A c t holds = by S.entry_pend refl
+  where
+    S : State
+    S = A.world.disk
+
+    by : (o : Option Hold) → S.entry_pend ≡ o → S.entry ≡ last_entry S
+    by None e = sym (effective_none (decided S) (λ (x : Packed). x) S.entry_pend S.entry e) ∙ (let core = c.whole.core in core.effective.entry)
+    by (Some h) e = absurd (write_clears A c t holds.0 holds.1 holds.2 h e)
+
+pub loads_the_last : (A : Office) → Named A → LoadsTheLast A
+loads_the_last A c t s g holds i free held = (is_last, alone)
+  where
+    S : State
+    S = A.world.disk
+
+    core : Core S
+    core = c.whole.core
+
+    clear : (h : Hold) → S.entry_pend ≡ Some h → ⊥
+    clear = write_clears A c t holds.0 holds.1 holds.2
+
+    listed : has s (last_entry S).content ≡ true
+    listed = subst (λ (e : Packed). has s e.content ≡ true) (entry_is_last A c t holds) i
+
+    is_last : g ≡ last S
+    is_last = some_is held (sym (effective_none (decided S) Some (S.pend s) (S.held s) free) ∙ core.effective.store s listed)
+
+    alone : (z : ℕ) → S.conf z ≡ true → undecided S z ≡ true → ⊥
+    alone z cz uz = wrote (S.plan z).writes refl
+      where
+        wrote : (o : Option Packed) → (S.plan z).writes ≡ o → ⊥
+        wrote None w = let p = (core.covered.plain z cz uz w).1 in clear p.0 p.1
+        wrote (Some x) w = ⊎_elim
+            (λ (got : S.got z s ≡ true). never_some (core.firm.kept z s uz got) free)
+            (λ (y : IsExcused S z s). clear y.by_entry y.there)
+            (core.covered.stores z s cz (inl uz) (ap is_some w) (inr listed))

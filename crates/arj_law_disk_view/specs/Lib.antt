@@ -1,0 +1,4 @@
+pub mod view
+pub mod names
+pub mod running
+pub mod deciding_lines

@@ -1,0 +1,210 @@
+-- A vote that was given stands.
+use Rattle.std.proofs.Common.{◌≡◌, ◌≤◌, ◌==◌, ◌⊎◌, ℕ, Bool, true, false, cond, max, inl, inr, refl, sym, ◌∙◌, ap, subst, arith, eq-eqb, eqb-true}
+use Rattle.arj_law_lock.specs.machine.Actions.{Act, In, is_top, root, same, top}
+use Rattle.arj_law_lock.specs.machine.State.{Alive, Call, State, Vote}
+use Rattle.arj_law_lock.specs.machine.Steps.{Event, CrashNaming, BindLive, BindNew, Grant, Record, ConfirmTop, PassEntry, DropEntry, CrashServer, ActivateCopy, Apply, Refuse, Change, PassRow, PassTop, DropRows, VoteTop, Keep, Name, Load, SendInvoke, Answered, TurnedDown, Lost, GiveUp, CommitNested, Abort, CommitTop, SendVote, SendConfirm, Decide, Report, EndUnit, Included}
+use Rattle.arj_law_lock.specs.machine.Machine.{Guard, Run, ballot, next, stay, step}
+use Rattle.arj_law_lock.specs.machine.Laws.{ConfirmedStands, GivenStands, given_by}
+use Rattle.arj_law_lock.proofs.machine.Paths.{act_here, by_cases, differ, same_is, top_root}
+use Rattle.arj_law_lock.proofs.machine.Claims.{Holds, Mean}
+use Rattle.arj_law_lock.proofs.machine.Later.{Later, alive_back, first_rises}
+use Rattle.arj_law_lock.proofs.machine.Order.{go_on, run_keeps, step_keeps}
+use Rattle.arj_law_lock.proofs.machine.ValueClaims.{Values}
+use Rattle.arj_law_lock.proofs.machine.VoteLasts.{Votes}
+use Rattle.arj_law_lock.proofs.machine.VoteSteps.{votes_agree}
+
+-- ---- one step
+
+-- the greatest binding under which a server voted for the top only rises, and while it stays so does what the vote gives
+abbrev IsVoteLater : Act → State → State → Type 0
+IsVoteLater m s t = (s.yes m ≤ t.yes m) × (t.yes m ≡ s.yes m → t.vote m ≡ s.vote m)
+
+step_vote : (e : Event) (s : State) (m : Act) → (s.yes m ≤ (let t = next e s in t.yes m)) × ((let t = next e s in t.yes m) ≡ s.yes m → (let t = next e s in t.vote m) ≡ s.vote m)
+step_vote (VoteTop n a b i) s m = by (same m a) refl
+  where
+    by : (w : Bool) → same m a ≡ w → (s.yes m ≤ cond w (max (s.yes a) b) (s.yes m)) × (cond w (max (s.yes a) b) (s.yes m) ≡ s.yes m → cond w (ballot s n a b) (s.vote m) ≡ s.vote m)
+    by false other = (omega arith, λ stays. refl)
+    by true is =
+        let one : m ≡ a = same_is m a is in
+        let old : s.yes m ≡ s.yes a = ap s.yes one in (
+          omega (arith, old),
+          λ stays. (λ i. cond (eq-eqb (max (s.yes a) b) (s.yes a) (stays ∙ old) i) (s.vote a) (given_by s n a)) ∙ ap s.vote (sym one),
+        )
+step_vote (CrashNaming a) s m = (omega arith, λ same. refl)
+step_vote (BindLive a) s m = (omega arith, λ same. refl)
+step_vote (BindNew a b c) s m = (omega arith, λ same. refl)
+step_vote (Grant a) s m = (omega arith, λ same. refl)
+step_vote (Record a) s m = (omega arith, λ same. refl)
+step_vote (ConfirmTop a b) s m = (omega arith, λ same. refl)
+step_vote (PassEntry a b) s m = (omega arith, λ same. refl)
+step_vote (DropEntry a) s m = (omega arith, λ same. refl)
+step_vote (CrashServer a b) s m = (omega arith, λ same. refl)
+step_vote (ActivateCopy a b c) s m = (omega arith, λ same. refl)
+step_vote (Apply a b c) s m = (omega arith, λ same. refl)
+step_vote (Refuse a b) s m = (omega arith, λ same. refl)
+step_vote (Change a b) s m = (omega arith, λ same. refl)
+step_vote (PassRow a b c) s m = (omega arith, λ same. refl)
+step_vote (PassTop a b c) s m = (omega arith, λ same. refl)
+step_vote (DropRows a b) s m = (omega arith, λ same. refl)
+step_vote (Keep a b) s m = (omega arith, λ same. refl)
+step_vote (Name a b) s m = (omega arith, λ same. refl)
+step_vote (Load a b) s m = (omega arith, λ same. refl)
+step_vote (SendInvoke a b c) s m = (omega arith, λ same. refl)
+step_vote (Answered a b) s m = (omega arith, λ same. refl)
+step_vote (TurnedDown a) s m = (omega arith, λ same. refl)
+step_vote (Lost a) s m = (omega arith, λ same. refl)
+step_vote (GiveUp a) s m = (omega arith, λ same. refl)
+step_vote (CommitNested a b) s m = (omega arith, λ same. refl)
+step_vote (Abort a) s m = (omega arith, λ same. refl)
+step_vote (CommitTop a b) s m = (omega arith, λ same. refl)
+step_vote (SendVote a b) s m = (omega arith, λ same. refl)
+step_vote (SendConfirm a b) s m = (omega arith, λ same. refl)
+step_vote (Decide a) s m = (omega arith, λ same. refl)
+step_vote (Report a b) s m = (omega arith, λ same. refl)
+step_vote (EndUnit a) s m = (omega arith, λ same. refl)
+step_vote (Included a b c) s m = (omega arith, λ same. refl)
+
+-- ---- a run
+
+-- What a run leaves of a top whose commit was called: nothing that was known of it is taken back, no call of it is new, and what was aborted
+-- stays so.
+record Since (m : Act) (s t : State) : Type 0 where
+  pub stage : (s.action m).stage ≤ (t.action m).stage
+  pub first : s.naming.first ≤ t.naming.first
+  pub kept : (u : ℕ) → s.kept u ≤ t.kept u
+  pub vote : IsVoteLater m s t
+  pub calls : 1 ≤ (s.action m).stage → (c : Call) → In c t.calls → top c.act ≡ m → In c s.calls
+  pub alive : (a : Act) → Alive t a → Alive s a
+
+since_none : (m : Act) (s : State) → Since m s s
+since_none m s = record { stage = omega arith; first = omega arith; kept = λ u. omega arith; vote = (omega arith, λ same. refl); calls = λ one c i is. i; alive = λ a h. h }
+
+since_step : (m : Act) (e : Event) (s : State) → Later s (next e s) → Since m s (next e s)
+since_step m e s later = record {
+  stage = later.stage m;
+  first = first_rises later;
+  kept = later.kept;
+  vote = step_vote e s m;
+  calls = λ one c i is. elim (later.fresh_call c i) [ inl old ↦ old | inr new ↦ (let zero : (let t = next e s in (t.action m).stage) ≡ 0 = ap (λ (a : Act). (let t = next e s in (t.action a).stage)) (sym is) ∙ new.0 in let up = later.stage m in absurd (omega (arith, one, zero, up))) ];
+  alive = alive_back later;
+}
+
+since_both : (m : Act) (s t u : State) → Since m s t → Since m t u → Since m s u
+since_both m s t u a b = record {
+  stage = (let x = a.stage in let y = b.stage in omega (arith, x, y));
+  first = (let x = a.first in let y = b.first in omega (arith, x, y));
+  kept = λ k. (let x = a.kept k in let y = b.kept k in omega (arith, x, y));
+  vote = (
+    (let x = a.vote in let y = b.vote in let p = x.0 in let q = y.0 in omega (arith, p, q)),
+    λ stays. (let x = a.vote in let y = b.vote in let p = x.0 in let q = y.0 in let last : u.yes m ≡ t.yes m = omega (arith, p, q, stays) in let early : t.yes m ≡ s.yes m = omega (arith, p, q, stays) in y.1 last ∙ x.1 early),
+  );
+  calls = λ one c i is. (let x = a.stage in a.calls one c (b.calls (omega (arith, x, one)) c i is) is);
+  alive = λ k h. a.alive k (b.alive k h);
+}
+
+since : (m : Act) {s t : State} → Run s t → Holds s → Since m s t
+since m {s} stay h = since_none m s
+since m {s} {t} (step e guard more) h = let k = step_keeps e s guard h in since_both m s (next e s) t (since_step m e s k.0) (since m more k.1)
+
+-- ---- what was given
+
+pub given_stands : {s : State} → Holds s → Values s → Votes s → GivenStands s
+given_stands {s} h v o n m b i t c guard run one given kept first ci write tops alive = by (max (s.yes m) b == s.yes m) refl
+  where
+    k1 : Later s (next (VoteTop n m b i) s) × Holds (next (VoteTop n m b i) s)
+    k1 = step_keeps (VoteTop n m b i) s guard h
+
+    behind : Since m (next (VoteTop n m b i) s) t
+    behind = since m run k1.1
+
+    whole : Since m s t
+    whole = since_both m s (next (VoteTop n m b i) s) t (since_step m (VoteTop n m b i) s k1.0) behind
+
+    its_yes : (let u = next (VoteTop n m b i) s in u.yes m) ≡ max (s.yes m) b
+    its_yes = act_here s.yes m (max (s.yes m) b)
+
+    -- the vote is what it was right behind it
+    stays : t.vote m ≡ ballot s n m b
+    stays = (let z = behind.vote in let up = z.0 in let e = its_yes in z.1 (omega (arith, up, e, given))) ∙ act_here s.vote m (ballot s n m b)
+
+    again : max (s.yes m) b ≡ s.yes m → s.vote m ≡ given_by s n m
+    again same =
+        let mean = h.mail (Vote m b i) guard.0 in
+        let z = whole.vote in let up = z.0 in
+        let is : s.yes m ≡ b = omega (arith, same, up, given) in
+        let named = mean.2 in let most = whole.kept (root m) in let stage = whole.stage in let least = mean.4 in let rises = whole.first in
+        votes_agree h v o n m i c (subst (λ (k : ℕ). Guard (VoteTop n m k i) s) (sym is) guard) (omega (arith, stage, least, one)) (omega (arith, is, named, most, kept)) (omega (arith, rises, first, named)) (whole.calls least c ci tops) write tops (whole.alive c.act alive)
+
+    by : (w : Bool) → (max (s.yes m) b == s.yes m) ≡ w → t.vote m ≡ given_by s n m
+    by true is = stays ∙ (λ j. cond (is j) (s.vote m) (given_by s n m)) ∙ again (eqb-true (max (s.yes m) b) (s.yes m) is)
+    by false is = stays ∙ (λ j. cond (is j) (s.vote m) (given_by s n m))
+
+-- ---- what was given and confirmed
+
+-- A top that is confirmed and wasn't: as it was, naming was of the incarnation of the binding that its unit kept.
+record Confirming (m : Act) (s t : State) : Type 0 where
+  pub at : State
+  pub before : Run s at
+  pub holds : Holds at
+  pub after : Run at t
+  pub first : at.naming.first ≤ at.kept (root m)
+
+confirming : (m : Act) {s r t : State} (c : Call) → Run s r → Holds r → Run r t → r.confirmed m ≡ false → t.confirmed m ≡ true → is_top m ≡ true → 1 ≤ (r.action m).stage → In c t.calls → top c.act ≡ m → Alive t c.act → Confirming m s t
+confirming m c before hr stay off on is called ci tops alive = differ on off
+confirming m {s} {r} {t} c before hr (step e guard more) off on is called ci tops alive = by (λ still. (let p = step_keeps e r guard hr in let later = p.0 in let up = later.stage m in confirming m c (go_on before (step e guard stay)) p.1 more still on is (omega (arith, up, called)) ci tops alive)) (by_cases (let u = next e r in u.confirmed m))
+  where
+    k : Later r (next e r) × Holds (next e r)
+    k = step_keeps e r guard hr
+
+    behind : Since m (next e r) t
+    behind = since m more k.1
+
+    whole : Since m r t
+    whole = since_both m r (next e r) t (since_step m e r k.0) behind
+
+    by : ((let u = next e r in u.confirmed m) ≡ false → Confirming m s t) → ((let u = next e r in u.confirmed m) ≡ true) ⊎ ((let u = next e r in u.confirmed m) ≡ false) → Confirming m s t
+    by more_of (inl now) =
+        let later = k.0 in
+        elim (later.confirms c (whole.calls called c ci tops) (behind.alive c.act alive) m is (inr (sym (top_root c.act) ∙ ap root tops, inl tops)) now) [
+          | inl old ↦ differ old off
+          | inr low ↦ record { at = r; before = before; holds = hr; after = step e guard more; first = low }
+        ]
+    by more_of (inr still) = more_of still
+
+pub confirmed_stands : {s : State} → Holds s → Values s → Votes s → ConfirmedStands s
+confirmed_stands {s} h v o n m b i r t c guard run off more one given kept on ci write tops alive =
+    let late = after.vote in let same = late.1 (let y = yes_there in omega (arith, y, given)) in
+    same ∙ given_stands h v o n m b i q.at c guard q.before stage_there yes_there kept_there (let f = q.first in let z = kept_there in omega (arith, f, z)) (after.calls (let z = stage_there in omega (arith, z)) c ci tops) write tops (after.alive c.act alive)
+  where
+    k1 : Later s (next (VoteTop n m b i) s) × Holds (next (VoteTop n m b i) s)
+    k1 = step_keeps (VoteTop n m b i) s guard h
+
+    mean : Mean s (Vote m b i)
+    mean = h.mail (Vote m b i) guard.0
+
+    voted : Since m s (next (VoteTop n m b i) s)
+    voted = since_step m (VoteTop n m b i) s k1.0
+
+    called : 1 ≤ (r.action m).stage
+    called = let a = voted.stage in let b' = (let z = since m run k1.1 in z.stage) in let least = mean.4 in omega (arith, a, b', least)
+
+    q : Confirming m (next (VoteTop n m b i) s) t
+    q = confirming m c run (run_keeps run k1.1) more off on mean.0 called ci tops alive
+
+    before : Since m (next (VoteTop n m b i) s) q.at
+    before = since m q.before k1.1
+
+    after : Since m q.at t
+    after = since m q.after q.holds
+
+    stage_there : (let z = q.at in (z.action m).stage) ≡ 1
+    stage_there = let x = voted.stage in let y = before.stage in let z = after.stage in let least = mean.4 in omega (arith, x, y, z, least, one)
+
+    its_yes : (let u = next (VoteTop n m b i) s in u.yes m) ≡ max (s.yes m) b
+    its_yes = act_here s.yes m (max (s.yes m) b)
+
+    yes_there : (let z = q.at in z.yes m) ≡ b
+    yes_there = let e = its_yes in let x = before.vote in let y = after.vote in let lo = x.0 in let hi = y.0 in omega (arith, e, lo, hi, given)
+
+    kept_there : (let z = q.at in z.kept (root m)) ≡ b
+    kept_there = let least = mean.2 in let x = voted.kept (root m) in let y = before.kept (root m) in let z = after.kept (root m) in omega (arith, least, x, y, z, kept)

@@ -1,0 +1,5 @@
+pub mod view
+pub mod facts
+pub mod journal
+pub mod running
+pub mod records

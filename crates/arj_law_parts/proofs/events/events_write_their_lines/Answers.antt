@@ -1,0 +1,15 @@
+use Rattle.arj_law_parts.proofs.steps.Spoken.{event_writes}
+use Rattle.arj_law_parts.proofs.steps.Whole.{event_whole, format_whole, runs_whole}
+use Rattle.arj_law_parts.proofs.events.events_write_their_lines.Goals as goal
+
+pub returns-clause-lines : goal.returns-clause-lines
+returns-clause-lines c = event_writes
+
+pub returns-clause-whole : goal.returns-clause-whole
+returns-clause-whole c = runs_whole
+
+pub returns-clause-first : goal.returns-clause-first
+returns-clause-first c = format_whole
+
+pub returns-clause-kept : goal.returns-clause-kept
+returns-clause-kept c = event_whole

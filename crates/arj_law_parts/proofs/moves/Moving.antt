@@ -1,0 +1,43 @@
+-- Whatever each handler keeps holds after moves; and the run of a script is one of moves.
+use Rattle.std.proofs.Common.{◌≡◌, List, [], ◌∷◌, ◌++◌, refl}
+use Rattle.arj_protocol.specs.Words.{Header}
+use Rattle.arj_protocol.specs.World.{Asked, World, format, run_all, run_event}
+use Rattle.arj_law_parts.specs.moves.Keeps.{Holds, KeepsAsked}
+use Rattle.arj_law_parts.specs.moves.Seen.{Seen}
+use Rattle.arj_law_parts.specs.moves.Moves.{Move, AfterMoves, all_moved, as_moves, moved, moves_of, world_by}
+use Rattle.arj_law_parts.proofs.moves.Happens.{arms_hold, event_asked, first_asked}
+
+-- ---- what is kept
+
+module _ (hd : Header) (P : Seen → Type 0) (keeps : KeepsAsked hd P) where
+  pub move_asked : (m : Move) (w : World) → Holds hd P w → Holds hd P (moved m w)
+  move_asked m w h = arms_hold hd P [] (run_event m.asked (record w { arms = m.falls })) (event_asked hd P keeps m.asked (record w { arms = m.falls }) (arms_hold hd P m.falls w h))
+
+  pub moves_go_on : (ms : List Move) (w : World) → Holds hd P w → Holds hd P (all_moved ms w)
+  moves_go_on [] w h = h
+  moves_go_on (m ∷ ms) w h = moves_go_on ms (moved m w) (move_asked m w h)
+
+-- from where the nodes are formatted
+pub moves_asked : (hd : Header) (P : Seen → Type 0) → KeepsAsked hd P → (ms : List Move) → Holds hd P (world_by hd ms)
+moves_asked hd P keeps ms = moves_go_on hd P keeps ms (format hd) (first_asked hd P keeps)
+
+-- ---- more moves behind
+
+pub more_moves : (ms ns : List Move) (w : World) → all_moved (ms ++ ns) w ≡ all_moved ns (all_moved ms w)
+more_moves [] ns w = refl
+more_moves (m ∷ ms) ns w = more_moves ms ns (moved m w)
+
+-- what holds after each move holds after the last
+pub after_last : (P : World → Type 0) (ms : List Move) (w : World) → AfterMoves P w ms → P (all_moved ms w)
+after_last P [] w all = all
+after_last P (m ∷ ms) w all = after_last P ms (moved m w) all.1
+
+-- ---- scripts
+
+pub scripts_move : (es : List Asked) (w : World) → all_moved (as_moves es w) (record w { arms = [] }) ≡ record (run_all es w) { arms = [] }
+scripts_move [] w = refl
+scripts_move (e ∷ es) w = scripts_move es (run_event e w)
+
+-- a script's world is that of its moves, but for the stops that are armed at its end
+pub scripts_are_moves : (hd : Header) (es : List Asked) → world_by hd (moves_of hd es) ≡ record (run_all es (format hd)) { arms = [] }
+scripts_are_moves hd es = scripts_move es (format hd)

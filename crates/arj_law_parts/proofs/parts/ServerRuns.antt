@@ -1,0 +1,264 @@
+-- A server's bindings, ends and requests under each call.
+use Rattle.std.proofs.Common.{◌≡◌, ◌≢◌, ◌≤◌, ◌==◌, ℕ, List, [], ◌∷◌, Bool, true, false, cond, ◌||◌, nat_lt, Option, Some, None, refl, sym, ◌∙◌, ap, subst, inl, inr, ⊎_elim, arith}
+use Rattle.std.specs.Prelude.{is_some}
+use Rattle.std.specs.List.{list_any}
+use Rattle.std.proofs.lemmas.Bool.{eqb-true}
+use Rattle.arj_base.proofs.Uids.{uid_cases, uid_is}
+use Rattle.arj_protocol.specs.Words.{Uid, Binding, Path, Head, End, Op, Answer, ObjectState, Row, What, InvokedReply, VotedReply, uids_of, is_on, uid_eq, first_conflict, object, op_mode}
+use Rattle.arj_protocol.specs.Words.ending
+use Rattle.arj_protocol.specs.Words.what
+use Rattle.arj_protocol.specs.Words.invoked
+use Rattle.arj_protocol.specs.Ask.{actor}
+use Rattle.arj_protocol.specs.Copy.{Copy, taken_copy, end_copy, overs_committed, over_of, is_top_over, Over, settled, folded, ask_copy, invoke_copy}
+use Rattle.arj_protocol.specs.Effect.{Served, Did, either, reply, void, did_nothing}
+use Rattle.arj_protocol.specs.Order.{at_number, put_number, each, at_uid, put_uid, binding_number, binding_less, binding_eq, unbound}
+use Rattle.arj_protocol.specs.Server.{Server, Kept, is_told, has_ended, binding_of, active_binding, took_copy, activate, other_inc, changed_by, taken_end, end_new, end_one, apply_ends, told, keeps, on_copy, kept_after, invoke_new, invoke_kept, invoke_now, is_below, invoke, first_unbound, vote_now, vote}
+use Rattle.arj_protocol.proofs.Maps.{put_same as put_number_same, put_other as put_number_other}
+use Rattle.arj_protocol.proofs.RowSteps.{one_or_two}
+use Rattle.arj_law_parts.specs.parts.Servers.{HasRun, Follows}
+use Rattle.arj_law_parts.proofs.parts.Keys.{put_same, put_other, without_other}
+use Rattle.arj_law_parts.proofs.parts.Pairs.{at_each, each_at}
+
+never : {P : Type 0} (b : Bool) → b ≡ true → b ≡ false → P
+never b holds fails = let no_way : true ≡ false = sym holds ∙ fails in cc
+
+not_less : (b : Binding) → binding_less b b ≡ false
+not_less b = number (binding_number b)
+  where
+    number : (n : ℕ) → nat_lt n n ≡ false
+    number n = grind arith
+
+itself : (s : Server) → Follows s s
+itself s = record { same = refl; bindings = λ x. not_less (active_binding x s); ends = λ u e is. is; run = λ u req h. h }
+
+both : (s t v : Server) → Follows s t → Follows t v → Follows s v
+both s t v a b = record {
+  same = b.same ∙ a.same;
+  bindings = λ x. number (binding_number (active_binding x s)) (binding_number (active_binding x t)) (binding_number (active_binding x v)) (a.bindings x) (b.bindings x);
+  ends = λ u e is. b.ends u e (a.ends u e is);
+  run = λ u req h. b.run u req (a.run u req h);
+}
+  where
+    number : (i j k : ℕ) → nat_lt j i ≡ false → nat_lt k j ≡ false → nat_lt k i ≡ false
+    number i j k p q = grind (arith, p, q)
+
+-- a server whose objects, ends and answers are the same
+same_server : (s t : Server) → t.inc ≡ s.inc → t.objects ≡ s.objects → t.ends ≡ s.ends → t.kept ≡ s.kept → Follows s t
+same_server s t inc objects ends kept = record {
+  same = inc;
+  bindings = λ x. (λ i. binding_less (binding_of (at_number x (objects i))) (active_binding x s)) ∙ not_less (active_binding x s);
+  ends = λ u e is. ap (at_uid u) ends ∙ is;
+  run = λ u req h. ⊎_elim (λ over. inl (ap (λ m. is_some (at_uid u m)) ends ∙ over)) (λ k. inr (k.0, ap (at_uid u) kept ∙ k.1, k.2)) h;
+}
+
+-- an object put back: its binding doesn't fall
+put_follows : (s : Server) (x : ℕ) (c : Copy) → binding_less c.binding (active_binding x s) ≡ false → Follows s (record s { objects = put_number x c s.objects })
+put_follows s x c up = record {
+  same = refl;
+  bindings = λ y. ⊎_elim (λ same. subst (λ j. binding_less (binding_of (at_number j (put_number x c s.objects))) (active_binding j s) ≡ false) same ((λ i. binding_less (binding_of (put_number_same x c s.objects i)) (active_binding x s)) ∙ up))
+      (λ apart. (λ i. binding_less (binding_of (put_number_other x y c s.objects apart.0 i)) (active_binding y s)) ∙ not_less (active_binding y s)) (one_or_two x y);
+  ends = λ u e is. is;
+  run = λ u req h. h;
+}
+
+-- ---- activate
+
+pub activate_follows : (n : ℕ) (p : Path) (b : Binding) (st : ObjectState) (s : Server) → Follows s (activate n p b st s).part
+activate_follows n p b st s = by (has_ended p s) (binding_less b (active_binding st.uid.num s)) (binding_eq b (active_binding st.uid.num s)) refl
+  where
+    by : (over lower equal : Bool) → binding_less b (active_binding st.uid.num s) ≡ lower → Follows s (cond {A = Served Server ℕ} (over || lower) (void s) (cond equal (reply s s.inc) (took_copy n st.uid.num b st s))).part
+    by true lower equal is = itself s
+    by false true equal is = itself s
+    by false false true is = itself s
+    by false false false is = put_follows s st.uid.num (taken_copy b st) is
+
+-- ---- ends
+
+pub end_binding : (u : Uid) (e : End) (c : Copy) → (end_copy u e c).binding ≡ c.binding
+end_binding u ending.Abort c = refl
+end_binding u ending.Commit c = by (over_of u c.stack)
+  where
+    by : (o : Option Over) → (overs_committed u o c).binding ≡ c.binding
+    by None = refl
+    by (Some o) = top (is_top_over o)
+      where
+        top : (b : Bool) → (cond b (settled u o c) (record c { stack = folded u c.stack })).binding ≡ c.binding
+        top true = refl
+        top false = refl
+
+new_follows : (n : ℕ) (u : Uid) (e : End) (s : Server) → is_told u s ≡ false → Follows s (end_new n u e s).part
+new_follows n u e s fresh = record {
+  same = refl;
+  bindings = λ x. (λ i. binding_less (bindings x i) (active_binding x s)) ∙ not_less (active_binding x s);
+  ends = λ w f is. put_other w u e s.ends (other w f is) ∙ is;
+  run = λ w req h. ⊎_elim (λ over. inl (is_told_after w over)) (λ k. ⊎_elim (λ same. inl (ap (λ o. is_some (at_uid o (put_uid u e s.ends))) same ∙ ap is_some (put_same u e s.ends))) (λ apart. inr (k.0, without_other w u s.kept apart ∙ k.1, k.2)) (uid_cases w u)) h;
+}
+  where
+    bindings : (x : ℕ) → binding_of (at_number x (each (λ y. end_copy u e) s.objects)) ≡ active_binding x s
+    bindings x = by (at_number x s.objects) refl (at_number x (each (λ y. end_copy u e) s.objects)) refl
+      where
+        by : (o : Option Copy) → at_number x s.objects ≡ o → (q : Option Copy) → at_number x (each (λ y. end_copy u e) s.objects) ≡ q → binding_of (at_number x (each (λ y. end_copy u e) s.objects)) ≡ binding_of (at_number x s.objects)
+        by None is None was = ap binding_of was ∙ sym (ap binding_of is)
+        by None is (Some c) was = let f = at_each (λ y. end_copy u e) x s.objects c was in let no_way : ◌≡◌ {A = Option Copy} None (Some f.0) = sym is ∙ f.1 in cc
+        by (Some c) is q was = ap binding_of (each_at (λ y. end_copy u e) x s.objects c is) ∙ end_binding u e c ∙ sym (ap binding_of is)
+
+    other : (w : Uid) (f : End) → at_uid w s.ends ≡ Some f → w ≢ u
+    other w f is same = never (is_told u s) (ap (λ o. is_some (at_uid o s.ends)) (sym same) ∙ ap is_some is) fresh
+
+    is_told_after : (w : Uid) → is_told w s ≡ true → is_some (at_uid w (put_uid u e s.ends)) ≡ true
+    is_told_after w over = ap is_some (put_other w u e s.ends (λ same. never (is_told u s) (ap (λ o. is_some (at_uid o s.ends)) (sym same) ∙ over) fresh)) ∙ over
+
+pub one_follows : (n : ℕ) (u : Uid) (e : End) (s : Server) → Follows s (end_one n u e s).part
+one_follows n u e s = by (is_told u s) refl
+  where
+    by : (b : Bool) → is_told u s ≡ b → Follows s (cond {A = Did Server} b (did_nothing s) (end_new n u (taken_end u e s) s)).part
+    by true is = itself s
+    by false is = new_follows n u (taken_end u e s) s is
+
+pub told_follows : (n : ℕ) (es : List (Uid × End)) (s : Server) → Follows s (told n es s).part
+told_follows n [] s = itself s
+told_follows n (e ∷ es) s = let d = end_one n e.0 e.1 s in let t = apply_ends n es d.part in both s d.part t.part (one_follows n e.0 e.1 s) (told_follows n es d.part)
+
+-- ---- invoke
+
+pub ask_binding : (n : ℕ) (p : Path) (x : ℕ) (op : Op) (c : Copy) → (invoke_copy n p x op c).part.binding ≡ c.binding
+ask_binding n p x op c = by (first_conflict (uids_of p) (object x) (op_mode op) c.rows)
+  where
+    by : (r : Option Row) → (ask_copy n p x op c r).part.binding ≡ c.binding
+    by None = refl
+    by (Some r) = refl
+
+copy_follows : (n : ℕ) (h : Head) (x : ℕ) (op : Op) (s : Server) (o : Option Copy) → at_number x s.objects ≡ o → Follows s (on_copy x (invoke_copy n h.path x op) s o).part
+copy_follows n h x op s None found = itself s
+copy_follows n h x op s (Some c) found = put_follows s x (invoke_copy n h.path x op c).part ((λ i. binding_less (ask_binding n h.path x op c i) (binding_of (found i))) ∙ not_less c.binding)
+
+-- the answer is kept: the request isn't below the last one
+keep_follows : (act : Uid) (req : ℕ) (a : Option InvokedReply) (first s : Server) → is_below req (at_uid act first.kept) ≡ false → Follows first s → Follows first (keeps act req a s)
+keep_follows act req None first s above f = f
+keep_follows act req (Some a) first s above f = record {
+  same = f.same;
+  bindings = f.bindings;
+  ends = f.ends;
+  run = λ u r h. ⊎_elim (λ same. own u r same h) (λ other. ⊎_elim (λ over. inl over) (λ k. inr (k.0, put_other u act (record { req = req; answer = a }) s.kept other ∙ k.1, k.2)) (f.run u r h)) (uid_cases u act);
+}
+  where
+    number : (i j : ℕ) → nat_lt i j ≡ false → j ≤ i
+    number i j p = grind (arith, p)
+
+    own : (u : Uid) (r : ℕ) → u ≡ act → HasRun u r first → HasRun u r (keeps act req (Some a) s)
+    own u r same (inl over) = inl (stays (at_uid u first.ends) refl over)
+      where
+        stays : (o : Option End) → at_uid u first.ends ≡ o → is_some (at_uid u first.ends) ≡ true → is_some (at_uid u s.ends) ≡ true
+        stays None is e = never (is_some (at_uid u first.ends)) e (ap is_some is)
+        stays (Some e) is was = ap is_some (f.ends u e is)
+    own u r same (inr k) = inr (record { req = req; answer = a }, ap (λ w. at_uid w (put_uid act (record { req = req; answer = a }) s.kept)) same ∙ put_same act (record { req = req; answer = a }) s.kept, omega (arith, k.2, number req k.0.req ((λ i. is_below req (sym (ap (λ w. at_uid w first.kept) (sym same) ∙ k.1) i)) ∙ above)))
+
+new_invoked : (n : ℕ) (h : Head) (x : ℕ) (ends : List (Uid × End)) (op : Op) (s : Server) → is_below h.req (at_uid (actor h.path) s.kept) ≡ false → Follows s (invoke_new n h x ends op s).part
+new_invoked n h x ends op s above =
+    let d = apply_ends n ends s in
+    let t = d.part in
+    let r = on_copy x (invoke_copy n h.path x op) t (at_number x t.objects) in
+    keep_follows (actor h.path) h.req r.reply s r.part above (both s t r.part (told_follows n ends s) (copy_follows n h x op t (at_number x t.objects) refl))
+
+kept_invoked : (n : ℕ) (h : Head) (x : ℕ) (ends : List (Uid × End)) (op : Op) (s : Server) → is_below h.req (at_uid (actor h.path) s.kept) ≡ false → (o : Option Kept) → Follows s (invoke_kept n h x ends op s o).part
+kept_invoked n h x ends op s above None = new_invoked n h x ends op s above
+kept_invoked n h x ends op s above (Some k) = by (k.req == h.req)
+  where
+    by : (b : Bool) → Follows s (cond {A = Served Server InvokedReply} b (reply s k.answer) (invoke_new n h x ends op s)).part
+    by true = itself s
+    by false = new_invoked n h x ends op s above
+
+now_invoked : (n : ℕ) (h : Head) (x : ℕ) (ends : List (Uid × End)) (op : Op) (s : Server) → is_below h.req (at_uid (actor h.path) s.kept) ≡ false → (w : Option What) → Follows s (invoke_now n h x ends op s w).part
+now_invoked n h x ends op s above (Some w) = itself s
+now_invoked n h x ends op s above None = kept_invoked n h x ends op s above (at_uid (actor h.path) s.kept)
+
+pub invoke_follows : (n : ℕ) (h : Head) (x : ℕ) (b : Binding) (i : ℕ) (ends : List (Uid × End)) (op : Op) (s : Server) → Follows s (invoke n h x b i ends op s).part
+invoke_follows n h x b i ends op s = by (has_ended h.path s) (is_below h.req (at_uid (actor h.path) s.kept)) refl
+  where
+    by : (over below : Bool) → is_below h.req (at_uid (actor h.path) s.kept) ≡ below → Follows s (cond {A = Served Server InvokedReply} (over || below) (void s) (invoke_now n h x ends op s (changed_by i x b s))).part
+    by true below is = itself s
+    by false true is = itself s
+    by false false is = now_invoked n h x ends op s is (changed_by i x b s)
+
+-- ---- vote
+
+pub vote_follows : (n : ℕ) (p : Path) (i : ℕ) (ties : List (ℕ × Binding)) (ends : List (Uid × End)) (s : Server) → Follows s (vote n p i ties ends s).part
+vote_follows n p i ties ends s = by (has_ended p s)
+  where
+    yes : (w : Option What) → Follows s (vote_now n (actor p) ends s w).part
+    yes (Some w) = itself s
+    yes None = let d = apply_ends n ends s in let f = told_follows n ends s in record { same = f.same; bindings = f.bindings; ends = f.ends; run = f.run }
+
+    by : (b : Bool) → Follows s (cond {A = Served Server VotedReply} b (void s) (vote_now n (actor p) ends s (either (other_inc i s.inc) (first_unbound ties s)))).part
+    by true = itself s
+    by false = yes (either (other_inc i s.inc) (first_unbound ties s))
+
+-- ---- once
+
+-- a request that was run, or a lower one, changes nothing any more
+pub runs_once : (n : ℕ) (h : Head) (x : ℕ) (b : Binding) (i : ℕ) (ends : List (Uid × End)) (op : Op) (s : Server) (req : ℕ) → is_on (uids_of h.path) (actor h.path) ≡ true → HasRun (actor h.path) req s → h.req ≤ req → (invoke n h x b i ends op s).part ≡ s
+runs_once n h x b i ends op s req on run within = by (has_ended h.path s) (is_below h.req (at_uid (actor h.path) s.kept)) refl refl
+  where
+    over : (us : List Uid) → is_on us (actor h.path) ≡ true → is_told (actor h.path) s ≡ true → list_any (λ u. is_told u s) us ≡ true
+    over [] e t = cc
+    over (u ∷ us) e t = one (uid_eq u (actor h.path)) refl e (λ rest. over us rest t)
+      where
+        one : (c : Bool) → uid_eq u (actor h.path) ≡ c → (c || is_on us (actor h.path)) ≡ true → (is_on us (actor h.path) ≡ true → list_any (λ w. is_told w s) us ≡ true) → (is_told u s || list_any (λ w. is_told w s) us) ≡ true
+        one true same f ih = ap (λ c. c || list_any (λ w. is_told w s) us) (ap (λ w. is_told w s) (uid_is u (actor h.path) same) ∙ t)
+        one false same f ih = ap (λ c. is_told u s || c) (ih f) ∙ last (is_told u s)
+          where
+            last : (c : Bool) → (c || true) ≡ true
+            last true = refl
+            last false = refl
+
+    again : (k : Kept) → at_uid (actor h.path) s.kept ≡ Some k → h.req ≤ k.req → is_below h.req (at_uid (actor h.path) s.kept) ≡ false → (w : Option What) → (invoke_now n h x ends op s w).part ≡ s
+    again k found low above (Some w) = refl
+    again k found low above None = ap (λ o. (invoke_kept n h x ends op s o).part) found ∙ (λ j. (cond {A = Served Server InvokedReply} (same j) (reply s k.answer) (invoke_new n h x ends op s)).part)
+      where
+        number : (a c : ℕ) → a ≤ c → nat_lt a c ≡ false → (c == a) ≡ true
+        number a c p q = grind (arith, p, q)
+
+        same : (k.req == h.req) ≡ true
+        same = number h.req k.req low (ap (is_below h.req) (sym found) ∙ above)
+
+    by : (ended below : Bool) → has_ended h.path s ≡ ended → is_below h.req (at_uid (actor h.path) s.kept) ≡ below → (cond {A = Served Server InvokedReply} (ended || below) (void s) (invoke_now n h x ends op s (changed_by i x b s))).part ≡ s
+    by true below e f = refl
+    by false true e f = refl
+    by false false e f = ⊎_elim (λ t. absurd (never (has_ended h.path s) (over (uids_of h.path) on t) e)) (λ k. again k.0 k.1 (omega (arith, within, k.2)) f (changed_by i x b s)) run
+
+-- an answered request was run
+pub answered_ran : (n : ℕ) (h : Head) (x : ℕ) (b : Binding) (i : ℕ) (ends : List (Uid × End)) (op : Op) (s : Server) (a : Answer) → (invoke n h x b i ends op s).reply ≡ Some (invoked.Answered a) → HasRun (actor h.path) h.req (invoke n h x b i ends op s).part
+answered_ran n h x b i ends op s a = by (has_ended h.path s || is_below h.req (at_uid (actor h.path) s.kept)) (changed_by i x b s) (at_uid (actor h.path) s.kept) refl
+  where
+    HasIt : Served Server InvokedReply → Type 0
+    HasIt r = r.reply ≡ Some (invoked.Answered a) → HasRun (actor h.path) h.req r.part
+
+    new : HasIt (invoke_new n h x ends op s)
+    new is =
+        let d = apply_ends n ends s in
+        let t = d.part in
+        copied (at_number x t.objects) is
+      where
+        copied : (o : Option Copy) → HasIt (kept_after h (on_copy x (invoke_copy n h.path x op) (apply_ends n ends s).part o))
+        copied None e = let no_way : ◌≡◌ {A = Option InvokedReply} (Some (invoked.Changed (what.Bind unbound unbound))) (Some (invoked.Answered a)) = e in cc
+        copied (Some c) e = one (invoke_copy n h.path x op c).reply e
+          where
+            t : Server
+            t = (apply_ends n ends s).part
+
+            one : (q : Option InvokedReply) → q ≡ Some (invoked.Answered a) → HasRun (actor h.path) h.req (keeps (actor h.path) h.req q (record t { objects = put_number x (invoke_copy n h.path x op c).part t.objects }))
+            one None f = let no_way : ◌≡◌ {A = Option InvokedReply} None (Some (invoked.Answered a)) = f in cc
+            one (Some q) f = inr (record { req = h.req; answer = q }, put_same (actor h.path) (record { req = h.req; answer = q }) t.kept, omega arith)
+
+    kept : (o : Option Kept) → at_uid (actor h.path) s.kept ≡ o → HasIt (invoke_kept n h x ends op s o)
+    kept None found = new
+    kept (Some k) found = one (k.req == h.req) refl
+      where
+        one : (c : Bool) → (k.req == h.req) ≡ c → HasIt (cond c (reply s k.answer) (invoke_new n h x ends op s))
+        one true same e = inr (k, found, omega (arith, eqb-true k.req h.req same))
+        one false same e = new e
+
+    by : (v : Bool) (w : Option What) (o : Option Kept) → at_uid (actor h.path) s.kept ≡ o → HasIt (cond v (void s) (invoke_now n h x ends op s w))
+    by true w o found e = let no_way : ◌≡◌ {A = Option InvokedReply} None (Some (invoked.Answered a)) = e in cc
+    by false (Some w) o found e = let no_way : ◌≡◌ {A = Option InvokedReply} (Some (invoked.Changed w)) (Some (invoked.Answered a)) = e in cc
+    by false None o found e = kept (at_uid (actor h.path) s.kept) refl e

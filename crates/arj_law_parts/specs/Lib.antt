@@ -1,0 +1,4 @@
+pub mod parts
+pub mod told
+pub mod moves
+pub mod steps

@@ -1,0 +1,3 @@
+pub mod waiting
+pub mod settling
+pub mod statement

@@ -1,0 +1,19 @@
+-- Whatever each handler keeps holds of a world that is reached: so it is of what moves come to.
+use Rattle.std.proofs.Common.{List}
+use Rattle.arj_protocol.specs.Words.{Header}
+use Rattle.arj_protocol.specs.World.{World}
+use Rattle.arj_law_parts.specs.moves.Keeps.{Holds, Keeps}
+use Rattle.arj_law_parts.specs.moves.Moves.{Move, world_by}
+use Rattle.arj_law_parts.specs.moves.Seen.{Seen}
+use Rattle.arj_law_parts.proofs.moves.Happens.{keeps_asked}
+use Rattle.arj_law_parts.proofs.moves.Moving.{moves_asked}
+use Rattle.arj_law_runs.specs.calls.Reached.{IsReached, Keeping}
+
+pub moves_keep : (hd : Header) (ms : List Move) → Keeping hd (world_by hd ms)
+moves_keep hd ms P keeps = moves_asked hd P keeps ms
+
+pub kept_holds : (hd : Header) (w : World) → Keeping hd w → (P : Seen → Type 0) → Keeps hd P → Holds hd P w
+kept_holds hd w keeping P keeps = keeping P (keeps_asked hd P keeps)
+
+pub reached_holds : (hd : Header) (w : World) → IsReached hd w → (P : Seen → Type 0) → Keeps hd P → Holds hd P w
+reached_holds hd w reached P keeps = kept_holds hd w reached.keeping P keeps

@@ -1,0 +1,9 @@
+use Rattle.std.specs.Prelude.{◌≡◌, true}
+use Rattle.arj_law_runs.proofs.addresses.Runs.{runs_so, within}
+use Rattle.arj_law_runs.proofs.frames.frames_go_within.Goals as goal
+
+pub returns-clause-named : goal.returns-clause-named
+returns-clause-named c = λ hd test one nodes objects ms. runs_so (λ n. test n ≡ true) one hd nodes objects ms
+
+pub returns-clause-runs : goal.returns-clause-runs
+returns-clause-runs c = λ hd form ms. within hd form ms

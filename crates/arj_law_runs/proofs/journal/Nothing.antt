@@ -1,0 +1,252 @@
+-- By the journal nothing survives of an idle top; and the laws of what begins and ends, in the words of `arj_model`.
+use Rattle.std.proofs.Common.{◌≡◌, ◌≢◌, ◌⊎◌, ◌++◌, length, ◌==◌, ◌&&◌, ◌||◌, ℕ, List, [], ◌∷◌, filter, Bool, true, false, cond, Option, Some, None, refl, sym, ◌∙◌, ap, subst, inl, inr, ⊎_elim, Contains, arith, eqb-true}
+use Rattle.std.specs.Option.{option_map}
+use Rattle.std.specs.List.{cons_option, filter_map, list_all, list_any}
+use Rattle.std.proofs.lemmas.Bool.{or_cases}
+use Rattle.arj_base.proofs.Uids.{uid_is, uid_same}
+use Rattle.arj_base.specs.Rows.{is_on}
+use Rattle.arj_base.specs.Uid.{uid_eq}
+use Rattle.arj_base.specs.declared.uid.Uid.{Uid}
+use Rattle.arj_journal.specs.declared.body.Body.TheVariants as body
+use Rattle.arj_journal.specs.declared.body.Line.{Line}
+use Rattle.arj_journal.specs.declared.body.Kind.{Kind}
+use Rattle.arj_text.specs.declared.label.Label.{Label}
+use Rattle.arj_lock.proofs.Members.{In, in_filter, in_filter_map, in_from, in_to}
+use Rattle.arj_model.specs.Actions.{Act, Placed, act_in, acts, acts_after, behind_first, chain_in, committed, has_end, is_serial, path, recovered, top_in, uids}
+use Rattle.arj_model.specs.Calls.{Call, Said, call_of, ids, made_by, made_in, said, said_of, surviving}
+use Rattle.arj_model.specs.Last.{Inclusion, included, included_of, joins_by, joins_of}
+use Rattle.arj_protocol.specs.Tree.{behind}
+use Rattle.arj_text.specs.Label.{name}
+use Rattle.arj_law_runs.specs.journal.Book.{Access, Book, book, is_over, new_book, turned}
+use Rattle.arj_law_runs.specs.journal.Idle.{BeginningsAreTimely, BelowCommitsIsOver, HasNothing, IsIdle, NothingGoesOnBelow}
+use Rattle.arj_law_runs.specs.journal.Laws.{IsDone, called}
+use Rattle.arj_law_runs.specs.journal.Right.{AreRight, Right, has_act}
+use Rattle.arj_law_runs.proofs.journal.Books.{Sane, never, or_which}
+use Rattle.arj_law_runs.proofs.journal.Closed.{Stands, closes_turn, one_act, stands_lines, stands_new}
+use Rattle.arj_law_runs.proofs.journal.Idles.{included_step, of_access, said_step}
+use Rattle.arj_law_runs.proofs.journal.Likes.{some_is}
+use Rattle.arj_law_runs.proofs.journal.Models.{apart_acts, calls_timely, ended_once, is_book, its_acts, its_call, its_end, its_sound, right_before, timely}
+use Rattle.arj_law_runs.proofs.journal.Owners.{acts_more}
+use Rattle.arj_law_runs.proofs.journal.Ties.{on_path, on_uids}
+
+-- ---- lists
+
+none_left : {A : Type 0} (p : A → Bool) (xs : List A) → ((x : A) → In x xs → p x ≡ false) → filter p xs ≡ []
+none_left p [] none = refl
+none_left {A} p (x ∷ xs) none = by (p x) (none x (inl refl)) (none_left p xs (λ y i. none y (inr i)))
+  where
+    by : (b : Bool) → b ≡ false → filter p xs ≡ [] → cond b (x ∷ filter p xs) (filter p xs) ≡ []
+    by true e ih = absurd (cc e)
+    by false e ih = ih
+
+nothing_made : {A B : Type 0} (f : A → Option B) (xs : List A) → ((x : A) → In x xs → f x ≡ None) → filter_map f xs ≡ []
+nothing_made f [] none = refl
+nothing_made {A} {B} f (x ∷ xs) none = by (f x) (none x (inl refl)) (nothing_made f xs (λ y i. none y (inr i)))
+  where
+    by : (o : Option B) → o ≡ None → filter_map f xs ≡ [] → cons_option o (filter_map f xs) ≡ []
+    by None e ih = ih
+    by (Some z) e ih = absurd (cc e)
+
+not_all : {A : Type 0} (p : A → Bool) (x : A) (xs : List A) → In x xs → p x ≡ false → list_all p xs ≡ false
+not_all p x [] i e = absurd i
+not_all {A} p x (y ∷ ys) (inl same) e = ap (λ b. b && list_all p ys) (ap p same ∙ e)
+not_all {A} p x (y ∷ ys) (inr i) e = by (p y) (not_all p x ys i e)
+  where
+    by : (b : Bool) → list_all p ys ≡ false → (b && list_all p ys) ≡ false
+    by true ih = ih
+    by false ih = refl
+
+all_numbers : (f : ℕ → Bool) (xs : List Act) → list_all f (ids xs) ≡ list_all (λ (a : Act). f a.id) xs
+all_numbers f [] = refl
+all_numbers f (x ∷ xs) = ap (λ b. f x.id && b) (all_numbers f xs)
+
+-- ---- paths
+
+-- who is behind the top of a path is the top again, or in its chain
+behind_top : (p : List Act) (t : Act) (w : Uid) → top_in p ≡ Some t → is_on (behind t.uid (uids p)) w ≡ true → (w ≡ t.uid) ⊎ (is_on (uids (chain_in p)) w ≡ true)
+behind_top [] t w top on = absurd (cc top)
+behind_top (a ∷ []) t w top on = absurd (one (uid_eq a.uid t.uid) on)
+  where
+    one : (b : Bool) → is_on (cond b [] []) w ≡ true → ⊥
+    one true e = cc e
+    one false e = cc e
+behind_top (a ∷ b ∷ rest) t w top on = by (is_serial a.kind) top
+  where
+    more : (c d : Act) (us : List Uid) → is_on (cond (uid_eq c.uid d.uid) us (behind d.uid us)) w ≡ true → c ≡ d → is_on us w ≡ true
+    more c d us e same = sym (ap (λ x. is_on (cond x us (behind d.uid us)) w) (ap (λ (y : Act). uid_eq y.uid d.uid) same ∙ uid_same d.uid)) ∙ e
+
+    second : (x : Bool) → b ≡ t → is_on (cond x (b.uid ∷ uids rest) (behind t.uid (b.uid ∷ uids rest))) w ≡ true → (w ≡ t.uid) ⊎ (is_on (uids rest) w ≡ true)
+    second true same e = ⊎_elim (λ here. inl (sym (uid_is b.uid w here) ∙ ap (λ (y : Act). y.uid) same)) (λ old. inr old) (or_cases (uid_eq b.uid w) (is_on (uids rest) w) e)
+    second false same e = inr (more b t (uids rest) e same)
+
+    by : (s : Bool) → cond s (Some b) (Some a) ≡ Some t → (w ≡ t.uid) ⊎ (is_on (uids (cond s rest (b ∷ rest))) w ≡ true)
+    by true e = second (uid_eq a.uid t.uid) (some_is b t e) on
+    by false e = inr (more a t (b.uid ∷ uids rest) on (some_is a t e))
+
+-- the chain is part of the path, and so is the top
+chain_part : (p : List Act) (x : Act) → In x (chain_in p) → In x p
+chain_part [] x i = absurd i
+chain_part (a ∷ rest) x i = by (is_serial a.kind) i
+  where
+    tail : (xs : List Act) → In x (behind_first xs) → In x xs
+    tail [] j = absurd j
+    tail (y ∷ ys) j = inr j
+
+    by : (s : Bool) → In x (cond s (behind_first rest) rest) → In x (a ∷ rest)
+    by true j = inr (tail rest j)
+    by false j = inr j
+
+top_part : (p : List Act) (t : Act) → top_in p ≡ Some t → In t p
+top_part [] t is = absurd (cc is)
+top_part (a ∷ []) t is = by (is_serial a.kind) is
+  where
+    by : (s : Bool) → cond s None (Some a) ≡ Some t → In t (a ∷ [])
+    by true e = absurd (cc e)
+    by false e = inl (some_is a t e)
+top_part (a ∷ b ∷ rest) t is = by (is_serial a.kind) is
+  where
+    by : (s : Bool) → cond s (Some b) (Some a) ≡ Some t → In t (a ∷ b ∷ rest)
+    by true e = inr (inl (some_is b t e))
+    by false e = inl (some_is a t e)
+
+uid_on : (xs : List Act) (x : Act) → In x xs → is_on (uids xs) x.uid ≡ true
+uid_on [] x i = absurd i
+uid_on (y ∷ ys) x (inl same) = ap (λ b. b || is_on (uids ys) x.uid) (ap (λ (z : Act). uid_eq z.uid x.uid) same ∙ uid_same x.uid)
+uid_on (y ∷ ys) x (inr i) = by (uid_eq y.uid x.uid) (uid_on ys x i)
+  where
+    by : (b : Bool) → is_on (uids ys) x.uid ≡ true → (b || is_on (uids ys) x.uid) ≡ true
+    by true ih = refl
+    by false ih = ih
+
+-- ---- an idle top
+
+module _ (lines : List Line) (right : AreRight new_book lines) (a : Act) (there : In a (acts lines)) (done : IsDone lines a) (idle : IsIdle (book lines) a.uid) where
+  stands : Stands (book lines)
+  stands = stands_lines new_book lines right stands_new
+
+  -- who was aborted isn't committed
+  uncommitted : (x : Act) → In x (acts lines) → is_on (let B = book lines in B.aborted) x.uid ≡ true → has_end (committed lines) x.id ≡ false
+  uncommitted x i aborted =
+      let s = stands in
+      let sane = s.sane in
+      let its = is_book lines right in
+      by (has_end (committed lines) x.id) refl (λ is. never aborted (sane.kept x.uid (sym (its.decided x (in_to x (acts lines) i)) ∙ ap (λ b. b || list_any (λ (u : Placed Uid). uid_eq u.it x.uid) (recovered lines)) is)))
+    where
+      by : (b : Bool) → has_end (committed lines) x.id ≡ b → (has_end (committed lines) x.id ≡ true → ⊥) → has_end (committed lines) x.id ≡ false
+      by true is isnt = absurd (isnt is)
+      by false is isnt = is
+
+  -- of an access no path survives
+  no_path : (r : Access) → In r (let B = book lines in B.accesses) → (p : List Act) → p ≡ path (let B = book lines in B.acts) (let c = r.act in c.label) → (t : Act) → top_in p ≡ Some t → t.id ≡ a.id → list_all (λ (x : Act). has_end (committed lines) x.id) (chain_in p) ≡ false
+  no_path r i p is t top number =
+      let same_acts = its_acts lines right in
+      let sound = its_sound lines right in
+      let member : (x : Act) → In x p → In x (acts lines) = λ x j. subst (In x) same_acts (on_path (let B = book lines in B.acts) (let c = r.act in c.label) x (subst (In x) is j)) in
+      let t_there = member t (top_part p t top) in
+      let one : t ≡ a = one_act (acts lines) sound.distinct t a t_there there (uid_is t.uid a.uid (sym (apart_acts (acts lines) sound.distinct t a t_there there) ∙ ap (λ n. n == a.id) number ∙ itself a.id)) in
+      let on : is_on (uids p) a.uid ≡ true = ap (λ (x : Act). is_on (uids p) x.uid) (sym one) ∙ uid_on p t (top_part p t top) in
+      let x = idle.cut r (in_to r (let B = book lines in B.accesses) i) (ap (λ q. is_on (uids q) a.uid) (sym is) ∙ on) in
+      ⊎_elim
+      (λ same.
+      let s = stands in
+      let sane = s.sane in
+      let its = is_book lines right in
+      absurd (never (ap (is_on (let B = book lines in B.aborted)) (sym (same ∙ ap (λ (y : Act). y.uid) one)) ∙ x.2) (sane.kept a.uid (sym (its.decided a (in_to a (acts lines) there)) ∙ done))))
+      (λ below.
+      let z = on_uids (chain_in p) x.0 below in
+      not_all (λ (y : Act). has_end (committed lines) y.id) z.0 (chain_in p) z.1 (uncommitted z.0 (member z.0 (chain_part p z.0 z.1)) (ap (is_on (let B = book lines in B.aborted)) z.2 ∙ x.2)))
+      (behind_top p t x.0 top (ap (λ (y : Act). is_on (behind y.uid (uids p)) x.0) one ∙ ap (λ q. is_on (behind a.uid (uids q)) x.0) is ∙ x.1))
+    where
+      itself : (n : ℕ) → (n == n) ≡ true
+      itself n = grind arith
+
+  no_calls : surviving lines a.id ≡ []
+  no_calls = none_left (λ (c : Call). list_all (has_end (committed lines)) c.chain) (made_by lines a.id) one
+    where
+      one : (c : Call) → In c (made_by lines a.id) → list_all (has_end (committed lines)) c.chain ≡ false
+      one c i =
+          let f = in_filter (λ (d : Call). d.top == a.id) c (filter_map (λ (s : Placed Said). made_in s (top_in s.it.path)) (said lines)) i in
+          let m = in_filter_map (λ (s : Placed Said). made_in s (top_in s.it.path)) c (said lines) f.0 in
+          by m.0 m.1 (top_in (let s = m.0 in s.it.path)) refl m.2 (eqb-true c.top a.id f.1)
+        where
+          by : (s : Placed Said) → In s (said lines) → (o : Option Act) → top_in s.it.path ≡ o → made_in s o ≡ Some c → c.top ≡ a.id → list_all (has_end (committed lines)) c.chain ≡ false
+          by s j None is e number = absurd (cc e)
+          by s j (Some t) is e number =
+              let same : call_of s t ≡ c = some_is (call_of s t) c e in
+              let r = of_access said_of (λ (y : Said). y.path) said_step new_book 0 lines right stands_new s j in
+              ap (λ (d : Call). list_all (has_end (committed lines)) d.chain) (sym same) ∙ all_numbers (has_end (committed lines)) (chain_in s.it.path)
+              ∙ no_path r.0 r.1 s.it.path r.2 t is (ap (λ (d : Call). d.top) same ∙ number)
+
+  no_includes : (x : ℕ) → joins_of lines a.id x ≡ []
+  no_includes x = nothing_made (λ (i : Placed Inclusion). joins_by (committed lines) a.id x i (top_in i.it.path)) (included lines) one
+    where
+      one : (i : Placed Inclusion) → In i (included lines) → joins_by (committed lines) a.id x i (top_in i.it.path) ≡ None
+      one i j = by (top_in i.it.path) refl
+        where
+          by : (o : Option Act) → top_in i.it.path ≡ o → joins_by (committed lines) a.id x i o ≡ None
+          by None is = refl
+          by (Some t) is = number (t.id == a.id) refl
+            where
+              r : (c : Access) × In c (let V = book lines in V.accesses) × (i.it.path ≡ path (let V = book lines in V.acts) (let d = c.act in d.label))
+              r = of_access included_of (λ (y : Inclusion). y.path) included_step new_book 0 lines right stands_new i j
+
+              object : (b : Bool) → list_all (λ (y : Act). has_end (committed lines) y.id) (chain_in i.it.path) ≡ false → cond (true && (b && list_all (λ (y : Act). has_end (committed lines) y.id) (chain_in i.it.path))) (Some i.it.node) None ≡ None
+              object true e = ap (λ c. cond c (Some i.it.node) None) e
+              object false e = refl
+
+              number : (b : Bool) → (t.id == a.id) ≡ b → cond (b && ((i.it.x == x) && list_all (λ (y : Act). has_end (committed lines) y.id) (chain_in i.it.path))) (Some i.it.node) None ≡ None
+              number true e = object (i.it.x == x) (no_path r.0 r.1 i.it.path r.2 t is (eqb-true t.id a.id e))
+              number false e = refl
+
+pub idle_has_nothing : (lines : List Line) → AreRight new_book lines → (a : Act) → Contains (acts lines) a → IsDone lines a → IsIdle (book lines) a.uid → HasNothing lines a
+idle_has_nothing lines right a there done idle = record { calls = no_calls lines right a (in_from a (acts lines) there) done idle; includes = no_includes lines right a (in_from a (acts lines) there) done idle }
+
+-- ---- what begins and ends
+
+pub beginnings_timely : (lines : List Line) → AreRight new_book lines → BeginningsAreTimely lines
+beginnings_timely lines right before line behind is l k u p same =
+    let r = right_before new_book before line behind (subst (AreRight new_book) is right) in
+    let h : Right (book before) (body.Began l k u (Some p)) = subst (Right (book before)) same r.1 in
+    let s = h.3.0 in
+    let o = h.3.1 in
+    let named : act_in (acts before) (name p) ≡ Some s = ap (λ xs. act_in xs (name p)) (sym (its_acts before r.0)) ∙ o.named in
+    let t = timely before r.0 false p s.id (s, o, h.3.2) (ap (option_map (λ (x : Act). x.id)) named) in
+    (s, named, t.0, t.1)
+
+pub below_is_over : (lines : List Line) → AreRight new_book lines → BelowCommitsIsOver lines
+below_is_over lines right top a there below is on other =
+    let s = stands_lines new_book lines right stands_new in
+    let c = s.closes in
+    let same = its_acts lines right in
+    its_end lines right a (in_from a (acts lines) below)
+    ∙ c.closed top.uid (sym (its_call lines right top (in_from top (acts lines) there)) ∙ is) a (subst (λ xs. Contains xs a) (sym same) below) (ap (λ xs. is_on (uids (path xs a.label)) top.uid) same ∙ on) other
+
+front_right : (lines before : List Line) (line : Line) (behind_it : List Line) → lines ≡ before ++ line ∷ behind_it → AreRight new_book lines → AreRight new_book before × Right (book before) line.body
+front_right lines before line behind_it is right = right_before new_book before line behind_it (subst (AreRight new_book) is right)
+
+pub nothing_goes_on : (lines : List Line) → AreRight new_book lines → NothingGoesOnBelow lines
+nothing_goes_on lines right = record {
+  ends = λ before line rest is top a there below called_top on other ends. let r = front_right lines before line rest is right in never (below_is_over before r.0 top a there below called_top on other) (ended_once lines right before line rest is a.id ends);
+  answers = λ before line rest is top a there below called_top on other answers. let r = front_right lines before line rest is right in never (below_is_over before r.0 top a there below called_top on other) (calls_timely lines right before line rest is a.id answers).0;
+  begins = λ before line rest is top there called_top l k u p same on.
+      let r = front_right lines before line rest is right in
+      begun_below before line r.0 r.1 top (in_from top (acts before) there) called_top l k u p same on;
+}
+  where
+    known_over : (B : Book) → Sane B → (u : Uid) → is_over B u ≡ true → has_act B.acts u ≡ false → ⊥
+    known_over B sane u over unknown = ⊎_elim (λ on. never (sane.committed u on) unknown) (λ rest. ⊎_elim (λ on. never (sane.aborted u on) unknown) (λ on. never (sane.ended u on) unknown) (or_which (is_on B.aborted u) (is_on B.ended u) rest)) (or_which (is_on B.committed u) (is_on B.aborted u || is_on B.ended u) over)
+
+    begun_below : (before : List Line) (line : Line) → AreRight new_book before → Right (book before) line.body → (top : Act) → In top (acts before) → has_end (called before) top.id ≡ true → (l : Label) (k : Kind) (u : Uid) (p : Option Label) → line.body ≡ body.Began l k u p
+        → is_on (uids (path (acts (before ++ line ∷ [])) (name l))) top.uid ≡ true → ⊥
+    begun_below before line its now top there called_top l k u p same on =
+        let B = book before in
+        let s = stands_lines new_book before its stands_new in
+        let sane = s.sane in
+        let r : Right B (body.Began l k u p) = subst (Right B) same now in
+        let V = turned B (body.Began l k u p) in
+        let c = closes_turn B (body.Began l k u p) r sane s.sound s.closes in
+        let new : Act = record { id = length B.acts; label = name l; kind = k; uid = u; parent = option_map name p } in
+        let acts_are : acts (before ++ line ∷ []) ≡ V.acts = acts_more [] before (line ∷ []) ∙ ap (λ b. acts_after (acts before) b) same ∙ ap (λ xs. acts_after xs (body.Began l k u p)) (sym (its_acts before its)) in
+        let is_called : is_on B.called top.uid ≡ true = sym (its_call before its top there) ∙ called_top in
+        let apart : u ≢ top.uid = λ e. never (sane.called u (ap (is_on B.called) e ∙ is_called)) r.1 in
+        known_over B sane u (c.closed top.uid is_called new (in_to new V.acts (inl refl)) (ap (λ xs. is_on (uids (path xs (name l))) top.uid) (sym acts_are) ∙ on) apart) r.1

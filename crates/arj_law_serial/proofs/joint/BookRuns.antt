@@ -1,0 +1,56 @@
+-- The lock book, by the lock machines to which journals are tied; and that journals list nodes of the header.
+use Rattle.std.proofs.Common.{ℕ}
+use Rattle.arj_journal.specs.ScriptForm.{HeaderInForm}
+use Rattle.arj_law.specs.Joined.{AreCalled}
+use Rattle.arj_model.specs.Last.{first_values}
+use Rattle.arj_protocol.specs.Words.{Header}
+use Rattle.arj_protocol.specs.World.{World}
+use Rattle.arj_law_parts.specs.moves.Moves.{world_by}
+use Rattle.arj_law_runs.specs.journal.Book.{new_book}
+use Rattle.arj_law_runs.specs.journal.Right.{AreRight}
+use Rattle.arj_law_runs.proofs.journal.Runs.{kept_right}
+use Rattle.arj_law_runs.specs.calls.Reached.{IsReached, Keeping}
+use Rattle.arj_law_serial.proofs.order.Order.{all_called_first, all_freed, all_in_order, all_in_time, all_called}
+use Rattle.arj_law_serial.proofs.order.Ties.{Ties, ties_of}
+use Rattle.arj_law_serial.proofs.order.Values.{are_answered}
+use Rattle.arj_law_serial.specs.order.Tied.{AreTied}
+use Rattle.arj_law_serial.specs.joint.Booked.{KeepsTheBook, RunsKeepTheBook, RunsAreCalled}
+use Rattle.arj_law_serial.specs.joint.Fit.{OpsFit}
+use Rattle.arj_law_serial.specs.joint.Shown.{ListedAreThere}
+use Rattle.arj_law_serial.proofs.joint.Clean.{includes_there, reached_tied}
+use Rattle.arj_law_serial.proofs.joint.FitRuns.{runs_in_form}
+use Rattle.arj_law_serial.proofs.joint.Listing.{all_there}
+
+module _ (hd : Header) (w : World) (keeping : Keeping hd w) (tied : AreTied (first_values hd) w.lines) where
+  right : AreRight new_book w.lines
+  right = kept_right hd w keeping
+
+  ties : Ties (first_values hd) w.lines
+  ties = ties_of (first_values hd) w.lines tied
+
+  pub book_so : KeepsTheBook (first_values hd) w.lines
+  book_so = record {
+    order = all_in_order (first_values hd) w.lines right ties;
+    commits = all_called_first (first_values hd) w.lines right ties;
+    answers = are_answered (first_values hd) w.lines right ties;
+    nested = all_freed (first_values hd) w.lines right ties;
+    times = all_in_time (first_values hd) w.lines right ties;
+  }
+
+  pub called_so : AreCalled w.lines
+  called_so = all_called (first_values hd) w.lines right ties
+
+-- each store that an object lists by the journal is a node of the header
+pub lists_nodes : (hd : Header) → HeaderInForm hd → (w : World) → Keeping hd w → ListedAreThere hd w.lines
+lists_nodes hd form w keeping = all_there hd w.lines form (includes_there hd w keeping)
+
+-- ---- runs
+
+pub reached_book : (hd : Header) → HeaderInForm hd → (w : World) → IsReached hd w → ((x : ℕ) → OpsFit x w.lines) → KeepsTheBook (first_values hd) w.lines
+reached_book hd form w reached fit = book_so hd w reached.keeping (reached_tied hd form w reached fit)
+
+pub runs_keep_the_book : RunsKeepTheBook
+runs_keep_the_book hd ms f = let r = runs_in_form hd ms f in reached_book hd f.header (world_by hd ms) r.0 r.1
+
+pub runs_are_called : RunsAreCalled
+runs_are_called hd ms f = let r = runs_in_form hd ms f in called_so hd (world_by hd ms) (let k = r.0 in k.keeping) (reached_tied hd f.header (world_by hd ms) r.0 r.1)

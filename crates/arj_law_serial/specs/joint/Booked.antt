@@ -1,0 +1,16 @@
+-- Runs whose answered calls keep the lock book: their order, their values, and the nesting of actions.
+use Rattle.std.specs.Prelude.{List}
+pub use Rattle.arj_law.specs.Keeping.{KeepsTheBook}
+use Rattle.arj_law.specs.Joined.{AreCalled}
+use Rattle.arj_model.specs.Last.{first_values}
+use Rattle.arj_protocol.specs.Words.{Header}
+use Rattle.arj_law_parts.specs.moves.Moves.{Move, journal_by}
+use Rattle.arj_law_serial.specs.joint.FitRuns.{IsInForm}
+
+-- The journal of every run in form keeps the book, whatever stops fall.
+abbrev pub RunsKeepTheBook : Type 0
+RunsKeepTheBook = (hd : Header) (ms : List Move) → IsInForm hd ms → KeepsTheBook (first_values hd) (journal_by hd ms)
+
+-- and the commit of each top whose calls count was called in it, so that it may stand behind another journal
+abbrev pub RunsAreCalled : Type 0
+RunsAreCalled = (hd : Header) (ms : List Move) → IsInForm hd ms → AreCalled (journal_by hd ms)

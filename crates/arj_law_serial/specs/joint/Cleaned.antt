@@ -1,0 +1,13 @@
+-- Runs whose disks are clean, by both machines of each object.
+use Rattle.std.specs.Prelude.{List, []}
+use Rattle.arj_model.specs.Clean.{Clean}
+use Rattle.arj_model.specs.Disks.{Disks}
+use Rattle.arj_protocol.specs.Words.{Header}
+use Rattle.arj_law_parts.specs.moves.Moves.{Move, journal_by, world_by}
+use Rattle.arj_law_parts.specs.moves.Seen.{see}
+use Rattle.arj_law_serial.specs.joint.FitRuns.{IsInForm}
+use Rattle.arj_law_serial.specs.joint.Shown.{DisksAre}
+
+-- After each run in form, whatever stops fall, its nodes' disks are clean, however they are read.
+abbrev pub RunsAreClean : Type 0
+RunsAreClean = (hd : Header) (ms : List Move) (disks : Disks) → IsInForm hd ms → DisksAre (see [] (world_by hd ms)) disks → Clean hd (journal_by hd ms) disks

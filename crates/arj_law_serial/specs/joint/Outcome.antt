@@ -1,0 +1,31 @@
+-- One outcome, by a journal: what is committed anywhere was decided before, and why a store, or naming, may abort what was decided.
+use Rattle.std.specs.Prelude.{◌≡◌, Bool, true, ◌&&◌, List, [], ◌∷◌, ◌++◌}
+use Rattle.arj_journal.specs.declared.body.Body.{Body}
+use Rattle.arj_journal.specs.declared.body.Line.{Line}
+use Rattle.arj_journal.specs.declared.header.Header.{Header}
+pub use Rattle.arj_model.specs.Outcome.{has_cause_to_abort, has_halted_since, has_uid, is_behind_decision, is_commit_by, is_said, is_top_of, may_abort, was_committed_at, was_excluded}
+use Rattle.arj_law_parts.specs.moves.Moves.{Move, journal_by}
+
+-- a test that holds of each line, by the lines before it
+abbrev pub each_behind : (List Line → Body → Bool) → List Line → List Line → Bool
+each_behind test before [] = true
+each_behind test before (line ∷ lines) = test before line.body && each_behind test (before ++ line ∷ []) lines
+
+-- each line that a commit is done stands behind one that says that it is decided
+abbrev pub commits_are_behind : List Line → Bool
+commits_are_behind lines = each_behind is_behind_decision [] lines
+
+-- each line that says an abort of an action that is decided has a cause
+abbrev pub aborts_have_cause : List Line → Bool
+aborts_have_cause lines = each_behind has_cause_to_abort [] lines
+
+-- Both: the journal shows one outcome of each top.
+pub record ShowsOneOutcome (lines : List Line) : Type 0 where
+  pub commits : commits_are_behind lines ≡ true
+  pub aborts : aborts_have_cause lines ≡ true
+
+-- ---- runs
+
+-- of the commits, after all moves
+abbrev pub CommitsAreBehind : Type 0
+CommitsAreBehind = (hd : Header) (ms : List Move) → commits_are_behind (journal_by hd ms) ≡ true

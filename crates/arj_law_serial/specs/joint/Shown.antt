@@ -1,0 +1,58 @@
+-- Which readings are those of nodes' disks, and what they show of them.
+use Rattle.std.specs.Prelude.{◌≡◌, ◌&&◌, ℕ, true, List, Some, Contains, is_some, nat_le, option_map}
+use Rattle.arj_disk.specs.Says.{Record}
+use Rattle.arj_disk.specs.declared.slot.Role.{Role}
+use Rattle.arj_disk.specs.declared.slot.Role.TheVariants as role
+use Rattle.arj_journal.specs.ScriptForm.{HeaderInForm}
+use Rattle.arj_model.specs.Actions.{Placed}
+use Rattle.arj_model.specs.Disks.{Disks, Reading}
+use Rattle.arj_model.specs.Last.{Inclusion, included, is_among, listed, object_line}
+use Rattle.arj_protocol.specs.Effect.{Disk, Intent}
+use Rattle.arj_protocol.specs.Order.{at_uid}
+use Rattle.arj_protocol.specs.Step.{Node}
+use Rattle.arj_protocol.specs.Words.{Header, Line, Uid}
+use Rattle.arj_protocol.specs.World.{World}
+use Rattle.arj_store.specs.Pair.{Pair}
+use Rattle.arj_law_store.specs.store.Files.{IsPairOf}
+use Rattle.arj_law_parts.specs.moves.Keeps.{Stands}
+use Rattle.arj_law_parts.specs.moves.Seen.{Post, Seen, see}
+use Rattle.arj_law_serial.specs.order.Readings.{AreShown}
+
+-- the pair of a role, as a disk is read
+abbrev pub pair_in : Reading → Role → Pair
+pair_in read r = record { held = λ u. read.held r u; pend = λ a. read.pend r a }
+
+-- a record of a commit, as it is read
+abbrev pub record_of : Intent → Record
+record_of i = record { root = i.root; nodes = i.nodes }
+
+-- A disk of the protocol is read so: the pairs of both roles, the records and the incarnation are its own.
+pub record IsReadingOf (read : Reading) (d : Disk) : Type 0 where
+  pub store : IsPairOf (pair_in read role.Store) d.store
+  pub names : IsPairOf (pair_in read role.Names) d.names
+  pub records : (top : Uid) → (let r = read in r.records top) ≡ option_map record_of (at_uid top d.intents)
+  pub inc : (let r = read in r.inc) ≡ d.inc
+
+-- so it is of the disk of each node
+abbrev pub DisksAre : Seen → Disks → Type 0
+DisksAre M disks = (s : ℕ) (n : Node) → M.nodes s ≡ Some n → IsReadingOf (disks s) (let m = n in m.disk)
+
+-- the header has the object, and the node
+abbrev pub AreThere : Header → ℕ → ℕ → Type 0
+AreThere hd x s = ((nat_le 1 s && nat_le s hd.nodes) ≡ true) × (is_some (object_line hd x) ≡ true)
+
+-- so it is of each answered include of the journal
+abbrev pub IncludesAreThere : Header → List Line → Type 0
+IncludesAreThere hd lines = (i : Placed Inclusion) → Contains (included lines) i → AreThere hd (let k = i.it in k.x) (let k = i.it in k.node)
+
+-- and so it is of each store that an object lists
+abbrev pub ListedAreThere : Header → List Line → Type 0
+ListedAreThere hd lines = (x s : ℕ) → is_among (listed hd lines x) s ≡ true → AreThere hd x s
+
+-- where included stores are nodes of the header each store that an object lists is
+abbrev pub IncludesAreListed : Type 0
+IncludesAreListed = (hd : Header) (lines : List Line) → HeaderInForm hd → IncludesAreThere hd lines → ListedAreThere hd lines
+
+-- Readings of the disks of a world that stands show its pairs.
+abbrev pub ReadingsShowPairs : Type 0
+ReadingsShowPairs = (hd : Header) (sent : List Post) (w : World) (disks : Disks) → HeaderInForm hd → Stands hd sent w → IncludesAreThere hd w.lines → DisksAre (see sent w) disks → AreShown hd w.lines (see sent w) disks

@@ -1,9 +1,0 @@
-use Rattle.arj_round_law.proofs.GiveUps.{rounds_settle}
-use Rattle.arj_round_law.proofs.Quiets.{quiesces_settle}
-use Rattle.arj_round_law.proofs.rounds.quiesces_leave_nothing_to_do.Goals as goal
-
-pub returns-clause-quiesces : goal.returns-clause-quiesces
-returns-clause-quiesces c = quiesces_settle
-
-pub returns-clause-rounds : goal.returns-clause-rounds
-returns-clause-rounds c = rounds_settle
