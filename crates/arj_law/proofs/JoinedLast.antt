@@ -121,9 +121,6 @@ module _ (first second : List Line) (apart : AreApart first second) where
   excluded_low : AllByRecursion (λ (e : Placed Exclusion). e.it.top < k) (excluded first)
   excluded_low = all_map (λ (e : Placed Exclusion). (e.at < 0 + n) × (e.it.top < k)) (λ e. e.it.top < k) (λ e h. h.1) (excluded first) (read_all (λ a. a.id < k) (λ e. e.top < k) excluded_of excluder [] 0 first low_numbers)
 
-  moved_exclusion : Placed Exclusion → Placed Exclusion
-  moved_exclusion = placed_behind n (excluded_behind k)
-
   abbrev of_top : ℕ → ℕ → Placed Exclusion → Bool
   of_top id x e = (e.it.top == id) && (e.it.x == x)
 
@@ -219,10 +216,6 @@ module _ (first second : List Line) (apart : AreApart first second) where
   none_of : {A B : Type 0} (f : A → Option B) (P : A → Type 0) → ((a : A) → P a → f a ≡ None) → (xs : List A) → AllByRecursion P xs → filter_map f xs ≡ []
   none_of f P h [] ps = refl
   none_of f P h (x ∷ xs) ps = (λ i. cons_option (h x ps.0 i) (none_of f P h xs ps.1 i))
-
-  everywhere : {A : Type 0} (P : A → Type 0) → ((a : A) → P a) → (xs : List A) → AllByRecursion P xs
-  everywhere P h [] = tt
-  everywhere P h (x ∷ xs) = (h x, everywhere P h xs)
 
   over_moved : {B : Type 0} (f g : Placed Inclusion → Option B) → ((i : Placed Inclusion) → f (moved i) ≡ g i) → (xs : List (Placed Inclusion)) → filter_map f (map moved xs) ≡ filter_map g xs
   over_moved f g h [] = refl

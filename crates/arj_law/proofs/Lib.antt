@@ -2,7 +2,6 @@ pub mod Answers
 pub mod Commit
 pub mod Common
 pub mod Depths
-pub mod Held
 pub mod Last
 pub mod Listed
 pub mod Moves

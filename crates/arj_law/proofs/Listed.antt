@@ -1,23 +1,22 @@
 -- The listed stores and the entry of an object, by the order of decisions, and after the next commit.
-use Rattle.std.proofs.Common.{◌≡◌, ℕ, ◌+◌, List, [], ◌∷◌, ◌++◌, length, map, Bool, true, false, cond, not, ◌&&◌, ◌==◌, Option, Some, None, refl, sym, ◌∙◌, ap, filter, length-append, append-nil}
+use Rattle.std.proofs.Common.{◌≡◌, ℕ, ◌+◌, List, [], ◌∷◌, ◌++◌, length, map, Bool, true, false, cond, not, ◌&&◌, ◌==◌, Option, Some, None, refl, sym, ◌∙◌, ap, filter}
 use Rattle.std.specs.List.{list_all, filter_map}
 use Rattle.std.proofs.lemmas.Bool.{eq-eqb, eqb-true, and_parts}
 use Rattle.std.proofs.lemmas.List.Folds.{list_all-map}
 use Rattle.std.proofs.lemmas.List.Elements.{filter-append}
 use Rattle.arj_base.specs.declared.state.Class.TheVariants as class
-use Rattle.arj_base.specs.declared.state.ObjectState.{ObjectState}
 use Rattle.arj_base.specs.Uid.{entry}
 use Rattle.arj_journal.specs.declared.body.Body.{Body}
 use Rattle.arj_journal.specs.declared.body.Body.TheVariants as body
 use Rattle.arj_journal.specs.declared.body.Line.{Line}
 use Rattle.arj_journal.specs.declared.header.Header.{Header}
-use Rattle.arj_model.specs.Actions.{Act, Placed, acts, acts_after, committed, committed_of, has_end, top_in, chain_in}
+use Rattle.arj_model.specs.Actions.{Act, Placed, acts, committed, committed_of, has_end, top_in, chain_in}
 use Rattle.arj_model.specs.Calls.{Top, ids}
 use Rattle.arj_model.specs.Last.{Inclusion, included, included_of, excluded_of, joins_by, joins_of, leaves_of, is_among, increasing, object_line, servers_of_line, listed, listed_after, listed_from, serial_tops, changers, last_changer, uid_of_id, same_list, entry_payload, entry_state}
-use Rattle.arj_law.specs.Growth.{more, CommitsTop, IdleInPlace, first_stores, AreDecidedInOrder, entry_by, entry_after, IncludesNoneBelow}
+use Rattle.arj_law.specs.Growth.{more, CommitsTop, IdleInPlace, first_stores, AreDecidedInOrder, entry_by, IncludesNoneBelow}
 use Rattle.arj_law.proofs.Common.{never}
 use Rattle.arj_law.proofs.JoinedLists.{filter_map_same}
-use Rattle.arj_law.proofs.Reading.{acts-append, read_none, read_some}
+use Rattle.arj_law.proofs.Reading.{read_none, read_some}
 use Rattle.arj_law.proofs.Commit.{chain_stays}
 
 pub same_is : (ms ns : List ℕ) → same_list ms ns ≡ true → ms ≡ ns
@@ -108,11 +107,6 @@ module _ (lines : List Line) (event top : ℕ) where
   leaves_stay (body.Recovered n u) commits id x = (λ k. map (λ e. e.it.node) (filter (λ e. (e.it.top == id) && (e.it.x == x)) (read_none excluded_of lines (record { event = event; body = body.Recovered n u }) refl k)))
   leaves_stay b commits id x = absurd commits
 
-begins_nothing : (us : List Act) (lines : List Line) (top : ℕ) (b : Body) → CommitsTop lines top b → acts_after us b ≡ us
-begins_nothing us lines top (body.Committed l) commits = refl
-begins_nothing us lines top (body.Recovered n u) commits = refl
-begins_nothing us lines top b commits = absurd commits
-
 pub listed_append : (lines : List Line) (x : ℕ) (stores : List ℕ) (ts : List Top) (t : Top) → listed_from lines x stores (ts ++ t ∷ []) ≡ listed_after lines x (listed_from lines x stores ts) t
 listed_append lines x stores [] t = refl
 listed_append lines x stores (u ∷ ts) t = listed_append lines x (listed_after lines x stores u) ts t
@@ -148,10 +142,6 @@ module _ (header : Header) (lines : List Line) (event : ℕ) (b : Body) (t : Top
       (λ i. filter (λ s. not (is_among (leaves_stay lines event t.id b commits u.id x i) s)) stores
       ++ increasing (filter (λ s. not (is_among (leaves_stay lines event t.id b commits u.id x i) s)) (joins_stay lines event t.id b commits h u.id x i)))
 
-  from_same : (stores : List ℕ) (ts : List Top) → listed_from others x stores ts ≡ listed_from lines x stores ts
-  from_same stores [] = refl
-  from_same stores (u ∷ ts) = from_same (listed_after others x stores u) ts ∙ (λ i. listed_from lines x (after_same stores u i) ts)
-
   changers_same : (stores : List ℕ) (ts : List Top) → changers others x stores ts ≡ changers lines x stores ts
   changers_same stores [] = refl
   changers_same stores (u ∷ ts) =
@@ -171,54 +161,5 @@ module _ (header : Header) (lines : List Line) (event : ℕ) (b : Body) (t : Top
     whole : filter counts (decided ++ t ∷ []) ≡ front ++ own
     whole = filter-append counts decided (t ∷ [])
 
-    pub listed_more : listed header others x ≡ cond (counts t) (listed_after lines x (listed header lines x) t) (listed header lines x)
-    listed_more = listed_decided header others x counts (decided ++ t ∷ []) after ∙ ap (listed_from others x first) whole ∙ from_same first (front ++ own) ∙ by (counts t)
-      where
-        by : (c : Bool) → listed_from lines x first (front ++ cond c (t ∷ []) []) ≡ cond c (listed_after lines x (listed header lines x) t) (listed header lines x)
-        by true = listed_append lines x first front t ∙ (λ i. listed_after lines x (lists i) t)
-        by false = ap (listed_from lines x first) (append-nil front) ∙ lists
-
     changed : changers others x first (filter counts (decided ++ t ∷ [])) ≡ changers lines x first front ++ changers lines x (listed header lines x) own
     changed = ap (changers others x first) whole ∙ changers_same first (front ++ own) ∙ changers_append lines x first front own ∙ (λ i. changers lines x first front ++ changers lines x (lists i) own)
-
-    -- an entry of these changers and this list
-    abbrev made_of : List Act → List Top → List ℕ → ObjectState
-    made_of us ts stores =
-        record { uid = entry x; class = class.Entry; version = length ts; writer = last_changer us ts; payload = entry_payload (servers_of_line (object_line header x)) stores }
-
-    now : entry_state header lines x ≡ made_of (acts lines) (changers lines x first front) (listed header lines x)
-    now =
-        (λ i. made_of (acts lines) ((only_changers lines x counts first (serial_tops lines) before.idle ∙ ap (changers lines x first) before.order) i) (listed header lines x))
-
-    stays : made_of (acts lines) (changers lines x first front ++ []) (listed header lines x) ≡ entry_state header lines x
-    stays = (λ i. made_of (acts lines) (append-nil (changers lines x first front) i) (listed header lines x)) ∙ sym now
-
-    grows : (next : List ℕ) → made_of (acts lines) (changers lines x first front ++ t ∷ []) next
-        ≡ record { uid = entry x; class = class.Entry; version = (entry_state header lines x).version + 1; writer = uid_of_id (acts lines) t.id; payload = entry_payload (servers_of_line (object_line header x)) next }
-    grows next =
-        (λ i. record {
-          uid = entry x;
-          class = class.Entry;
-          version = (length-append (changers lines x first front) (t ∷ []) ∙ ap (λ n. n + 1) (ap (λ (s : ObjectState). s.version) (sym now))) i;
-          writer = last_of_append (acts lines) (changers lines x first front) t i;
-          payload = entry_payload (servers_of_line (object_line header x)) next;
-        })
-
-    pub entry_more : entry_state header others x ≡ cond (counts t) (entry_after header lines x t) (entry_state header lines x)
-    entry_more =
-        entry_decided header others x counts (decided ++ t ∷ []) after
-        ∙ (λ i. made_of ((acts-append [] lines (record { event = event; body = b } ∷ []) ∙ begins_nothing (acts lines) lines t.id b commits) i) (changed i) ((sym (listed_decided header others x counts (decided ++ t ∷ []) after) ∙ listed_more) i))
-        ∙ by (counts t)
-      where
-        next : List ℕ
-        next = listed_after lines x (listed header lines x) t
-
-        one : (s : Bool) → same_list next (listed header lines x) ≡ s
-            → made_of (acts lines) (changers lines x first front ++ cond s [] (t ∷ [])) next
-            ≡ cond s (entry_state header lines x) (record { uid = entry x; class = class.Entry; version = (entry_state header lines x).version + 1; writer = uid_of_id (acts lines) t.id; payload = entry_payload (servers_of_line (object_line header x)) next })
-        one true e = (λ i. made_of (acts lines) (changers lines x first front ++ []) (same_is next (listed header lines x) e i)) ∙ stays
-        one false e = grows next
-
-        by : (c : Bool) → made_of (acts lines) (changers lines x first front ++ changers lines x (listed header lines x) (cond c (t ∷ []) [])) (cond c next (listed header lines x)) ≡ cond c (entry_after header lines x t) (entry_state header lines x)
-        by true = one (same_list next (listed header lines x)) refl
-        by false = stays

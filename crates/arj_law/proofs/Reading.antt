@@ -1,14 +1,11 @@
 -- A journal with more lines, as what is read of it.
-use Rattle.std.proofs.Common.{◌≡◌, ℕ, ◌+◌, List, [], ◌∷◌, ◌++◌, length, Bool, true, false, cond, ◌&&◌, ◌||◌, Option, Some, None, refl, sym, ◌∙◌, ap, arith, filter, append-nil}
-use Rattle.std.specs.List.{list_all, list_any, filter_map, cons_option}
-use Rattle.std.proofs.lemmas.List.Folds.{list_all-map}
-use Rattle.arj_base.specs.declared.uid.Uid.{Uid}
-use Rattle.arj_base.specs.Uid.{uid_eq}
+use Rattle.std.proofs.Common.{◌≡◌, ℕ, ◌+◌, List, [], ◌∷◌, ◌++◌, length, Bool, true, false, cond, ◌&&◌, ◌||◌, Option, Some, None, refl, ◌∙◌, ap, arith, append-nil}
+use Rattle.std.specs.List.{filter_map}
 use Rattle.arj_journal.specs.declared.body.Body.{Body}
 use Rattle.arj_journal.specs.declared.body.Body.TheVariants as body
 use Rattle.arj_journal.specs.declared.body.Line.{Line}
-use Rattle.arj_model.specs.Actions.{Act, Placed, acts, acts_after, acts_from, read, put, top_in, chain_in, has_end, is_committed, committed_of, recovered_of}
-use Rattle.arj_model.specs.Calls.{Call, Said, said_of, committing_of, call_of, kept, kept_in, made_in, committed_calls, tops, top_of}
+use Rattle.arj_model.specs.Actions.{Act, Placed, acts, acts_after, acts_from, read, put, committed_of, recovered_of}
+use Rattle.arj_model.specs.Calls.{said_of, committing_of, kept, committed_calls, tops, top_of}
 use Rattle.arj_model.specs.Serial.{arrange, serial_less, serial_calls}
 use Rattle.arj_law.specs.Growth.{more, is_quiet}
 use Rattle.arj_law.proofs.Common.{never}
@@ -65,25 +62,3 @@ quiet_tops lines line e =
 
 pub quiet_serial : (lines : List Line) (line : Line) → is_quiet line.body ≡ true → serial_calls (more lines line) ≡ serial_calls lines
 quiet_serial lines line e = (λ i. arrange (serial_less (quiet_tops lines line e i)) (quiet_calls lines line e i))
-
--- Kept calls as a filter of all that were made.
-abbrev pub is_kept : List (Placed ℕ) → List (Placed Uid) → Call → Bool
-is_kept ends found c = list_all (has_end ends) c.chain && (has_end ends c.top || list_any (λ u. uid_eq u.it c.writer) found)
-
-pub kept_are : (ends : List (Placed ℕ)) (found : List (Placed Uid)) (ss : List (Placed Said)) → filter_map (kept ends found) ss ≡ filter (is_kept ends found) (filter_map (λ s. made_in s (top_in s.it.path)) ss)
-kept_are ends found [] = refl
-kept_are ends found (s ∷ ss) = by (kept_are ends found ss) (top_in s.it.path)
-  where
-    rest : List Call
-    rest = filter_map (λ s. made_in s (top_in s.it.path)) ss
-
-    one : filter_map (kept ends found) ss ≡ filter (is_kept ends found) rest → (top : Act) (b : Bool)
-        → cons_option (cond b (Some (call_of s top)) None) (filter_map (kept ends found) ss) ≡ cond b (call_of s top ∷ filter (is_kept ends found) rest) (filter (is_kept ends found) rest)
-    one ih top true = ap (λ cs. call_of s top ∷ cs) ih
-    one ih top false = ih
-
-    by : filter_map (kept ends found) ss ≡ filter (is_kept ends found) rest → (o : Option Act) → cons_option (kept_in ends found s o) (filter_map (kept ends found) ss) ≡ filter (is_kept ends found) (cons_option (made_in s o) rest)
-    by ih None = ih
-    by ih (Some top) =
-        ap (λ b. cons_option (cond (b && is_committed ends found top) (Some (call_of s top)) None) (filter_map (kept ends found) ss)) (sym (list_all-map (has_end ends) (λ a. a.id) (chain_in s.it.path)))
-        ∙ one ih top (is_kept ends found (call_of s top))

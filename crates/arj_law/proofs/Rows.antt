@@ -1,18 +1,16 @@
 -- The definitions of this crate tried on small journals: each value is known beforehand, and another one is refused.
 use Rattle.std.specs.Prelude.{◌≡◌, refl, List, [], ◌∷◌, map, codes, Some, None}
-use Rattle.arj_base.specs.declared.state.Class.TheVariants as class
 use Rattle.arj_class.specs.declared.op.Op.TheVariants.{Get, Add}
 use Rattle.arj_journal.specs.declared.body.Body.TheVariants as body
 use Rattle.arj_journal.specs.declared.body.Kind.TheVariants as kind
 use Rattle.arj_journal.specs.declared.body.Line.{Line}
 use Rattle.arj_journal.specs.declared.header.Header.{Header}
-use Rattle.arj_base.specs.Uid.{entry}
 use Rattle.arj_class.specs.declared.value.Value.TheVariants.{Counter}
 use Rattle.arj_model.specs.Calls.{committed_calls}
 use Rattle.arj_model.specs.Serial.{serial_calls}
-use Rattle.arj_model.specs.Last.{listed, entry_state}
+use Rattle.arj_model.specs.Last.{listed}
 use Rattle.arj_model.proofs.Journals.{A, B, C, D, uid, began, lines_of, unit_round_a_top}
-use Rattle.arj_law.specs.Growth.{more, entry_after}
+use Rattle.arj_law.specs.Growth.{more}
 use Rattle.arj_law.specs.Held.{unit_end}
 use Rattle.arj_law.specs.Nested.{nested_calls}
 
@@ -48,32 +46,9 @@ two_stores = record { nodes = 4; objects = (record { x = 1; value = Counter 0; s
 to_commit : List Line
 to_commit = lines_of ((began A kind.Top 1 None ∷ []) ∷ (body.Ok A 1 (Add 5) (codes "done") ∷ []) ∷ (body.Committing A ∷ body.Excluded A 1 4 ∷ []) ∷ [])
 
-leaves : entry_state two_stores (more to_commit (record { event = 3; body = body.Committed A })) 1 ≡ entry_after two_stores to_commit 1 (record { id = 0; root = 0; at = 2 })
-unfolding two_stores to_commit
-leaves = refl
-
 is_left : listed two_stores (more to_commit (record { event = 3; body = body.Committed A })) 1 ≡ 3 ∷ []
 unfolding two_stores to_commit
 is_left = refl
-
-is_left_so : entry_after two_stores to_commit 1 (record { id = 0; root = 0; at = 2 }) ≡ record { uid = entry 1; class = class.Entry; version = 1; writer = uid 1; payload = 1 ∷ 2 ∷ 1 ∷ 3 ∷ [] }
-unfolding two_stores to_commit
-is_left_so = refl
-
--- A includes store 4 of object 1, which store 3 holds.
-one_store : Header
-one_store = record { nodes = 4; objects = (record { x = 1; value = Counter 0; servers = 2 ∷ []; stores = 3 ∷ [] }) ∷ [] }
-
-to_join : List Line
-to_join = lines_of ((began A kind.Top 1 None ∷ []) ∷ (body.Includes A 1 4 ∷ []) ∷ (body.Committing A ∷ []) ∷ [])
-
-joins_so : entry_after one_store to_join 1 (record { id = 0; root = 0; at = 2 }) ≡ record { uid = entry 1; class = class.Entry; version = 1; writer = uid 1; payload = 1 ∷ 2 ∷ 2 ∷ 3 ∷ 4 ∷ [] }
-unfolding one_store to_join
-joins_so = refl
-
-joins : entry_state one_store (more to_join (record { event = 3; body = body.Committed A })) 1 ≡ entry_after one_store to_join 1 (record { id = 0; root = 0; at = 2 })
-unfolding one_store to_join
-joins = refl
 
 -- The unit of two constituents ends at the call of the second's commit, at place 16, and so stands behind the top whose
 -- commit was called between theirs.

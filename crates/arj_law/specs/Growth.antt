@@ -10,10 +10,8 @@ use Rattle.arj_journal.specs.declared.body.Line.{Line}
 use Rattle.arj_journal.specs.declared.header.Header.{Header}
 use Rattle.arj_text.specs.Label.{name}
 use Rattle.arj_model.specs.Actions.{acts, id_in, chain_in}
-use Rattle.arj_model.specs.Calls.{Call, Top, ids, made, surviving, committed_calls}
-use Rattle.arj_model.specs.Serial.{writes_on}
-use Rattle.arj_law.specs.Book.{InOrder}
-use Rattle.arj_model.specs.Last.{is_among, object_line, stores_of_line, servers_of_line, included, listed, listed_after, listed_from, serial_tops, changers, last_changer, uid_of_id, same_list, entry_payload, entry_state}
+use Rattle.arj_model.specs.Calls.{Top, ids, made}
+use Rattle.arj_model.specs.Last.{is_among, object_line, stores_of_line, servers_of_line, included, listed_after, listed_from, serial_tops, changers, last_changer, entry_payload}
 
 -- the journal with one line more
 abbrev pub more : List Line → Line → List Line
@@ -33,15 +31,6 @@ abbrev pub CommitsTop : List Line → ℕ → Body → Type 0
 CommitsTop lines top (body.Committed l) = id_in (acts lines) (name l) ≡ Some top
 CommitsTop lines top (body.Recovered n u) = AllByRecursion (λ c. uid_eq u c.writer ≡ (c.top == top)) (made lines)
 CommitsTop lines top _ = ⊥
-
--- A top that can be committed next: no call was made in it as in a nested action, and none of its calls is committed.
-pub record IsUncommittedTop (lines : List Line) (top : ℕ) : Type 0 where
-  pub top_of_all : AllByRecursion (λ c. is_among c.chain top ≡ false) (made lines)
-  pub uncommitted : AllByRecursion (λ c. (c.top == top) ≡ false) (committed_calls lines)
-
--- each of the first calls was answered before each of the second
-abbrev pub AllBefore : List Call → List Call → Type 0
-AllBefore first second = AllByRecursion (λ c. AllByRecursion (λ d. c.at < d.at) second) first
 
 -- Stores that are listed.
 
@@ -72,28 +61,6 @@ entry_by header lines x ts =
       payload = entry_payload (servers_of_line (object_line header x)) (listed_from lines x (first_stores header x) ts);
     }
 
--- the entry of object x after one top more: the next version where it changes the list
-abbrev pub entry_after : Header → List Line → ℕ → Top → ObjectState
-entry_after header lines x t =
-    let next = listed_after lines x (listed header lines x) t in
-    if same_list next (listed header lines x) then entry_state header lines x
-    else record {
-      uid = entry x;
-      class = class.Entry;
-      version = (entry_state header lines x).version + 1;
-      writer = uid_of_id (acts lines) t.id;
-      payload = entry_payload (servers_of_line (object_line header x)) next;
-    }
-
 -- no include was answered in this action as in a nested one
 abbrev pub IncludesNoneBelow : List Line → ℕ → Type 0
 IncludesNoneBelow lines top = AllByRecursion (λ i. is_among (ids (chain_in i.it.path)) top ≡ false) (included lines)
-
--- What the commit of a top with this number, by this line, asks of the journal: the top can be committed next, order
--- holds before and after, and no write of its on object x was answered before one that counts already.
-pub record IsNextCommit (lines : List Line) (line : Line) (top x : ℕ) : Type 0 where
-  pub commits : CommitsTop lines top line.body
-  pub uncommitted : IsUncommittedTop lines top
-  pub before : InOrder lines
-  pub after : InOrder (more lines line)
-  pub behind : AllBefore (filter (writes_on x) (committed_calls lines)) (filter (writes_on x) (surviving lines top))

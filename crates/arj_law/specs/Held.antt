@@ -2,7 +2,6 @@
 use Rattle.std.specs.Prelude.{◌≡◌, ◌<◌, ◌≤◌, ℕ, List, [], ◌∷◌, take, Bool, true, false, ◌==◌, ◌&&◌, if◌then◌else◌}
 use Rattle.std.specs.List.{AllByRecursion, list_any}
 use Rattle.arj_base.specs.declared.uid.Uid.{Uid}
-use Rattle.arj_base.specs.Mode.{conflicting}
 use Rattle.arj_base.specs.Rows.{Row}
 use Rattle.arj_base.specs.Uid.{object, nobody, uid_eq}
 use Rattle.arj_class.specs.Table.{is_write, writes}
@@ -10,9 +9,8 @@ use Rattle.arj_journal.specs.declared.body.Line.{Line}
 use Rattle.arj_model.specs.Actions.{acts}
 use Rattle.arj_model.specs.Calls.{Call, tops, committed_calls}
 use Rattle.arj_model.specs.Last.{uid_of_id}
-use Rattle.arj_model.specs.Serial.{root_of, unit_place, serial_less}
+use Rattle.arj_model.specs.Serial.{root_of, unit_place}
 use Rattle.arj_model.specs.Table.{table}
-use Rattle.arj_law.specs.Book.{is_conflict}
 
 -- the rows of each node's lock table after so many lines
 abbrev pub Tables : Type 0
@@ -56,22 +54,6 @@ AreHeld lines tables node = AllByRecursion (λ c. IsHeldAt lines tables (node c)
 -- node
 abbrev pub AreAtOneNode : List Line → (Call → ℕ) → Call → Call → Type 0
 AreAtOneNode lines node c d = (root_of_call lines c == root_of_call lines d) ≡ false → c.x ≡ d.x → c.at < d.at → d.at < unit_end lines c → node c ≡ node d
-
--- roots have Uids of their own
-abbrev pub HaveOwnRoots : List Line → Call → Call → Type 0
-HaveOwnRoots lines c d = (root_of_call lines c == root_of_call lines d) ≡ false → uid_eq (root_uid lines c) (root_uid lines d) ≡ false
-
--- two rows of one object whose holders have different roots are in modes that go together
-abbrev pub GoTogether : Row → Row → Type 0
-GoTogether r s = uid_eq r.object s.object ≡ true → uid_eq (holder_root r) (holder_root s) ≡ false → conflicting r.mode s.mode ≡ false
-
--- so it is of all rows of all tables
-abbrev pub RowsGoTogether : Tables → Type 0
-RowsGoTogether tables = (n p : ℕ) → AllByRecursion (λ r. AllByRecursion (GoTogether r) (tables n p)) (tables n p)
-
--- of two conflicting calls of different units, the one that was answered first stands first in the serial order
-abbrev pub UnitsStandInOrder : List Line → Call → Call → Type 0
-UnitsStandInOrder lines c d = c.at < d.at → (root_of_call lines c == root_of_call lines d) ≡ false → is_conflict c d ≡ true → serial_less (tops lines) c d ≡ true
 
 -- the lock tables that the journal shows
 abbrev pub tables_of : List Line → Tables

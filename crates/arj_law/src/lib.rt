@@ -5,15 +5,8 @@
 //! runs. What it gives upward: whoever shows that a run keeps the lock book has shown that its journal is serial.
 #![tactic(auto)]
 
-mod book;
-mod growth;
 mod joined;
 
-pub use book::{held_locks_give_order, nested_actions_run_whole, order_and_values_give_serial};
-pub use growth::{
-    a_commit_appends_its_calls, a_commit_changes_one_entry, a_commit_makes_the_next_state,
-    entries_go_by_decisions, quiet_lines_change_nothing,
-};
 pub use joined::{
     joined_journals_end_as_the_second, joined_journals_keep_the_book,
     joined_journals_stand_one_behind_the_other, joined_samples_end_so,

@@ -18,9 +18,7 @@ pub mod Loading
 pub mod Locks
 pub mod Mail
 pub mod NamingResults
-pub mod OfficeViews
 pub mod Opening
-pub mod Orders
 pub mod Plain
 pub mod PlainActs
 pub mod Restarts
@@ -30,4 +28,3 @@ pub mod Retaining
 pub mod Stages
 pub mod Stores
 pub mod Taking
-pub mod Views

@@ -9,6 +9,5 @@ pub mod NamingLaws
 pub mod Offices
 pub mod Order
 pub mod Samples
-pub mod Several
 pub mod State
 pub mod Words

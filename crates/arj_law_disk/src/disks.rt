@@ -1,25 +1,12 @@
 // Laws of the disks, the records and the decisions.
 ghost use Rattle.arj_law_disk.specs.machine.Effects.{World, Whole};
-ghost use Rattle.arj_law_disk.specs.machine.Laws.{AreExcludedInTime, FirstIsWhole, HasOneOutcome, IsClean, OldIsCommitted, OneCounts, StopsStayWhole, VersionsCount};
+ghost use Rattle.arj_law_disk.specs.machine.Laws.{FirstIsWhole, HasOneOutcome, OldIsCommitted, StopsStayWhole, VersionsCount};
 
 /// An object as it begins is whole, with older states at stores that aren't listed; and every list of allowed effects,
 /// stopped anywhere, leaves it whole. It does nothing when it runs.
 pub fn disks_stay_whole()
     ensures first { FirstIsWhole }
     ensures effects { StopsStayWhole }
-{}
-
-/// An entry that isn't in doubt is the journal's, and each of its stores where the object isn't in doubt holds the last
-/// state. It does nothing when it runs.
-pub fn disks_are_clean()
-    ensures clean { (W : World) → Whole W → IsClean W.disk }
-{}
-
-/// Each store that the entry has, of the newest decision that counts: it holds the last state, or has it prepared, or is
-/// about to be taken out. Of tops that are decided one after another only one counts. It does nothing when it runs.
-pub fn stores_are_excluded_in_time()
-    ensures in_time { (W : World) → Whole W → AreExcludedInTime W.disk }
-    ensures one { OneCounts }
 {}
 
 /// No store and no naming node commits a top that isn't decided, and none aborts a decided one that it prepared as a

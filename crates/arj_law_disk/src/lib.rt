@@ -12,12 +12,7 @@
 mod disks;
 mod naming;
 mod samples;
-mod several;
 
-pub use disks::{
-    disks_are_clean, disks_stay_whole, outcomes_are_one, stores_are_excluded_in_time,
-    versions_count_decisions,
-};
-pub use naming::{confirmations_are_booked, loads_are_of_the_last, naming_stays_whole};
+pub use disks::{disks_stay_whole, outcomes_are_one, versions_count_decisions};
+pub use naming::confirmations_are_booked;
 pub use samples::guards_can_be_met;
-pub use several::{orders_give_one_end, views_stay_whole};

@@ -1,4 +1,3 @@
-pub mod Begins
 pub mod Booked
 pub mod Both
 pub mod Calls

@@ -15,14 +15,6 @@
 //! What it gives upward: `given_votes_are_right`, `writes_lie_over_what_was_voted`.
 #![tactic(auto)]
 
-mod given;
-mod laws;
 mod runs;
 
-pub use given::{given_votes_are_right, writes_lie_over_what_was_voted};
-pub use laws::{
-    calls_of_a_unit_are_nested, calls_saw_the_last_value, calls_stand_in_order, given_votes_stand,
-    kept_bindings_are_named, loads_stand, overlapping_calls_ran_at_one_node, repeated_votes_agree,
-    rows_are_held, votes_are_right,
-};
-pub use runs::{runs_go_on, these_runs_happen};
+pub use runs::these_runs_happen;

@@ -1,6 +1,4 @@
 // Runs that the machine has.
-ghost use Rattle.arj_law_lock.specs.machine.State.{State};
-ghost use Rattle.arj_law_lock.specs.machine.Machine.{Run};
 ghost use Rattle.arj_law_lock.specs.machine.Runs.{LostLock, OldFrames, Rebinding, Serializing};
 
 /// The machine has runs worth the laws: a lock lost by a restart, a binding replaced, a serializing action with two
@@ -10,9 +8,4 @@ pub fn these_runs_happen()
     ensures rebinding { Rebinding }
     ensures serializing { Serializing }
     ensures old_frames { OldFrames }
-{}
-
-/// A run goes on where another one ends. It does nothing when it runs.
-pub fn runs_go_on()
-    ensures more { (s t u : State) → Run s t → Run t u → Run s u }
 {}

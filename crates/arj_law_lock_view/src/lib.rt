@@ -50,59 +50,6 @@
 //! bindings have 32 bits, so it is of runs in which naming makes fewer. It gives upward `late_records_find_nothing`.
 #![tactic(auto)]
 
-mod asking;
-mod coords;
-mod facts_naming;
-mod facts_votes;
-mod journal_coord;
 mod late;
-mod lines;
-mod running_coord;
-mod runs;
-mod server;
-mod servers;
-mod stops;
-mod view_coord;
-mod view_naming;
-mod view_votes;
-mod world;
 
-pub use asking::{acks_go_in_the_world, queries_go_in_the_world, ticks_go_in_the_world};
-pub use coords::{
-    coordinators_know_their_parts, coordinators_stay_in_order, grants_stay_in_order,
-    last_requests_are_of_what_waits, plans_grant_low, plans_have_what_is_kept,
-    premises_of_coordinators, requests_want_one_thing, states_are_of_their_objects,
-};
-pub use facts_naming::{
-    entries_stay_on_disk, nested_actions_have_nothing_at_naming, objects_at_naming_are_good,
-};
-pub use facts_votes::coordinators_keep_votes;
-pub use journal_coord::coordinators_keep_ties;
 pub use late::late_records_find_nothing;
-pub use lines::{plain_lines_keep_ties, ties_are_kept};
-pub use running_coord::{
-    answers_go_in_the_world, begins_go_in_the_world, calls_go_in_the_world,
-    commits_go_in_the_world, coordinators_go_in_the_world, ends_go_in_the_world,
-    inputs_go_in_the_world,
-};
-pub use runs::{runs_keep_the_lock_half, runs_keep_votes};
-pub use server::{
-    begun_actions_have_places, commits_at_servers_are_seen, copies_are_seen, ends_are_shown,
-    messages_at_servers_are_seen, replies_are_shown, sent_messages_are_shown, servers_are_seen,
-    servers_stay_beside, votes_are_seen,
-};
-pub use servers::copies_are_listed;
-pub use stops::stops_keep_ties;
-pub use view_coord::{
-    actions_begin, calls_at_coordinators_are_seen, commits_go_on, coordinators_are_seen,
-    coordinators_stay_whole, ends_at_coordinators_are_seen, ends_keep_roots, includes_are_seen,
-    many_end_at_coordinators, other_calls_are_nothing, plans_cover_tops, requests_are_shown,
-};
-pub use view_naming::{
-    binds_are_seen, ends_are_seen, excludes_are_seen, hellos_are_seen, messages_at_naming_are_seen,
-    naming_stops_and_starts, records_are_seen, restarts_are_seen,
-};
-pub use view_votes::plans_have_votes;
-pub use world::{
-    messages_go_in_the_world, posts_stay_shown, restarts_go_in_the_world, stops_go_in_the_world,
-};

@@ -28,13 +28,9 @@
 mod banks;
 mod cores_cores;
 mod deliveries;
-mod ends;
-mod nodes_cores;
 mod turns;
 
 pub use banks::banks_show_what_is_promised;
-pub use cores_cores::{cores_say_their_readings, parts_say_their_readings};
+pub use cores_cores::cores_say_their_readings;
 pub use deliveries::{deliveries_are_taken, events_owe_their_lines};
-pub use ends::last_lines_take_nothing;
-pub use nodes_cores::cores_say_what_their_parts_say;
 pub use turns::{nodes_run_moves, nodes_show_what_is_promised};

@@ -1,11 +1,9 @@
 pub mod Begun
 mod CallLocks
 pub mod CoordInputs
-mod Cuts
 pub mod Decided
 pub mod EndsHandled
 pub mod EndsSaid
-mod EntriesLeft
 pub mod EntryLocks
 mod Gone
 pub mod GoodCalls
@@ -18,7 +16,6 @@ pub mod GoodObjects
 mod GoodRestart
 pub mod GoodServers
 pub mod GoodTrees
-mod Kept
 pub mod InTurn
 mod KeptCalls
 pub mod Keys
@@ -26,7 +23,6 @@ pub mod LivesCoords
 pub mod LivesKnown
 pub mod LivesNamed
 mod Locked
-mod NamingNode
 pub mod Numbered
 pub mod ObjectsAsked
 pub mod Pairs
@@ -35,7 +31,6 @@ mod Sends
 pub mod ServerRuns
 pub mod Settled
 mod Stands
-mod StatesLeft
 pub mod Stores
 pub mod Tellings
 mod ToldInOrder

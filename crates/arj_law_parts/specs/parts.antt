@@ -3,7 +3,6 @@ pub mod AskedObjects
 pub mod Claims
 pub mod Coords
 pub mod Copies
-pub mod Cuts
 pub mod Ends
 pub mod Entries
 pub mod Frames

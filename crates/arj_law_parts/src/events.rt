@@ -1,26 +1,13 @@
 // Laws of events.
-ghost use Rattle.arj_law_parts.specs.steps.Halts.{CrashesSayTheirOwn, NoStepSaysArmed, OnlyCrashesSayHalted};
+ghost use Rattle.arj_law_parts.specs.steps.Halts.{CrashesSayTheirOwn, OnlyCrashesSayHalted};
 ghost use Rattle.arj_law_parts.specs.steps.Named.{EndsWriteTheirLines};
-ghost use Rattle.arj_law_parts.specs.steps.Settles.{EventsLeaveNothing, SettlesLeaveNothing};
 ghost use Rattle.arj_law_parts.specs.steps.Writes.{EventsKeepWhole, EventsWriteTheirLines, FormatsAreWhole, RunsAreWhole};
-
-/// After a settle each frame was delivered or lost, unless one didn't fit; so the fuel that the protocol's settle has is
-/// enough. After an event that settles none is open, unless the run is over. It does nothing when it runs.
-pub fn settles_leave_nothing()
-    ensures settled { SettlesLeaveNothing }
-    ensures events { EventsLeaveNothing }
-{}
 
 /// No step of a node says that a node halted, whatever it is asked, but a crash, and that says it of its own node; so any other
 /// line that says so tells of a stop. It does nothing when it runs.
 pub fn only_crashes_say_halted()
     ensures crashes { OnlyCrashesSayHalted }
     ensures own { CrashesSayTheirOwn }
-{}
-
-/// No step of a node says that a disk was armed: only the event that arms one does. It does nothing when it runs.
-pub fn no_step_says_armed()
-    ensures { NoStepSaysArmed }
 {}
 
 /// An event of a kind with a line of its own writes it, or that its node halted, in a world that has the nodes of its header, as

@@ -34,58 +34,10 @@
 //! giveup (`ends_write_their_lines`).
 #![tactic(auto)]
 
-mod actions;
-mod asked;
-mod claims;
-mod coords;
-mod copies;
-mod ends;
 mod events;
-mod frames;
-mod grants;
-mod incs;
-mod lives;
-mod messages;
 mod naming;
-mod nodes;
-mod objects;
-mod requests;
-mod rows;
-mod runs;
 mod server;
-mod stops;
-mod tolds;
-mod trees;
-mod turns;
 
-pub use actions::{begun_actions_make_a_tree, coordinators_begin_new_actions};
-pub use asked::coordinators_ask_about_objects_of_their_roots;
-pub use claims::coordinators_say_what_is_true;
-pub use coords::coordinators_stay_good;
-pub use copies::{ended_actions_leave_nothing, locks_of_operations_stand, overlays_are_guarded};
-pub use ends::messages_say_how_actions_ended;
-pub use events::{
-    ends_write_their_lines, events_write_their_lines, no_step_says_armed, only_crashes_say_halted,
-    settles_leave_nothing,
-};
-pub use frames::{messages_leave_other_entries, messages_leave_other_states};
-pub use grants::{bindings_rise, grants_of_naming_stand};
-pub use incs::incarnations_are_on_disk;
-pub use lives::{
-    calls_name_copies_that_were_reached, coordinators_name_copies_that_were_reached,
-    naming_names_copies_that_were_reached,
-};
-pub use messages::{coordinators_send_what_fits, what_was_decided_stands};
+pub use events::{ends_write_their_lines, events_write_their_lines, only_crashes_say_halted};
 pub use naming::naming_stays_good;
-pub use nodes::{naming_stays_good_at_its_node, nodes_stay_good};
-pub use objects::objects_of_naming_stay_good;
-pub use requests::requests_are_numbered;
-pub use rows::locks_on_entries_stay_good;
-pub use runs::{
-    moves_keep_what_handlers_keep, runs_go_on_as_handlers_keep, runs_keep_what_handlers_keep,
-};
-pub use server::{calls_keep_their_locks, servers_go_on, servers_stay_good};
-pub use stops::stops_leave_good_pairs;
-pub use tolds::tolds_can_be_sent;
-pub use trees::{actions_stay_at_home, coordinators_tell_ends_in_order, trees_stay_good};
-pub use turns::ends_come_in_turn;
+pub use server::calls_keep_their_locks;

@@ -47,6 +47,6 @@ pub use outcomes::runs_show_one_outcome;
 pub use promise::runs_keep_the_promise;
 pub use settles::{
     disks_of_idle_nodes_hold_the_last, only_overtaken_calls_wait, quiesces_leave_nodes_idle,
-    rounds_leave_nodes_idle, whoever_is_prepared_settles,
+    rounds_leave_nodes_idle,
 };
 pub use waits::requests_that_wait_are_answered;

@@ -1,15 +1,7 @@
 // What a quiesce and the stated round leave, in every run.
 ghost use Rattle.arj_law_promise.specs.settling.Last.{IdleDisksHoldTheLast};
 ghost use Rattle.arj_law_promise.specs.settling.Overtaken.{QuiescesAnswerTheRest, RunsLeaveOvertaken};
-ghost use Rattle.arj_law_promise.specs.settling.Settled.{HandlersSettle, QuiescesIdle, RoundsIdle};
-
-/// Each handler keeps, wherever a stop falls, that each record is told again and waits for somebody's acknowledgement, and that whoever has
-/// something prepared asked for it itself, is neither nested nor serializing, and has ended at its coordinator or is at its commit there;
-/// so no record is kept of which it is the root. That gives all that a quiesce takes of records and of what is prepared. It does nothing
-/// when it runs.
-pub fn whoever_is_prepared_settles()
-    ensures { HandlersSettle }
-{}
+ghost use Rattle.arj_law_promise.specs.settling.Settled.{QuiescesIdle, RoundsIdle};
 
 /// In every run a quiesce that begins where nobody waits and no frame is open, in which every node stays up and no limit is met, leaves
 /// every node idle: with no action that waits, no prepared action and no record; and the journal's last line says `quiet yes`. It

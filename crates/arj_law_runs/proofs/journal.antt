@@ -16,9 +16,7 @@ pub mod Models
 pub mod Tops
 pub mod Turns
 pub mod Paths
-pub mod Agreeing
 pub mod Closed
 pub mod Idles
 pub mod Nothing
 pub mod Owners
-pub mod UsedObjects

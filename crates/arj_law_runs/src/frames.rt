@@ -3,10 +3,9 @@ ghost use Rattle.std.specs.Prelude.{◌≡◌, ◌&&◌, ℕ, Bool, List, true, 
 ghost use Rattle.std.specs.List.{AllByRecursion};
 ghost use Rattle.arj_journal.specs.ScriptForm.{HeaderInForm};
 ghost use Rattle.arj_journal.specs.declared.header.Header.{Header};
-ghost use Rattle.arj_protocol.specs.World.{Arm, Asked, World, format, run_event};
 ghost use Rattle.arj_law_parts.specs.moves.Keeps.{Holds};
 ghost use Rattle.arj_law_parts.specs.moves.Moves.{Move, world_by};
-ghost use Rattle.arj_law_runs.specs.addresses.Addresses.{AreAddressed, AreSo, GoWithin, LineOf};
+ghost use Rattle.arj_law_runs.specs.addresses.Addresses.{AreSo, GoWithin, LineOf};
 
 /// In every run, wherever disks stop, what holds of 1, of each node of the header, and of the servers and stores of its objects,
 /// each of which lists a server, holds of every number that stands for a node: in every message that was ever sent, with whom it
@@ -15,13 +14,4 @@ ghost use Rattle.arj_law_runs.specs.addresses.Addresses.{AreAddressed, AreSo, Go
 pub fn frames_go_within()
     ensures named { (hd : Header) (test : ℕ → Bool) → test 1 ≡ true → ((s : ℕ) → (nat_le 1 s && nat_le s hd.nodes) ≡ true → test s ≡ true) → AllByRecursion (LineOf (λ n. test n ≡ true)) hd.objects → (ms : List Move) → Holds hd (AreSo (λ n. test n ≡ true)) (world_by hd ms) }
     ensures runs { (hd : Header) → HeaderInForm hd → (ms : List Move) → GoWithin hd.nodes (world_by hd ms) }
-{}
-
-/// What holds of a world that is formatted, is left by each event and by stops that are armed, and says where its frames go: so each
-/// frame goes to a node of the header whatever stops fall where. It does nothing when it runs.
-pub fn events_keep_addresses()
-    ensures first { (hd : Header) → HeaderInForm hd → Holds hd (AreAddressed hd) (format hd) }
-    ensures event { (hd : Header) → HeaderInForm hd → (e : Asked) (w : World) → Holds hd (AreAddressed hd) w → Holds hd (AreAddressed hd) (run_event e w) }
-    ensures arms { (hd : Header) (arms : List (ℕ × Arm)) (w : World) → Holds hd (AreAddressed hd) w → Holds hd (AreAddressed hd) (record w { arms = arms }) }
-    ensures within { (hd : Header) → HeaderInForm hd → (w : World) → Holds hd (AreAddressed hd) w → GoWithin hd.nodes w }
 {}

@@ -70,34 +70,18 @@
 //! `roots_note_accesses` and `plans_use_what_is_left` (`specs/Plans.antt`).
 #![tactic(auto)]
 
-mod addresses_bindings;
-mod below;
 mod bindings_bindings;
 mod frames;
 mod lines;
 mod names;
 mod rooms;
 mod rounds;
-mod runs;
-mod uses;
 mod votes;
 
-pub use addresses_bindings::calls_stand_on_bindings;
-pub use below::{
-    commits_close_what_is_below, decisions_have_owners, idle_tops_have_nothing,
-    plans_use_what_is_left,
-};
-pub use bindings_bindings::{calls_are_known_in_runs, runs_make_few_bindings};
-pub use frames::{events_keep_addresses, frames_go_within};
-pub use lines::{
-    journals_are_right, journals_are_sound, nodes_agree_with_journals, paths_are_those_of_journals,
-};
+pub use bindings_bindings::runs_make_few_bindings;
+pub use frames::frames_go_within;
+pub use lines::paths_are_those_of_journals;
 pub use names::labels_are_known;
 pub use rooms::trees_have_room;
-pub use rounds::{
-    quiesces_answer_whoever_waits, quiesces_leave_nothing_to_do, whoever_is_up_stays_up,
-    whoever_waits_is_answered,
-};
-pub use runs::parts_are_good_in_every_run;
-pub use uses::commits_ask_somebody;
-pub use votes::{calls_name_what_servers_reached, changes_are_called, votes_are_used};
+pub use rounds::{quiesces_leave_nothing_to_do, whoever_is_up_stays_up, whoever_waits_is_answered};
+pub use votes::{changes_are_called, votes_are_used};

@@ -1,16 +1,7 @@
 // What a quiesce leaves.
 ghost use Rattle.arj_law_runs.specs.resting.Answered.{QuiescesAnswerOrLeave, QuiescesGiveNothingUp, RunsAnswerOrWait};
 ghost use Rattle.arj_law_runs.specs.resting.Quiet.{QuiescesSettle, RoundsSettle};
-ghost use Rattle.arj_law_runs.specs.resting.Rounds.{QuiescesAnswer, RunsAnswer};
 ghost use Rattle.arj_law_runs.specs.resting.Ups.{AllStayUp, RunsStayUp};
-
-/// Take a relation that every handler keeps, and by which no request is void for which somebody waits, but one of a call that is
-/// overtaken. Then after a quiesce in which every node stays up and no limit is met nobody waits but calls that are overtaken: a
-/// call asks a server to take a binding or naming to record it, and a greater one of the object was made. It does nothing when it runs.
-pub fn quiesces_answer_whoever_waits()
-    ensures worlds { QuiescesAnswer }
-    ensures runs { RunsAnswer }
-{}
 
 /// Take a relation that every handler keeps, by which each record is told until all have acknowledged it, and whoever is prepared
 /// somewhere has ended, or is at its commit. Then a quiesce that begins where nobody waits and no frame is open, in which every node

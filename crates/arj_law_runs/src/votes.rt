@@ -1,5 +1,5 @@
 // What servers vote, and what calls name, in every run.
-ghost use Rattle.arj_law_runs.specs.calls.Voting.{RunsCall, RunsReach, RunsVote};
+ghost use Rattle.arj_law_runs.specs.calls.Voting.{RunsCall, RunsVote};
 
 /// After each run in whose journal naming made fewer than 2^32 - 1 bindings, with all frames that came in any order, again or never, all
 /// stops, crashes and restarts, what was voted to a commit that is under way are states of objects that its plan uses at the
@@ -12,11 +12,4 @@ pub fn votes_are_used()
 /// was answered to the top, or to an action that was committed into it. It does nothing when it runs.
 pub fn changes_are_called()
     ensures { RunsCall }
-{}
-
-/// After each such run a call that was sent names an earlier incarnation of its server than the present one; or the present one, in
-/// which that server, while it is up, has a copy of the call's object under the binding that the call names, or under a later
-/// one. It does nothing when it runs.
-pub fn calls_name_what_servers_reached()
-    ensures { RunsReach }
 {}

@@ -31,6 +31,4 @@ pub mod AlongKept
 pub mod AlongEvents
 pub mod AtEach
 pub mod AlongMoves
-pub mod Growing
 pub mod Among
-pub mod Holding

@@ -40,7 +40,6 @@ pub mod Recorded
 pub mod Surviving
 pub mod DecidedTops
 pub mod RestGiven
-pub mod Alone
 pub mod Takers
 pub mod Knowing
 pub mod Counting

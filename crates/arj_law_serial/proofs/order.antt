@@ -13,7 +13,6 @@ pub mod Entries
 pub mod Cleaning
 pub mod Votes
 pub mod Shown
-pub mod Running
 pub mod Taking
 pub mod Turning
 pub mod Includes

@@ -1,5 +1,3 @@
 pub mod Rows
 pub mod Effects
-pub mod Steps
 pub mod Holders
-pub mod FitRuns

@@ -17,7 +17,6 @@ pub mod DisksJoined
 pub mod Loads
 pub mod Joined
 pub mod Recorded
-pub mod Alone
 pub mod Joins
 pub mod Housed
 pub mod Includers

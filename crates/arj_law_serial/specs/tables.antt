@@ -1,3 +1,1 @@
 pub mod Tables
-pub mod Shown
-pub mod Fitting

@@ -1,39 +1,8 @@
 // What an object's machine begins with and how it decides, in whole runs, and that disks are clean after them.
-ghost use Rattle.arj_law_serial.specs.joint.Alone.{RunsCallAlone};
-ghost use Rattle.arj_law_serial.specs.joint.Begun.{ObjectsAreThere, RunsBeginSo};
 ghost use Rattle.arj_law_serial.specs.joint.Cleaned.{RunsAreClean};
-ghost use Rattle.arj_law_serial.specs.joint.Includers.{RunsTakeTurns};
 ghost use Rattle.arj_law_serial.specs.joint.Joined.{JoinedRunsAreSerial, JoinedRunsAreTied, RunsAreJoined};
-ghost use Rattle.arj_law_serial.specs.joint.Joins.{RunsSayIncludes};
 ghost use Rattle.arj_law_serial.specs.joint.Marked.{RunsAskMarks, RunsSayMarks};
-ghost use Rattle.arj_law_serial.specs.joint.Ordered.{RunsAreOrdered};
 ghost use Rattle.arj_law_serial.specs.joint.Shown.{ReadingsShowPairs, IncludesAreListed};
-
-/// After each run whose header and events are in form, of at most 1,000,000 events, with all frames that came in any order, again or never,
-/// all crashes and restarts, and stops wherever disks make them, there is for each object of the header a state of its disk machine in which
-/// it is seen, whose decisions are those of the journal, and whose first state and entry are the header's: no step changes them. A header in
-/// form has each of its objects by one line, with a store. It does nothing when it runs.
-pub fn runs_begin_as_the_header_says()
-    ensures begun { RunsBeginSo }
-    ensures objects { ObjectsAreThere }
-{}
-
-/// And its decided tops stand in the order of their commit calls against decisions: each had its commit called, and that of one which
-/// was decided earlier had been called at a place of the journal where the later one wasn't decided yet, by its line or by a record that
-/// was found; or nothing of the later one survives. And the stores that a decided top takes out of the list are those that its commit excluded, by the
-/// journal, and those that it adds the ones of its surviving includes that its commit didn't exclude; one that counts and gave nothing to the
-/// stores included one; and its root is the one at the head of its path there. Of a committed top that it hasn't decided, and whose commit
-/// didn't end without a record, nothing survives, and it excluded no store. And of each two of them that count the one that was decided
-/// first had its commit called first too, where the later one includes a store, or changes the object and the earlier one didn't
-/// (`includers`): so long as a commit uses what naming has of the object, that has given no other the right to change it. Of one that doesn't count and
-/// includes a store those that count and were decided before naming confirmed it had their commits called before, and left none of its stores listed;
-/// those that were decided behind had theirs called later, or include no store (`LightsAreSplit`). And whoever wrote the
-/// object before one that counts and only includes a store was said before that one's commit was called (`IncludersKnow`): what its commit loaded
-/// was known then by decisions that had been said, and is the last state as it is decided. It does nothing when it runs.
-pub fn decisions_come_behind_calls()
-    ensures ordered { RunsAreOrdered }
-    ensures includers { RunsTakeTurns }
-{}
 
 /// After each run whose header and events are in form, of at most 1,000,000 events, wherever disks stop, its nodes' disks are clean,
 /// however they are read (`DisksAre`), with no premise: of both machines of each object nothing is taken (`runs_have_both_machines`). That decided tops are the journal's,
@@ -71,17 +40,4 @@ pub fn runs_have_both_machines()
 pub fn commits_say_what_they_exclude()
     ensures said { RunsSayMarks }
     ensures asked { RunsAskMarks }
-{}
-
-/// In each run, wherever disks stop, of one root one commit at most goes on: where a line calls the commit of a top, each other action of its
-/// root whose commit was called before has its `committed` line by then, or was aborted. It does nothing when it runs.
-pub fn commits_of_a_root_go_on_alone()
-    ensures { RunsCallAlone }
-{}
-
-/// In each run, wherever disks stop, each commit under way at a node that is up includes, of each object, exactly the stores of its top's
-/// surviving includes by the journal so far, each once and in increasing order; and each answered include of an action of a coordinator is
-/// noted by the action's root as an include. It does nothing when it runs.
-pub fn commits_include_what_survives()
-    ensures { RunsSayIncludes }
 {}

@@ -66,60 +66,18 @@
 #![tactic(auto)]
 
 mod along;
-mod based;
 mod booked;
-mod decided;
-mod fitting;
-mod forms;
-mod held;
 mod holding_tables;
 mod joint_runs;
-mod locked;
-mod order_runs;
 mod outcomes;
-mod places;
-mod serial;
-mod shown;
-mod tables_tables;
-mod told;
-mod turns;
 mod whole_runs;
-mod writers;
 
 pub use along::runs_hold_locks_at_each_line;
-pub use based::votes_are_over_known_states;
 pub use booked::{runs_commit_what_was_called, runs_keep_the_lock_book};
-pub use decided::{
-    decisions_make_the_last_entry, decisions_make_the_last_state,
-    locks_give_the_order_of_decisions, readings_of_clean_disks_are_clean, seen_disks_are_clean,
-    votes_give_what_was_written,
-};
-pub use fitting::holders_have_their_paths;
-pub use forms::{answered_operations_are_in_form, runs_have_form};
-pub use held::joint_runs_hold_locks;
 pub use holding_tables::tables_show_locks;
-pub use joint_runs::{
-    commits_include_what_survives, commits_of_a_root_go_on_alone, commits_say_what_they_exclude,
-    decisions_come_behind_calls, runs_are_clean, runs_begin_as_the_header_says,
-    runs_have_both_machines,
-};
-pub use locked::{
-    tied_calls_are_locked_for, tied_includes_are_locked_for, tied_journals_hold_locks,
-};
-pub use order_runs::{seen_runs_are_clean, seen_runs_are_serial};
+pub use joint_runs::{commits_say_what_they_exclude, runs_are_clean, runs_have_both_machines};
 pub use outcomes::{
-    commits_are_done_behind_decisions, exclusion_in_time_tells_disks_apart,
-    joined_runs_exclude_in_time, one_outcome_tells_journals_apart, runs_exclude_in_time,
-    seen_runs_exclude_in_time,
+    exclusion_in_time_tells_disks_apart, joined_runs_exclude_in_time,
+    one_outcome_tells_journals_apart, runs_exclude_in_time,
 };
-pub use places::{begun_actions_have_their_paths, values_have_codes};
-pub use serial::{tied_journals_are_serial, tied_journals_keep_the_lock_book};
-pub use shown::tables_go_on_with_locks;
-pub use tables_tables::tables_go_by_objects;
-pub use told::whoever_was_told_has_ended;
-pub use turns::{
-    changers_take_turns, decided_tops_take_turns, includes_take_turns, turns_give_the_order,
-    writers_take_turns,
-};
-pub use whole_runs::{handlers_keep_the_whole, runs_call_their_objects};
-pub use writers::writers_are_called_as_they_are_decided;
+pub use whole_runs::runs_call_their_objects;

@@ -1,18 +1,11 @@
 // One outcome of each top, and that stores are excluded in time, by a journal.
 ghost use Rattle.std.specs.Prelude.{◌≡◌, false};
-ghost use Rattle.arj_law_serial.specs.joint.Excluded.{IsInTime, IsNew, NewWritersAreLast, NodesHaveForm, RunsBeginWithCalls, RunsExcludeInTimeByCalls, SeenRunsExcludeInTime};
+ghost use Rattle.arj_law_serial.specs.joint.Excluded.{IsInTime, IsNew};
 ghost use Rattle.arj_law_serial.specs.joint.DisksInTime.{DiskIsInTime, Lists, RunsExcludeInTimeOnDisks};
 ghost use Rattle.arj_law_serial.specs.joint.DisksJoined.{JoinedRunsAreInTime};
 ghost use Rattle.arj_law_serial.specs.joint.InTime.{RunsExcludeInTime};
-ghost use Rattle.arj_law_serial.specs.joint.Outcome.{CommitsAreBehind, ShowsOneOutcome, aborts_have_cause, commits_are_behind};
+ghost use Rattle.arj_law_serial.specs.joint.Outcome.{ShowsOneOutcome, aborts_have_cause, commits_are_behind};
 ghost use Rattle.arj_law_serial.specs.joint.Samples.{decided_lines, disks_decided, disks_late, found_commit, halted_abort, header, its_top, naming_late, naming_node, right_end, store_three, store_two, wrong_abort, wrong_commit, wrong_names_abort};
-
-/// In each run, with all frames in any order, again or never, all crashes and restarts, and stops wherever disks make them, each line that a
-/// commit was done, by a store or by naming, stands behind the `committed` line of its action, or behind the line that a restart found its record. It does
-/// nothing when it runs.
-pub fn commits_are_done_behind_decisions()
-    ensures runs { CommitsAreBehind }
-{}
 
 /// The definition of one outcome, tried on small journals: which it accepts, and which it refuses. It does nothing when it runs.
 pub fn one_outcome_tells_journals_apart()
@@ -37,21 +30,6 @@ pub fn exclusion_in_time_tells_disks_apart()
     ensures disk_prepared { DiskIsInTime header decided_lines 1 disks_decided its_top 2 }
     ensures disk_taken_out { DiskIsInTime header decided_lines 1 disks_decided its_top 3 }
     ensures disk_late { DiskIsInTime header decided_lines 1 disks_late its_top 3 → ⊥ }
-{}
-
-/// Take a world in which each object's disk machine is seen with its decided tops tied to the journal, what stands of objects is of their
-/// classes, as in every run whose header is in form, and each top that is new in the last event is the newest of those that changed what it
-/// wrote. Then stores are excluded in time: of each top that the last event decided, by its `committed` line or the line that its record was
-/// found, each store that the naming node's entry has for an object that it wrote holds the object's last state by the journal, or has it
-/// prepared for that top, or the naming node has prepared an entry without it, for that top or for another committed constituent of its
-/// serializing action. By the lock machine a new top that wrote is the newest of those that did, since in the last event of a run, wherever
-/// disks stop, nothing stands before a commit call; so of tops that only include a store that is asked alone. It does nothing when it runs.
-pub fn seen_runs_exclude_in_time()
-    ensures runs { SeenRunsExcludeInTime }
-    ensures begins { RunsBeginWithCalls }
-    ensures calls { RunsExcludeInTimeByCalls }
-    ensures writers { NewWritersAreLast }
-    ensures forms { NodesHaveForm }
 {}
 
 /// After each run whose header and events are in form, of at most 1,000,000 events, with all crashes and restarts, and stops wherever disks make

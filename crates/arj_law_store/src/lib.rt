@@ -7,7 +7,3 @@
 //! what the protocol does; and, as lemmas, laws of the protocol's maps by Uid (`proofs/Keys.antt`, `proofs/Held.antt`), and
 //! what a store is asked of an object and of an action (`proofs/Lookups.antt`).
 #![tactic(auto)]
-
-mod laws;
-
-pub use laws::store_calls_do_the_work;

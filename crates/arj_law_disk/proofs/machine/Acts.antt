@@ -1,22 +1,21 @@
 -- Every act keeps what holds at every moment, and so does every list of acts.
-use Rattle.std.proofs.Common.{◌≡◌, ◌⊎◌, ℕ, zero, suc, List, [], ◌∷◌, take, Bool, true, false, Some, refl, sym, ◌∙◌, ap, subst, inl, inr, ⊎_elim}
+use Rattle.std.proofs.Common.{◌≡◌, ◌⊎◌, ℕ, zero, suc, List, [], ◌∷◌, Bool, true, false, Some, refl, sym, ◌∙◌, ap, subst, inl, inr, ⊎_elim}
 use Rattle.arj_law_disk.specs.machine.Core.{Core}
 use Rattle.arj_law_disk.specs.machine.Effects
-use Rattle.arj_law_disk.specs.machine.Effects.{World, Whole, Allowed, changed}
+use Rattle.arj_law_disk.specs.machine.Effects.{Allowed}
 use Rattle.arj_law_disk.specs.machine.Guards.{IsPresent, May, MayDo, Runs, end_of}
 use Rattle.arj_law_disk.specs.machine.Messages.{Acked, IsOver}
 use Rattle.arj_law_disk.specs.machine.Named.{Named, IsHeld, IsWide, AnswerMeans}
 use Rattle.arj_law_disk.specs.machine.Names
-use Rattle.arj_law_disk.specs.machine.Names.{Names, Office, Act, Kept, Answer, Bound, Loaded, acted, retained, or_else}
-use Rattle.arj_law_disk.specs.machine.NamingLaws.{ActsAreAllowed}
+use Rattle.arj_law_disk.specs.machine.Names.{Names, Office, Act, Answer, Bound, Loaded, acted, retained}
 use Rattle.arj_law_disk.specs.machine.State.{State, naming, decided, undecided, is_open, is_gone}
 use Rattle.arj_law_disk.proofs.machine.Base.{never, falls_to, open_made, put_same}
 use Rattle.arj_law_disk.proofs.machine.Committing.{decide_named, commit_named}
-use Rattle.arj_law_disk.proofs.machine.Confirmed.{agreed_named, passed_named, entered_named, can_agree, can_pass, can_enter}
+use Rattle.arj_law_disk.proofs.machine.Confirmed.{agreed_named, passed_named, entered_named}
 use Rattle.arj_law_disk.proofs.machine.Ends.{end_top_named, end_serial_named}
 use Rattle.arj_law_disk.proofs.machine.Kin.{open_untold}
 use Rattle.arj_law_disk.proofs.machine.Locks.{read_named, write_named, exclude_named, lower_named, unbind_named}
-use Rattle.arj_law_disk.proofs.machine.Opening.{begun_named, can_begin}
+use Rattle.arj_law_disk.proofs.machine.Opening.{begun_named}
 use Rattle.arj_law_disk.proofs.machine.Plain.{took_named, sealed_named, halted_named, ended_bare_named, intended_named, removed_named, kept_named, moved_named, finished_named, dropped_named, sent_named, entry_moved_named, entry_finished_named, entry_dropped_named, entry_forgotten_named}
 use Rattle.arj_law_disk.proofs.machine.Restarts.{restart_named, hear_named, keep_list_named, answer_load_named}
 use Rattle.arj_law_disk.proofs.machine.Retaining.{had_after, had_cases, had_rises, had_root, had_top, kept_cases}
@@ -168,47 +167,3 @@ act_named A (Names.AnswerLoad t i s l g) x c = answer_load_named A t i s l g x c
 pub runs_keep : (A : Office) (acts : List Act) → Runs A acts → Named A → Named (end_of A acts)
 runs_keep A [] r c = c
 runs_keep A (a ∷ acts) r c = runs_keep (acted A a) acts r.1 (act_named A a r.0 c)
-
-pub front_runs : (A : Office) (n : ℕ) (acts : List Act) → Runs A acts → Runs A (take n acts)
-front_runs A zero acts r = tt
-front_runs A (suc n) [] r = tt
-front_runs A (suc n) (a ∷ acts) r = (r.0, front_runs (acted A a) n acts r.1)
-
--- what may be done is allowed
-pub do_allowed : (A : Office) (e : Effects.Effect) → MayDo A e → Named A → Allowed A.world e
-do_allowed A (Effects.Begin t p) x c = can_begin A t p x c
-do_allowed A (Effects.Take t s) x c = x
-do_allowed A (Effects.Seal t) x c = x
-do_allowed A (Effects.Intend t nodes) x c = x
-do_allowed A (Effects.Decide t) x c = x.0
-do_allowed A (Effects.Remove t nodes) x c = x
-do_allowed A (Effects.EndBare t) x c = x
-do_allowed A (Effects.Halt t) x c = x
-do_allowed A (Effects.Keep t s) x c = x
-do_allowed A (Effects.Move s h) x c = x
-do_allowed A (Effects.Finish s h) x c = x
-do_allowed A (Effects.Drop s h) x c = x
-do_allowed A (Effects.Agree t) x c = can_agree A t x c
-do_allowed A (Effects.Pass t) x c = can_pass A t x c
-do_allowed A (Effects.Enter t) x c = can_enter A t x c
-do_allowed A (Effects.MoveEntry h) x c = x
-do_allowed A (Effects.FinishEntry h) x c = x
-do_allowed A (Effects.DropEntry h) x c = x
-do_allowed A (Effects.Forget r h) x c = x
-do_allowed A (Effects.Send m) x c = x.0
-
-pub acts_are_allowed : ActsAreAllowed
-acts_are_allowed A (Names.Do e) x c = ((do_allowed A e x c, tt), refl)
-acts_are_allowed A (Names.Commit t) x c = ((x, tt), refl)
-acts_are_allowed A (Names.CommitBare t) x c = ((x, tt), refl)
-acts_are_allowed A (Names.Read t) x c = (tt, refl)
-acts_are_allowed A (Names.Write t b) x c = (tt, refl)
-acts_are_allowed A (Names.Exclude t) x c = (tt, refl)
-acts_are_allowed A (Names.Lower t) x c = (tt, refl)
-acts_are_allowed A Names.Unbind x c = (tt, refl)
-acts_are_allowed A (Names.EndTop t commits) x c = (tt, refl)
-acts_are_allowed A (Names.EndSerial r) x c = (tt, refl)
-acts_are_allowed A (Names.Restart yes_again) x c = (tt, refl)
-acts_are_allowed A (Names.Hear t i b l) x c = (tt, refl)
-acts_are_allowed A (Names.KeepList h t i l) x c = (tt, refl)
-acts_are_allowed A (Names.AnswerLoad t i s l g) x c = (tt, refl)

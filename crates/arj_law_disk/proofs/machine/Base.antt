@@ -1,7 +1,7 @@
 -- Tests of numbers, and functions changed at one place.
 use Rattle.std.proofs.Common.{◌≡◌, ◌⊎◌, ℕ, ◌<◌, List, Bool, true, false, cond, ◌==◌, ◌||◌, ◌&&◌, not, Option, Some, None, is_some, refl, sym, ◌∙◌, ap, subst, inl, inr, ⊎_elim, arith}
 use Rattle.std.proofs.lemmas.Bool.Decides.{Decides-eqb}
-use Rattle.arj_law_disk.specs.machine.State.{Packed, Stage, is_open, is_sealed, is_gone, is_idle, open_by, Below}
+use Rattle.arj_law_disk.specs.machine.State.{Packed, Stage, is_open, is_sealed, is_gone, open_by, Below}
 use Rattle.arj_law_disk.specs.machine.Words.{put, put2}
 
 pub bool_cases : (b : Bool) → (b ≡ true) ⊎ (b ≡ false)
@@ -109,18 +109,6 @@ gone_closed Stage.Idle e = refl
 gone_closed Stage.Preparing e = let n : false ≡ true = e in cc
 gone_closed Stage.Confirming e = let n : false ≡ true = e in cc
 gone_closed Stage.Gone e = refl
-
-pub sealed_not_idle : (g : Stage) → is_sealed g ≡ true → is_idle g ≡ false
-sealed_not_idle Stage.Idle e = let n : false ≡ true = e in cc
-sealed_not_idle Stage.Preparing e = refl
-sealed_not_idle Stage.Confirming e = refl
-sealed_not_idle Stage.Gone e = refl
-
-pub sealed_closed_gone : (g : Stage) → is_sealed g ≡ true → is_open g ≡ false → is_gone g ≡ true
-sealed_closed_gone Stage.Idle e c = e
-sealed_closed_gone Stage.Preparing e c = let n : false ≡ true = e in cc
-sealed_closed_gone Stage.Confirming e c = let n : true ≡ false = c in cc
-sealed_closed_gone Stage.Gone e c = refl
 
 -- a top whose outcome is open isn't decided, and is open or has its record
 pub open_done : (d : Bool) (g : Stage) (i : Option (List ℕ)) → open_by d g i ≡ true → d ≡ false

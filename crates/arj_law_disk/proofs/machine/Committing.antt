@@ -2,7 +2,7 @@
 use Rattle.std.proofs.Common.{◌≡◌, ◌⊎◌, ℕ, ◌<◌, ◌≤◌, List, Bool, true, false, cond, ◌==◌, not, Option, Some, None, is_some, nat_lt, unwrap_or, refl, sym, ◌∙◌, ap, subst, inl, inr, ⊎_elim, arith}
 use Rattle.arj_law_disk.specs.machine.Core.{Core}
 use Rattle.arj_law_disk.specs.machine.Effects
-use Rattle.arj_law_disk.specs.machine.Effects.{World, Whole, Allowed, after, changed, done_of}
+use Rattle.arj_law_disk.specs.machine.Effects.{Allowed, after, changed}
 use Rattle.arj_law_disk.specs.machine.Guards.{HasRow, IsUntold, IsPresent, IsGranted, IsUnretained}
 use Rattle.arj_law_disk.specs.machine.Messages.{Acked, IsOver}
 use Rattle.arj_law_disk.specs.machine.Named.{Named, Roots, IsHeld, IsLeaving, IsWide, IsLoad, AnswerMeans}

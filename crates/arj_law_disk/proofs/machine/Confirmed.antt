@@ -2,7 +2,7 @@
 use Rattle.std.proofs.Common.{◌≡◌, ◌⊎◌, ℕ, List, Bool, true, false, Option, Some, None, sym, ◌∙◌, ap, subst, inl, inr, ⊎_elim}
 use Rattle.arj_law_disk.specs.machine.Core.{Core}
 use Rattle.arj_law_disk.specs.machine.Effects
-use Rattle.arj_law_disk.specs.machine.Effects.{World, Whole, CanAgree, CanPass, CanEnter, changed, marked, entry_hold, new_list}
+use Rattle.arj_law_disk.specs.machine.Effects.{CanAgree, CanPass, CanEnter, changed, marked, entry_hold}
 use Rattle.arj_law_disk.specs.machine.Guards.{HasRow, IsUntold, HasPresent, IsPresent, HasPart, MayConfirm, MayAgree, MayPass, MayEnter}
 use Rattle.arj_law_disk.specs.machine.Messages.{IsOver, Confirm}
 use Rattle.arj_law_disk.specs.machine.Named.{Named, Grants, IsLeaving, IsWide, AnswerMeans, Plans}

@@ -2,14 +2,11 @@
 use Rattle.std.proofs.Common.{◌≡◌, ◌⊎◌, ℕ, Bool, true, false, Option, Some, None, refl, sym, ◌∙◌, ap, subst, inl, inr, ⊎_elim}
 use Rattle.arj_law_disk.specs.machine.Core.{Core, IsActive}
 use Rattle.arj_law_disk.specs.machine.Effects.{changed, MoveEntry, FinishEntry, DropEntry}
-use Rattle.arj_law_disk.specs.machine.State.{State, Packed, Hold, naming, decided, undecided, lists, last_entry, effective_by, Listed, IsExcused}
+use Rattle.arj_law_disk.specs.machine.State.{State, Packed, Hold, naming, decided, undecided, lists, last_entry, Listed, IsExcused}
 use Rattle.arj_law_disk.specs.machine.Words.{has}
 use Rattle.arj_law_disk.proofs.machine.Base.{bool_cases, never, some_is, open_done}
 use Rattle.arj_law_disk.proofs.machine.History.{effective_none, effective_done, effective_open}
 use Rattle.arj_law_disk.proofs.machine.Listing.{latest_decided}
-
-abbrev entry_by : (ℕ → Bool) → Option Hold → Packed → Packed
-entry_by done = effective_by done (λ (e : Packed). e)
 
 -- a decided top's prepared entry is the last one
 pub pending_last : (S : State) (h : Hold) → S.entry_pend ≡ Some h → decided S h.top ≡ true → Core S → h.new ≡ last_entry S

@@ -2,7 +2,7 @@
 use Rattle.std.proofs.Common.{◌≡◌, ◌⊎◌, ℕ, zero, suc, List, [], ◌∷◌, take, true, false, Some, refl, sym, ◌∙◌, ap, subst, inl, inr, ⊎_elim}
 use Rattle.arj_law_disk.specs.machine.Core.{Core}
 use Rattle.arj_law_disk.specs.machine.Effects
-use Rattle.arj_law_disk.specs.machine.Effects.{Effect, World, Whole, Mail, Allowed, Follows, MaySend, after, changed, mailed, run}
+use Rattle.arj_law_disk.specs.machine.Effects.{Effect, World, Whole, Allowed, Follows, MaySend, after, changed, run}
 use Rattle.arj_law_disk.specs.machine.Messages.{Message, Prepare, Prepared, Confirm, Confirmed, ToldCommit, ToldBare, ToldAbort, Acked, ToldSerial, Meaning}
 use Rattle.arj_law_disk.specs.machine.State.{State, Confirming, naming, is_sealed, is_gone, is_open, decided, undecided, hold}
 use Rattle.arj_law_disk.specs.machine.Words.{In, put}

@@ -1,51 +1,14 @@
 -- What a working top's write lock gives: the entry stays, and loads are of the last state.
 use Rattle.std.proofs.Common.{◌≡◌, ℕ, true, Option, Some, None, is_some, refl, sym, ◌∙◌, ap, subst, inl, inr, ⊎_elim}
 use Rattle.arj_law_disk.specs.machine.Core.{Core}
-use Rattle.arj_law_disk.specs.machine.Effects
 use Rattle.arj_law_disk.specs.machine.Named.{Named}
-use Rattle.arj_law_disk.specs.machine.Names
 use Rattle.arj_law_disk.specs.machine.Names.{Office}
-use Rattle.arj_law_disk.specs.machine.NamingLaws.{EntryStays, HoldsWrite, LoadsTheLast}
+use Rattle.arj_law_disk.specs.machine.NamingLaws.{HoldsWrite, LoadsTheLast}
 use Rattle.arj_law_disk.specs.machine.State.{State, Packed, Hold, decided, undecided, last, last_entry, IsExcused}
 use Rattle.arj_law_disk.specs.machine.Words.{has}
 use Rattle.arj_law_disk.proofs.machine.Base.{never_some, some_is}
 use Rattle.arj_law_disk.proofs.machine.History.{effective_none}
 use Rattle.arj_law_disk.proofs.machine.Restarts.{write_clears}
-
-pub entry_stays : EntryStays
-entry_stays A (Names.Do (Effects.MoveEntry h)) w x c holds = absurd (write_clears A c w holds.0 holds.1 holds.2 h x.0)
-entry_stays A (Names.Do (Effects.Begin t p)) w x c holds = refl
-entry_stays A (Names.Do (Effects.Take t s)) w x c holds = refl
-entry_stays A (Names.Do (Effects.Seal t)) w x c holds = refl
-entry_stays A (Names.Do (Effects.Intend t nodes)) w x c holds = refl
-entry_stays A (Names.Do (Effects.Decide t)) w x c holds = refl
-entry_stays A (Names.Do (Effects.Remove t nodes)) w x c holds = refl
-entry_stays A (Names.Do (Effects.EndBare t)) w x c holds = refl
-entry_stays A (Names.Do (Effects.Halt t)) w x c holds = refl
-entry_stays A (Names.Do (Effects.Keep t s)) w x c holds = refl
-entry_stays A (Names.Do (Effects.Move s h)) w x c holds = refl
-entry_stays A (Names.Do (Effects.Finish s h)) w x c holds = refl
-entry_stays A (Names.Do (Effects.Drop s h)) w x c holds = refl
-entry_stays A (Names.Do (Effects.Agree t)) w x c holds = refl
-entry_stays A (Names.Do (Effects.Pass t)) w x c holds = refl
-entry_stays A (Names.Do (Effects.Enter t)) w x c holds = refl
-entry_stays A (Names.Do (Effects.FinishEntry h)) w x c holds = refl
-entry_stays A (Names.Do (Effects.DropEntry h)) w x c holds = refl
-entry_stays A (Names.Do (Effects.Forget r h)) w x c holds = refl
-entry_stays A (Names.Do (Effects.Send m)) w x c holds = refl
-entry_stays A (Names.Commit t) w x c holds = refl
-entry_stays A (Names.CommitBare t) w x c holds = refl
-entry_stays A (Names.Read t) w x c holds = refl
-entry_stays A (Names.Write t b) w x c holds = refl
-entry_stays A (Names.Exclude t) w x c holds = refl
-entry_stays A (Names.Lower t) w x c holds = refl
-entry_stays A Names.Unbind w x c holds = refl
-entry_stays A (Names.EndTop t commits) w x c holds = refl
-entry_stays A (Names.EndSerial r) w x c holds = refl
-entry_stays A (Names.Restart yes_again) w x c holds = refl
-entry_stays A (Names.Hear t i b l) w x c holds = refl
-entry_stays A (Names.KeepList h t i l) w x c holds = refl
-entry_stays A (Names.AnswerLoad t i s l g) w x c holds = refl
 
 -- and then it is the last one
 pub entry_is_last : (A : Office) → Named A → (t : ℕ) → HoldsWrite A t → A.world.disk.entry ≡ last_entry A.world.disk

@@ -1,20 +1,16 @@
 -- What follows with the naming node's half.
-use Rattle.std.proofs.Common.{◌≡◌, ◌⊎◌, ℕ, ◌+◌, take, Bool, true, false, Option, Some, None, is_some, unwrap_or, refl, sym, ap, subst, inl, inr, ⊎_elim, arith}
+use Rattle.std.proofs.Common.{◌≡◌, ◌⊎◌, ℕ, ◌+◌, Bool, true, false, Option, Some, None, is_some, unwrap_or, refl, sym, ap, subst, inl, inr, ⊎_elim, arith}
 use Rattle.arj_law_disk.specs.machine.Core.{Core}
 use Rattle.arj_law_disk.specs.machine.Named.{Named}
 use Rattle.arj_law_disk.specs.machine.Names.{Office}
-use Rattle.arj_law_disk.specs.machine.NamingLaws.{FirstIsNamed, StopsStayNamed, IsBooked, OldNeedsRestart}
+use Rattle.arj_law_disk.specs.machine.NamingLaws.{FirstIsNamed, IsBooked, OldNeedsRestart}
 use Rattle.arj_law_disk.specs.machine.State.{State, Packed, is_open, undecided, decided, decided_in, state_for, last, Below}
 use Rattle.arj_law_disk.specs.machine.Words.{In}
-use Rattle.arj_law_disk.proofs.machine.Acts.{runs_keep, front_runs}
 use Rattle.arj_law_disk.proofs.machine.Base.{never, never_some, open_parts}
 use Rattle.arj_law_disk.proofs.machine.Booking.{agree_locked, enter_locked, changes_part, enter_free}
 use Rattle.arj_law_disk.proofs.machine.History.{known_below}
 use Rattle.arj_law_disk.proofs.machine.Listing.{plain_target}
 use Rattle.arj_law_disk.proofs.machine.Results.{first_is_whole}
-
-pub stops_stay_named : StopsStayNamed
-stops_stay_named A acts n r c = runs_keep A (take n acts) (front_runs A n acts r) c
 
 pub booked : (A : Office) → Named A → IsBooked A
 booked A c = record {

@@ -2,7 +2,7 @@
 use Rattle.std.proofs.Common.{List, ◌≡◌, ◌⊎◌, ℕ, Bool, true, false, cond, ◌==◌, Option, Some, None, is_some, nat_lt, refl, sym, ◌∙◌, ap, subst, inl, inr, ⊎_elim}
 use Rattle.arj_law_disk.specs.machine.Core.{Core}
 use Rattle.arj_law_disk.specs.machine.Effects
-use Rattle.arj_law_disk.specs.machine.Effects.{World, Whole, CanBegin, changed}
+use Rattle.arj_law_disk.specs.machine.Effects.{CanBegin, changed}
 use Rattle.arj_law_disk.specs.machine.Guards.{IsUntold, IsPresent, HasPart, MayBegin}
 use Rattle.arj_law_disk.specs.machine.Messages.{IsOver}
 use Rattle.arj_law_disk.specs.machine.Named.{Named, IsHeld, IsLeaving, IsWide, IsLoad, AnswerMeans}

@@ -1,7 +1,7 @@
 -- Effects of stores and coordinators, and the end of entries, with the naming node's half.
 use Rattle.std.proofs.Common.{◌≡◌, ◌⊎◌, ℕ, List, Bool, true, false, Option, Some, None, refl, sym, ◌∙◌, ap, subst, inl, inr, ⊎_elim}
 use Rattle.arj_law_disk.specs.machine.Effects
-use Rattle.arj_law_disk.specs.machine.Effects.{World, Whole, Effect, Allowed, after, changed, MaySend}
+use Rattle.arj_law_disk.specs.machine.Effects.{Whole, Allowed, changed, MaySend}
 use Rattle.arj_law_disk.specs.machine.Guards.{IsToldFirst}
 use Rattle.arj_law_disk.specs.machine.Messages.{Message, Acked, ToldCommit, ToldAbort, ToldSerial, IsOver}
 use Rattle.arj_law_disk.specs.machine.Named.{Named, IsLeaving, IsWide, AnswerMeans}

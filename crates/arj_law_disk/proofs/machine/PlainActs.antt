@@ -1,7 +1,7 @@
 -- Effects in which the naming node's half has no part.
 use Rattle.std.proofs.Common.{◌≡◌, ◌==◌, ◌||◌, not, [], ◌∷◌, map, true, false, refl, ◌∙◌, ap, subst, sym}
 use Rattle.arj_law_disk.specs.machine.Effects
-use Rattle.arj_law_disk.specs.machine.Effects.{World, Effect, Allowed, Follows, MaySend, after, run}
+use Rattle.arj_law_disk.specs.machine.Effects.{Effect, Allowed, after, run}
 use Rattle.arj_law_disk.specs.machine.Guards.{IsToldFirst, MayDo, Runs, end_of, is_only_of, tells_only_of}
 use Rattle.arj_law_disk.specs.machine.Messages as mail
 use Rattle.arj_law_disk.specs.machine.Names.{Names, Office, Do, noted}

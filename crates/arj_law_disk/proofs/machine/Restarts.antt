@@ -36,9 +36,6 @@ given_is entry (Some p) h a e = by (h == p.top) refl e
 given_has : (entry : Packed) (o : Option Hold) (p : Hold) → o ≡ Some p → given_row entry o p.top ≡ Some (given_mode entry p)
 given_has entry o p e = subst (λ x. given_row entry x p.top ≡ Some (given_mode entry p)) (sym e) (ap (λ b. cond b (Some (given_mode entry p)) None) (test_same p.top))
 
-pending_has : (o : Option Hold) (p : Hold) → o ≡ Some p → is_pending o p.top ≡ true
-pending_has o p e = subst (λ x. is_pending x p.top ≡ true) (sym e) (test_same p.top)
-
 any_true : (f : ℕ → Bool) (l : List ℕ) (s : ℕ) → has s l ≡ true → f s ≡ true → list_any f l ≡ true
 any_true f [] s h p = h
 any_true f (x ∷ l) s h p = ⊎_elim

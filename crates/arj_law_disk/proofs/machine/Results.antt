@@ -1,18 +1,16 @@
 -- What follows from what holds at every moment.
-use Rattle.std.proofs.Common.{◌≡◌, ◌⊎◌, ℕ, ◌+◌, ◌<◌, ◌≤◌, List, [], ◌∷◌, take, map, Bool, true, false, cond, ◌==◌, ◌&&◌, ◌||◌, not, Option, Some, None, is_some, unwrap_or, refl, sym, ◌∙◌, ap, subst, inl, inr, ⊎_elim, arith}
+use Rattle.std.proofs.Common.{◌≡◌, ◌⊎◌, ℕ, ◌+◌, ◌<◌, ◌≤◌, List, [], ◌∷◌, take, Bool, true, false, cond, ◌==◌, ◌&&◌, ◌||◌, not, Option, Some, None, is_some, unwrap_or, refl, sym, ◌∙◌, ap, subst, inl, inr, ⊎_elim, arith}
 use Rattle.std.specs.Str.{bytes_eq}
 use Rattle.arj_law_disk.specs.machine.Core.{Core, Chain}
-use Rattle.arj_law_disk.specs.machine.Effects
-use Rattle.arj_law_disk.specs.machine.Effects.{World, Effect, Allowed, Follows, Whole, after, changed, run}
+use Rattle.arj_law_disk.specs.machine.Effects.{World, Whole}
 use Rattle.arj_law_disk.specs.machine.Messages.{ToldCommit, ToldAbort, ToldSerial}
-use Rattle.arj_law_disk.specs.machine.Laws.{FirstIsWhole, StopsStayWhole, IsClean, IsExcludedInTime, AreExcludedInTime, OneCounts, HasOneOutcome, VersionsCount, writes_in, changes_in, OldIsCommitted}
+use Rattle.arj_law_disk.specs.machine.Laws.{FirstIsWhole, StopsStayWhole, IsClean, IsExcludedInTime, AreExcludedInTime, HasOneOutcome, VersionsCount, writes_in, changes_in, OldIsCommitted}
 use Rattle.arj_law_disk.specs.machine.State.{State, Packed, Plan, Done, naming, is_open, decided, decided_in, undecided, lists, state_for, hold, list_after, last_in, entry_in, last, last_entry, Known, KnownIn, Below, is_latest, IsExcused}
 use Rattle.arj_law_disk.specs.machine.Words.{has, In}
-use Rattle.arj_law_disk.proofs.machine.Base.{never, never_some, below_both, open_done, open_made, test_same, falls_to, or_left}
+use Rattle.arj_law_disk.proofs.machine.Base.{never, never_some, below_both, falls_to}
 use Rattle.arj_law_disk.proofs.machine.History.{known_below, effective_none, latest_is, in_decided}
-use Rattle.arj_law_disk.proofs.machine.Keeps.{effect_keeps, run_keeps, front_follows}
+use Rattle.arj_law_disk.proofs.machine.Keeps.{run_keeps, front_follows}
 use Rattle.arj_law_disk.proofs.machine.Listing.{plain_target}
-use Rattle.arj_law_disk.proofs.machine.Mail.{decide_falls}
 
 pub stops_stay_whole : StopsStayWhole
 stops_stay_whole W es n f w = run_keeps W (take n es) (front_follows W n es f) w
@@ -75,48 +73,6 @@ one_outcome W w = record {
   entry_dropped = λ h x. falls_to (decided W.disk h.top) (λ d. never (w.core.pending.listed h x.0 d) (w.mail (ToldAbort h.top naming) x.1).2);
   entry_forgotten = λ r h x. falls_to (decided W.disk h.top) (λ d. never (w.core.pending.listed h x.0 d) ((w.mail (ToldSerial r naming) x.1).1 h.top x.2));
 }
-
--- no confirmed top's outcome is open
-abbrev Nobody : State → Type 0
-Nobody S = (z : ℕ) → S.conf z ≡ true → undecided S z ≡ true → ⊥
-
-rest_light : (W : World) (ts : List ℕ) (t : ℕ) → Whole W → Follows W (map Effects.Decide ts) → Nobody W.disk → is_latest W.disk t ≡ true → is_latest (run W (map Effects.Decide ts)).disk t ≡ true
-rest_light W [] t w f n l = l
-rest_light W (z ∷ ts) t w f n l = rest_light (after W (Effects.Decide z)) ts t (effect_keeps W (Effects.Decide z) f.0 w) f.1 nobody latest
-  where
-    open_z : undecided W.disk z ≡ true
-    open_z = open_made (decided W.disk z) (W.disk.stage z) (W.disk.intent z) f.0.1 (inr f.0.0)
-
-    light : W.disk.light z ≡ true
-    light = ⊎_elim (λ (h : W.disk.conf z ≡ true). absurd (n z h open_z)) (λ (h : W.disk.light z ≡ true). h) (w.core.coordinators.record_taken z f.0.0)
-
-    nobody : Nobody (changed W.disk (Effects.Decide z))
-    nobody a ca u = n a ca (decide_falls W.disk z a u)
-
-    latest : is_latest (changed W.disk (Effects.Decide z)) t ≡ true
-    latest = subst (λ b. cond (not b) (z == t) (is_latest W.disk t) ≡ true) (sym light) l
-
-pub one_counts : OneCounts
-one_counts W [] t w f i wrote = absurd i
-one_counts W (z ∷ ts) t w f (inr i) wrote = one_counts (after W (Effects.Decide z)) ts t (effect_keeps W (Effects.Decide z) f.0 w) f.1 i wrote
-one_counts W (z ∷ ts) t w f (inl e) wrote = rest_light (after W (Effects.Decide z)) ts t (effect_keeps W (Effects.Decide z) f.0 w) f.1 nobody latest
-  where
-    open_z : undecided W.disk z ≡ true
-    open_z = open_made (decided W.disk z) (W.disk.stage z) (W.disk.intent z) f.0.1 (inr f.0.0)
-
-    heavy : W.disk.light z ≡ false
-    heavy = falls_to (W.disk.light z) (λ l. never (subst (λ n. is_some (W.disk.plan n).writes ≡ true) (sym e) wrote) (ap is_some (w.core.light.plain z l)))
-
-    conf : W.disk.conf z ≡ true
-    conf = ⊎_elim (λ (h : W.disk.conf z ≡ true). h) (λ (h : W.disk.light z ≡ true). absurd (never h heavy)) (w.core.coordinators.record_taken z f.0.0)
-
-    nobody : Nobody (changed W.disk (Effects.Decide z))
-    nobody a ca u =
-        let old = decide_falls W.disk z a u in
-        never (or_left (z == a) (decided W.disk a) (subst (λ n. (z == n) ≡ true) (w.core.alone.one z a conf open_z ca old) (test_same z))) (open_done ((z == a) || decided W.disk a) ((changed W.disk (Effects.Decide z)).stage a) (W.disk.intent a) u)
-
-    latest : is_latest (changed W.disk (Effects.Decide z)) t ≡ true
-    latest = subst (λ b. cond (not b) (z == t) (is_latest W.disk t) ≡ true) (sym heavy) (subst (λ n. (z == n) ≡ true) e (test_same z))
 
 -- versions
 

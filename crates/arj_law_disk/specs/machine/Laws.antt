@@ -1,6 +1,6 @@
 -- What follows from what holds at every moment: clean disks, exclusion in time, one outcome.
-use Rattle.std.specs.Prelude.{◌≡◌, ◌⊎◌, ℕ, ◌+◌, ◌<◌, ◌≤◌, List, [], ◌∷◌, take, map, true, false, ◌&&◌, not, Some, None, is_some, if◌then◌else◌, bytes_eq}
-use Rattle.arj_law_disk.specs.machine.Effects.{World, Effect, Decide, Move, Finish, Drop, MoveEntry, FinishEntry, DropEntry, Forget, Allowed, Follows, Whole, run}
+use Rattle.std.specs.Prelude.{◌≡◌, ◌⊎◌, ℕ, ◌+◌, ◌<◌, ◌≤◌, List, [], ◌∷◌, take, true, false, ◌&&◌, not, Some, None, is_some, if◌then◌else◌, bytes_eq}
+use Rattle.arj_law_disk.specs.machine.Effects.{World, Effect, Move, Finish, Drop, MoveEntry, FinishEntry, DropEntry, Forget, Allowed, Follows, Whole, run}
 use Rattle.arj_law_disk.specs.machine.State.{State, Packed, Hold, Done, Idle, decided, target, state_for, list_after, entry_in, last, last_entry, KnownIn, IsPast, Below, is_latest, IsExcused}
 use Rattle.arj_law_disk.specs.machine.Words.{has, In}
 
@@ -44,10 +44,6 @@ IsExcludedInTime S t s = (S.held s ≡ Some (last S)) ⊎ ((h : Hold) × (S.pend
 -- so it is of the latest top that wrote, and of each store that the entry lists
 abbrev pub AreExcludedInTime : State → Type 0
 AreExcludedInTime S = (t s : ℕ) → is_latest S t ≡ true → is_some (S.plan t).writes ≡ true → has s S.entry.content ≡ true → IsExcludedInTime S t s
-
--- Of tops that are decided one after another, as a restart reports them, one that wrote is the newest that counts.
-abbrev pub OneCounts : Type 0
-OneCounts = (W : World) (ts : List ℕ) (t : ℕ) → Whole W → Follows W (map Decide ts) → In t ts → is_some (W.disk.plan t).writes ≡ true → is_latest (run W (map Decide ts)).disk t ≡ true
 
 -- One outcome: what is committed anywhere is decided; what a decided top has prepared as a participant is aborted only
 -- after it was committed there; and its entry never is.

@@ -1,10 +1,10 @@
 -- What follows with the naming node's half.
-use Rattle.std.specs.Prelude.{◌≡◌, ℕ, ◌+◌, List, [], ◌∷◌, map, take, true, false, Some, None}
-use Rattle.arj_law_disk.specs.machine.Effects.{Effect, Locked, Decide, EndBare, Follows, run}
-use Rattle.arj_law_disk.specs.machine.Guards.{ArePlain, HasRow, May, Runs, end_of, IsPresent, MayAgree, MayEnter}
+use Rattle.std.specs.Prelude.{◌≡◌, ℕ, ◌+◌, List, [], ◌∷◌, map, true, false, Some, None}
+use Rattle.arj_law_disk.specs.machine.Effects.{Effect, Locked, Follows, run}
+use Rattle.arj_law_disk.specs.machine.Guards.{ArePlain, HasRow, Runs, end_of, IsPresent, MayAgree, MayEnter}
 use Rattle.arj_law_disk.specs.machine.Laws.{IsFirst}
 use Rattle.arj_law_disk.specs.machine.Named.{Named}
-use Rattle.arj_law_disk.specs.machine.Names.{Names, Office, Act, Do, Commit, CommitBare, Read, Write, Exclude, Lower, Unbind, EndTop, EndSerial, Restart, Hear, KeepList, AnswerLoad, acted}
+use Rattle.arj_law_disk.specs.machine.Names.{Names, Office, Do}
 use Rattle.arj_law_disk.specs.machine.Words.{has}
 use Rattle.arj_law_disk.specs.machine.State.{State, Packed, is_idle, undecided, target, state_for, last, Below}
 
@@ -28,31 +28,6 @@ pub record IsFirstNames (N : Names) : Type 0 where
 -- so what a format leaves holds together
 abbrev pub FirstIsNamed : Type 0
 FirstIsNamed = (S : State) (N : Names) → IsFirst S → IsForest S → IsFirstNames N → Named (record { world = record { disk = S; sent = [] }; names = N })
-
--- a list of acts, stopped anywhere
-abbrev pub StopsStayNamed : Type 0
-StopsStayNamed = (A : Office) (acts : List Act) (n : ℕ) → Runs A acts → Named A → Named (end_of A (take n acts))
-
--- the effects of an act on the disks
-abbrev pub effects_of : Act → List Effect
-effects_of (Do e) = e ∷ []
-effects_of (Commit t) = Decide t ∷ []
-effects_of (CommitBare t) = EndBare t ∷ []
-effects_of (Read t) = []
-effects_of (Write t b) = []
-effects_of (Exclude t) = []
-effects_of (Lower t) = []
-effects_of Unbind = []
-effects_of (EndTop t commits) = []
-effects_of (EndSerial r) = []
-effects_of (Restart yes_again) = []
-effects_of (Hear t i b l) = []
-effects_of (KeepList h t i l) = []
-effects_of (AnswerLoad t i s l g) = []
-
--- what may be done with the naming node's half is allowed on the disks, and does there what its effects do
-abbrev pub ActsAreAllowed : Type 0
-ActsAreAllowed = (A : Office) (a : Act) → May A a → Named A → Follows A.world (effects_of a) × ((acted A a).world ≡ run A.world (effects_of a))
 
 -- Effects in which the naming node's half has no part may be done as they are allowed, and leave it as it was; no top is
 -- decided by them.
@@ -78,10 +53,6 @@ OldNeedsRestart A = (t s : ℕ) (g : Packed) → undecided A.world.disk t ≡ tr
 -- the last state, and nobody of another root is confirmed with an open outcome.
 abbrev pub HoldsWrite : Office → ℕ → Type 0
 HoldsWrite A t = (A.world.disk.serial t ≡ false) × (is_idle (A.world.disk.stage t) ≡ true) × HasRow A.names t 2
-
--- while a top holds the write lock no act changes the entry
-abbrev pub EntryStays : Type 0
-EntryStays = (A : Office) (a : Act) (t : ℕ) → May A a → Named A → HoldsWrite A t → (acted A a).world.disk.entry ≡ A.world.disk.entry
 
 -- who holds the write lock loads the last state from a listed store with nothing prepared, and no confirmed top's outcome is open
 abbrev pub LoadsTheLast : Office → Type 0

@@ -212,10 +212,6 @@ is_latest S t = is_latest_in S.tops t
 abbrev pub Listed : State → ℕ → Type 0
 Listed S s = (has s S.entry.content ≡ true) ⊎ (has s (last_entry S).content ≡ true)
 
--- the top is this one, or it is decided and of the same root
-abbrev pub IsOwn : State → ℕ → ℕ → Type 0
-IsOwn S t z = (z ≡ t) ⊎ ((decided S z ≡ true) × (S.root z ≡ S.root t))
-
 -- a store that an entry of the top itself, or of a decided one of its root, is about to take out
 pub record Excused (root : ℕ → ℕ) (done : ℕ → Bool) (prepared : Option Hold) (t s : ℕ) : Type 0 where
   pub by_entry : Hold

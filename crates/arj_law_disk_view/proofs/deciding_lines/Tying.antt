@@ -17,7 +17,6 @@ use Rattle.arj_law_disk.specs.machine.Names.{Office}
 use Rattle.arj_law_disk.specs.machine.State.{decided, decided_in as is_among}
 use Rattle.arj_law_disk.proofs.machine.Base.{never, some_is}
 use Rattle.arj_law_parts.specs.moves.Keeps.{Holds, Keeps}
-use Rattle.arj_law_parts.specs.moves.Moves.{world_by}
 use Rattle.arj_law_parts.specs.moves.Seen.{Seen, at, down, given, said, see, up, AreQuiet}
 use Rattle.arj_law_parts.specs.moves.Walks.{Up, Walks, halted}
 use Rattle.arj_law_parts.proofs.moves.Together.{walks_both, walks_to}
@@ -25,7 +24,6 @@ use Rattle.arj_law_disk_view.specs.view.Deciding.{nodes_of}
 use Rattle.arj_law_disk_view.specs.view.Sees.{IsLater, Kinds, SeesDisks}
 use Rattle.arj_law_disk_view.specs.names.Both.{OnlyFound, SeesBoth}
 use Rattle.arj_law_disk_view.specs.names.Handlers.{Answering, Change, Changes, Deciding, Quietly, change_by}
-use Rattle.arj_law_runs.proofs.bindings.Events.{moves_reached}
 use Rattle.arj_law_runs.specs.calls.Reached.{IsReached}
 use Rattle.arj_law_runs.specs.calls.Runs.{KnowsFew}
 use Rattle.arj_law_disk_view.specs.running.Part.{Going, HasHeard, KeepsPart, are_recorded, going_of}
@@ -33,7 +31,7 @@ use Rattle.arj_law_disk_view.specs.running.Kinds.{kinds_of}
 use Rattle.arj_law_disk_view.proofs.running.Begun.{kinds_agree}
 use Rattle.arj_law_disk_view.specs.running.Bindings.{KnowsScript}
 use Rattle.arj_law_runs.proofs.calls.Given.{kept_both, keeps_given, while_given}
-use Rattle.arj_law_disk_view.proofs.running.Scripts.{part_few, part_more, reached_script}
+use Rattle.arj_law_disk_view.proofs.running.Scripts.{reached_script}
 use Rattle.arj_law_disk_view.proofs.running.Given.{gives_votes}
 use Rattle.arj_law_disk_view.specs.running.Entries.{HaveEntries}
 use Rattle.arj_law_disk_view.proofs.running.BothEach.{with_entries}
@@ -45,7 +43,7 @@ use Rattle.arj_law_runs.specs.journal.Knows.{IsKept, IsWritten, KnowsUp, AreLate
 use Rattle.arj_law_runs.proofs.journal.Books.{decided_later, Later, book_more, quiet_book}
 use Rattle.arj_law_runs.proofs.journal.Models.{decided_in, among}
 use Rattle.arj_law_runs.proofs.journal.Runs.{lines_keep, act_turns, message_turns, rest_goes, tick_turns}
-use Rattle.arj_law_disk_view.specs.deciding_lines.Said.{AreSaid, IsJournalled, IsKnownEarly, IsLate, IsTied, RunsAreJournalled, AreDone, IsDoneBy, WasBefore, WithTie}
+use Rattle.arj_law_disk_view.specs.deciding_lines.Said.{AreSaid, IsJournalled, IsKnownEarly, IsLate, IsTied, AreDone, IsDoneBy, WasBefore, WithTie}
 use Rattle.arj_law_disk_view.proofs.deciding_lines.IdleKnown.{KnowsIdle, knows_idle}
 use Rattle.arj_law_disk_view.proofs.deciding_lines.Owners.{decided_begun, whose_it_is}
 use Rattle.arj_law_disk_view.proofs.running.Grows.{later_lines}
@@ -58,8 +56,6 @@ use Rattle.arj_law_runs.specs.journal.Idle.{HasNothing, IsIdle}
 use Rattle.arj_law_runs.specs.journal.Laws.{AreDistinct, IsDone, IsSound}
 use Rattle.arj_law_runs.specs.journal.Right.{AreRight, has_act}
 use Rattle.arj_law_runs.proofs.journal.Nothing.{idle_has_nothing}
-use Rattle.arj_law_runs.specs.kept.Worlds.{IsGood}
-use Rattle.arj_law_runs.proofs.kept.AllRuns.{all_keep as parts_good}
 use Rattle.arj_law_runs.proofs.journal.Tops.{is_sound}
 use Rattle.arj_law_runs.proofs.journal.Turns.{IsOld, IsOldOr, late_walk}
 use Rattle.arj_law_disk_view.proofs.deciding_lines.Doing.{branch_done, done_later, none_open, record_done}
@@ -313,9 +309,3 @@ journalled_beside hd x Fits before R P kept parts w reached fits =
         let b = sound.reads in
         let same = one_act (acts_of lines) sound.distinct p a (subst (λ xs. Among p xs) b.begun (in_from p (let B = book lines in B.acts) its)) (in_from a (acts_of lines) there) uid in
         absurd (never (ap (λ (y : Act). is_top y.kind) same ∙ top) plain)
-
-journalled : (hd : Header) (x : ℕ) (R : Seen → Type 0) (P : Kinds → Office → Seen → Type 0) → Keeps hd R → KeepsPart hd x (λ W M. R M × KnowsScript M) P → (w : World) → IsReached hd w → Holds hd (IsJournalled x) w
-journalled hd x R P kept parts w reached = let h = journalled_beside hd x (λ ls. ⊤) (λ ls more f. tt) R P kept (part_more hd x (λ W M. R M × KnowsScript M) (λ W M. R M × IsKnownEarly (λ ls. ⊤) W M) P (λ W M q. (q.0, q.1.0.0)) parts) w reached tt in record { sent = h.sent; stands = h.stands; holds = h.holds.0 }
-
-pub runs_are_journalled : RunsAreJournalled
-runs_are_journalled hd x part parts ms short = journalled hd x IsGood (λ tops A M. part tops A M ≡ true) (parts_good hd) (part_few hd x IsGood (λ tops A M. part tops A M ≡ true) parts) (world_by hd ms) (moves_reached hd ms short)

@@ -16,11 +16,11 @@ use Rattle.arj_protocol.specs.Words.bound
 use Rattle.arj_protocol.specs.Ask.{top_of, top_path}
 use Rattle.arj_protocol.specs.Copy.{rows_asked}
 use Rattle.arj_protocol.specs.Effect as effect
-use Rattle.arj_protocol.specs.Effect.{Pair, Did, Served, reply, void}
-use Rattle.arj_protocol.specs.Named.{Named, Counted, Live, Made, bind_call, bind_include, bind_made, bind_named, bound_again, bound_live, bound_new, bound_write, conflict_on, entry_row, in_use, include_asked, is_binding, is_lowered, is_write_row, live_above, live_asked, locked, lowered, made_above, make_asked, note_made, note_named, note_other, next_server, refused_lock}
+use Rattle.arj_protocol.specs.Effect.{Pair, Served, reply, void}
+use Rattle.arj_protocol.specs.Named.{Named, Counted, Live, Made, bind_call, bind_made, bind_named, bound_live, bound_write, conflict_on, entry_row, include_asked, live_above, live_asked, locked, made_above, make_asked, next_server, refused_lock}
 use Rattle.arj_protocol.specs.Named as naming_named
 use Rattle.arj_protocol.specs.Naming as naming
-use Rattle.arj_protocol.specs.Naming.{Naming, bind, is_over, listed_entry, note, on_counted, on_named}
+use Rattle.arj_protocol.specs.Naming.{Naming, bind, is_over, listed_entry, on_counted}
 use Rattle.arj_protocol.specs.Order.{at_number, at_uid, put_number, put_uid, uid_number, with_uid}
 use Rattle.arj_protocol.proofs.Maps.{put_other as number_other, put_same as number_same}
 use Rattle.arj_protocol.proofs.Numbers.{number_tells}
@@ -28,7 +28,7 @@ use Rattle.arj_protocol.proofs.RowSteps.{one_or_two}
 use Rattle.arj_law_disk.specs.machine.Guards.{IsUntold, MayLock}
 use Rattle.arj_law_disk.specs.machine.Named as names
 use Rattle.arj_law_disk.specs.machine.Names as machine
-use Rattle.arj_law_disk.specs.machine.Names.{Names, Office, Act, Answer, acted, raised}
+use Rattle.arj_law_disk.specs.machine.Names.{Names, Office, Answer, acted, raised}
 use Rattle.arj_law_disk.specs.machine.State.{State, Packed}
 use Rattle.arj_law_disk.specs.machine.Words.{put}
 use Rattle.arj_law_disk.proofs.machine.Base.{falls_to, never, never_some, or_left, or_right, put_cases, put_same, some_is, test_same}

@@ -6,11 +6,11 @@ use Rattle.arj_protocol.specs.Naming.{Naming}
 use Rattle.arj_protocol.specs.Node.{Parts}
 use Rattle.arj_protocol.specs.Says.{AreAll}
 use Rattle.arj_law_disk.specs.machine.Effects as machine
-use Rattle.arj_law_disk.specs.machine.Effects.{World, Whole, Allowed, Follows, after, done_of, run}
+use Rattle.arj_law_disk.specs.machine.Effects.{World, Whole, Allowed, after, done_of}
 use Rattle.arj_law_disk.specs.machine.Guards.{HasPart, MayBegin, is_only_of, only_begins, only_decides, tells_only_of}
 use Rattle.arj_law_disk.specs.machine.Messages as mail
 use Rattle.arj_law_disk.specs.machine.Named.{Named}
-use Rattle.arj_law_disk.specs.machine.Names.{Answer, AnswerLoad, Bound, Loaded, Names, Office, Do as act, Commit, CommitBare, Kept, lists_after, or_else, retained, with_list, written_in}
+use Rattle.arj_law_disk.specs.machine.Names.{Answer, Names, Office, Do as act, Commit, CommitBare, Kept, lists_after, or_else, retained, with_list, written_in}
 use Rattle.arj_law_disk.specs.machine.Offices.{chosen}
 use Rattle.arj_law_disk.specs.machine.State.{State, Plan, Stage, Preparing, Confirming, Gone, decided as is_decided, decided_in as in_these, is_gone, is_open, is_sealed, undecided}
 use Rattle.arj_law_disk.proofs.machine.Acts.{runs_keep}
@@ -25,29 +25,17 @@ use Rattle.arj_law_parts.specs.moves.Walks.{Walks, Up, halted}
 use Rattle.arj_protocol.specs.Words.{Uid}
 use Rattle.arj_law_disk_view.specs.view.Sees.{Along, IsFixed, IsLater, IsSeenByDisks, Kinds, SeesDisks, followed}
 use Rattle.arj_law_disk_view.proofs.view.Later.{effects_are_later, later_on, later_same}
-use Rattle.arj_protocol.specs.Words.loaded
-use Rattle.arj_protocol.specs.Ask.{Reply, asked_by, response}
-use Rattle.arj_protocol.specs.Coord.{Grant, with_grant}
-use Rattle.arj_protocol.specs.Effect.{Look}
-use Rattle.arj_protocol.specs.Node.{load_by, load_held}
 use Rattle.arj_protocol.specs.Order.{uid_number}
-use Rattle.arj_law_disk.specs.machine.Guards.{end_of}
 use Rattle.arj_law_disk.specs.machine.State.{Idle}
 use Rattle.arj_law_disk.specs.machine.Words.{has, put, put2}
 use Rattle.arj_protocol.specs.Commit.{is_empty}
-use Rattle.arj_law_disk_view.specs.view.Pairs.{packed}
-use Rattle.arj_law_disk_view.proofs.view.StoreSteps.{stores_load}
-use Rattle.arj_law_disk_view.proofs.view.StoreWalks.{took_is}
-use Rattle.arj_law_disk_view.specs.names.Grants.{SeesGrants}
-use Rattle.arj_law_disk_view.specs.names.Lists.{IsTopOf, LeavesOthers, OnlyKept, SeesLists}
-use Rattle.arj_law_disk_view.specs.names.Memory.{NamesGo}
+use Rattle.arj_law_disk_view.specs.names.Lists.{IsTopOf, LeavesOthers, OnlyKept}
 use Rattle.arj_law_disk_view.proofs.names.BareEnds.{bare_wrote, begun_bare, none_ended, opens_none, plain_bare}
-use Rattle.arj_law_disk_view.proofs.names.GrantSteps.{grants_stay, heard}
-use Rattle.arj_law_disk_view.proofs.names.ListSteps.{lists_are_heard, kept_still}
-use Rattle.arj_law_disk_view.specs.names.Both.{IsOpenByDisks, IsOpenIn, HasNoPart, HowDecided, IsEndedBare, IsOnly, IsRecorded, decided_names, ended_names, has_part, CallsKeepBoth, IsAnswered, LoadsKeepBoth, HasGoneOn, OnlyAnswers, OnlyAtNode, BeginningsKeepBoth, BothWalk, DecisionsKeepBoth, DisksWalk, IsOther, IsSeenFrom, IsSeenIn, OnlyRoots, OpensNone, SeesBoth, is_no_work, leaves_the_inc}
+use Rattle.arj_law_disk_view.proofs.names.GrantSteps.{heard}
+use Rattle.arj_law_disk_view.specs.names.Both.{IsOpenByDisks, IsOpenIn, HasNoPart, HowDecided, IsEndedBare, IsOnly, IsRecorded, decided_names, ended_names, has_part, HasGoneOn, OnlyAnswers, OnlyAtNode, BeginningsKeepBoth, BothWalk, DecisionsKeepBoth, DisksWalk, IsOther, IsSeenFrom, IsSeenIn, OnlyRoots, OpensNone, SeesBoth, is_no_work, leaves_the_inc}
 use Rattle.arj_law_disk_view.specs.names.Memory.{SeesNaming}
 use Rattle.arj_law_disk_view.proofs.names.Onward.{goes_onward}
-use Rattle.arj_law_disk_view.proofs.names.Pairing.{Ends, walked_both, Stepped, left_disk, naming_on, seen_as, steps, steps_to, stopped_both, unfollowed, walks_at}
+use Rattle.arj_law_disk_view.proofs.names.Pairing.{Stepped, left_disk, naming_on, seen_as, steps, steps_to, stopped_both, unfollowed, walks_at}
 
 -- ---- what may be noted
 
@@ -508,31 +496,6 @@ answered_naming x tops n S N had kept answers s = record {
   object = λ o is. let so = s.object o is in record { rows = so.rows; asked = so.asked; sorted = so.sorted; made = so.made; live = so.live };
 }
 
--- Behind a walk in which naming's half has no part, and which leaves naming's memory, answers are taken or given by acts.
-pub answered_both : (x : ℕ) (tops : Kinds) (e k : ℕ) (d : Disk) (t v : Parts) (outs : List Effect) (Q : Office → Type 0) (A : Office) (M : Seen) → tops.walk ≡ None → AreAll leaves_the_inc outs → v.naming ≡ t.naming → SeesBoth x tops A (up k d t M)
-    → ((C : Office) (N : Seen) → Named C → HasGoneOn A C → SeesDisks x tops C.world (up k (left_disk outs d) v N) → NamesGo C (λ D. OnlyAnswers C D × Q D))
-    → DisksWalk (λ n. false) x tops A e k outs v d M → Walks (IsSeenFrom x tops A) e k outs (IsAnswered x tops k v A Q) d M
-answered_both x tops e k d t v outs Q A M unwalked all naming both acts walk = walked_both x tops unwalked e k d t v A M both (IsAnswered x tops k v A Q) outs all ends walk
-  where
-    ends : Ends x tops unwalked e k d t v A M both (IsAnswered x tops k v A Q) (left_disk outs d)
-    ends N W s disks inc same =
-        let C : Office = record { world = W; names = A.names } in
-        let on : HasGoneOn A C = record { names = refl; later = s.later; tops = s.tops } in
-        let go = acts C N s.named on disks in
-        let D : Office = end_of C go.acts in
-        let only : OnlyAnswers C D = go.there.0 in
-        let memory : (o : Naming) → SeesNaming x tops o A.world.disk A.names → SeesNaming x tops o D.world.disk D.names = λ o z.
-        subst (λ V. SeesNaming x tops o V.disk D.names) (sym only.world) (subst (λ L. SeesNaming x tops o W.disk L) (sym only.names) (answered_naming x tops o W.disk A.names D.names.had D.names.kept D.names.answers (naming_on x tops o A.world.disk W.disk A.names s.later.root z))) in (
-          C,
-          D,
-          on,
-          only,
-          seen_as x tops k d (Some t) A M both v D N (left_disk outs d) (runs_keep C go.acts go.may s.named) (ap (λ (L : Names). L.inc) only.names) (subst (λ V. SeesDisks x tops V (up k (left_disk outs d) v N)) (sym only.world) disks) inc same
-              (λ o one is. memory o (both.names.memory (record { number = k; disk = d; live = Some t }) t o (ap (λ m. (up k d t M).nodes m) (sym one) ∙ node_here M k (record { number = k; disk = d; live = Some t })) refl (sym naming ∙ is)))
-              (λ other. memory),
-          go.there.1,
-        )
-
 -- where grants and kept lists alone have changed no answer was given
 pub kept_only : (t g : ℕ) (C D : Office) → OnlyKept C D → D.names.had ≡ put2 t g true C.names.had → C.world.disk.stage t ≡ Idle → C.world.disk.serial t ≡ false → OnlyAnswers C D
 kept_only t g C D only had idle plain = record {
@@ -546,16 +509,6 @@ kept_only t g C D only had idle plain = record {
 
 -- of roots nothing changes by an answer to a Load
 module _ (A C : Office) (on : HasGoneOn A C) where
-  pub nothing_of_roots : (a : Answer) → OnlyAtNode (λ n. false) A (record { world = C.world; names = record C.names { answers = a ∷ C.names.answers } })
-  nothing_of_roots a = record {
-    root = on.later.root;
-    grows = λ h i had. ap (λ (L : Names). L.had h i) on.names ∙ had;
-    had = λ h o. ap (λ (L : Names). L.had h) on.names;
-    kept = λ h o. ap (λ (L : Names). L.kept h) on.names;
-    tops = λ r o. ap (written_in A.world.disk.root r) on.tops;
-    answers = λ b j. inr (subst (λ (L : Names). In b L.answers) (sym on.names) j);
-  }
-
   -- by an answer to a call of a top what is kept and had of another root stays
   pub others_left : (tops : Kinds) (root top : Uid) (g : ℕ) (D : Office) → IsFixed tops A.world.disk → IsTopOf tops root top → OnlyKept C D → D.names.had ≡ put2 (uid_number top) g true C.names.had → LeavesOthers tops root C D → OnlyAtNode (λ n. n == uid_number top) A D
   others_left tops root top g D fixed of only had leaves = record {
@@ -566,45 +519,3 @@ module _ (A C : Office) (on : HasGoneOn A C) where
     tops = λ r o. ap (λ (V : World). written_in A.world.disk.root r V.disk.tops) only.world ∙ ap (written_in A.world.disk.root r) on.tops;
     answers = λ b j. subst (λ (L : Names). In b L.answers) (sym only.names) (subst (λ (L : Names). In b L.answers) (sym on.names) j);
   }
-
-pub loads_keep_both : LoadsKeepBoth
-loads_keep_both x tops e k d t v from h st top i l outs A M unwalked is free held answered listed both walk =
-    took_is x k tops e (λ p es. DisksWalk (λ n. false) x tops A e k es p d M → Walks (IsSeenFrom x tops A) e k es (IsAnswered x tops k p A (λ D. In (Loaded top i (packed st)) D.names.answers × OnlyAtNode (λ n. false) A D)) d M) t (Do Look ∷ Send from (response (asked_by h) (Reply.Loaded (loaded.State st))) ∷ []) v outs
-    (sym (ap (λ o. load_by x d.store from h t o) free ∙ ap (λ o. load_held from h t o) held) ∙ is)
-    (answered_both x tops e k d t t (Do Look ∷ Send from (response (asked_by h) (Reply.Loaded (loaded.State st))) ∷ []) (λ D. In (Loaded top i (packed st)) D.names.answers × OnlyAtNode (λ n. false) A D) A M unwalked refl refl both acts) walk
-  where
-    acts : (C : Office) (N : Seen) → Named C → HasGoneOn A C → SeesDisks x tops C.world (up k d t N) → NamesGo C (λ D. OnlyAnswers C D × (In (Loaded top i (packed st)) D.names.answers × OnlyAtNode (λ n. false) A D))
-    acts C N c on disks =
-        let q = stores_load x k d.store C.world.disk st (disks.stores k (record { number = k; disk = d; live = Some t }) (node_here N k (record { number = k; disk = d; live = Some t }))) free held in
-        record {
-          acts = AnswerLoad top i k l (packed st) ∷ [];
-          may = (record { answered = subst (λ (L : Names). In (Bound top i true l) L.answers) (sym on.names) answered; listed = listed; free = q.0; held = q.1 }, tt);
-          there = (record { world = refl; names = refl; answers = λ a j. inr j; grows = λ h z old. old; narrows = λ h v is. kept_still v (C.names.kept h) is; heard = λ h z old. inl old }, (inl refl, nothing_of_roots A C on (Loaded top i (packed st))));
-        }
-
-pub calls_keep_both : CallsKeepBoth
-calls_keep_both x g tops e k d t v outs root top c r q known place free A M unwalked all naming idle answered grants lists lasting of own now step stays both walk =
-    answered_both x tops e k d t v outs (λ D. SeesGrants x root c q D.world.disk D.names × SeesLists x tops root c q D.names × OnlyAtNode (λ n. n == uid_number top) A D) A M unwalked all naming both acts walk
-  where
-    acts : (C : Office) (N : Seen) → Named C → HasGoneOn A C → SeesDisks x tops C.world (up k (left_disk outs d) v N) → NamesGo C (λ D. OnlyAnswers C D × (SeesGrants x root c q D.world.disk D.names × SeesLists x tops root c q D.names × OnlyAtNode (λ n. n == uid_number top) A D))
-    acts C N n on disks =
-        let z = idle C (left_disk outs d) N on disks in
-        let grants_now : SeesGrants x root c r C.world.disk C.names = grants_stay x root c c r r A.world.disk C.world.disk C.names (subst (λ L. SeesGrants x root c r A.world.disk L) (sym on.names) grants) refl (λ w h. h) on.later.root on.later.serial in
-        let asked : In (Bound (uid_number top) g false known.stores) C.names.answers = subst (λ (L : Names). In (Bound (uid_number top) g false known.stores) L.answers) (sym on.names) answered in
-        let go = lists_are_heard x g tops root top c r q known place free C n disks.fixed grants_now (subst (λ L. SeesLists x tops root c r L) (sym on.names) lists) lasting of own z asked now step in
-        let only = go.there.0 in
-        record {
-          acts = go.acts;
-          may = go.may;
-          there = (
-            kept_only (uid_number top) g C (end_of C go.acts) only go.there.2 z (ap (λ f. f (uid_number top)) disks.fixed.serial ∙ of.plain),
-            (subst (λ V. SeesGrants x root c q V.disk (end_of C go.acts).names) (sym only.world) (granted_on (end_of C go.acts).names go.there.2 grants_now z), go.there.1, others_left A C on tops root top g (end_of C go.acts) (let f = both.disks in f.fixed) of only go.there.2 go.there.3),
-          );
-        }
-      where
-        granted_on : (L : Names) → L.had ≡ put2 (uid_number top) g true C.names.had → SeesGrants x root c r C.world.disk C.names → C.world.disk.stage (uid_number top) ≡ Idle → SeesGrants x root c q C.world.disk L
-        granted_on L had_is grants_now z =
-            let new : Grant = record { top = top; x = x; least = g; named = Some known.binding } in
-            let one : SeesGrants x root c (with_grant new r) C.world.disk (record C.names { had = put2 (uid_number top) g true C.names.had }) = heard x root c r new C grants_now (ap (λ f. f (uid_number top)) disks.fixed.root ∙ of.of_root) (ap (λ f. f (uid_number top)) disks.fixed.serial ∙ of.plain) refl in
-            let two : SeesGrants x root c (with_grant new r) C.world.disk L = record { own = λ w j is off has. one.own w j is off (ap (λ f. f (uid_number w) j) (sym had_is) ∙ has); least = λ m there is. ap (λ f. f (uid_number m.top) m.least) had_is ∙ one.least m there is; kept = λ j s has. one.kept j s (ap (λ f. f (uid_number root) j) (sym had_is) ∙ has) } in
-            grants_stay x root c c (with_grant new r) q C.world.disk C.world.disk L two step.grants stays refl refl

@@ -14,7 +14,7 @@ use Rattle.arj_protocol.specs.Words.ending
 use Rattle.arj_protocol.specs.Commit as commit
 use Rattle.arj_protocol.specs.Commit.{has_record, participants}
 use Rattle.arj_protocol.specs.Coord as coord
-use Rattle.arj_protocol.specs.Coord.{Coord, Doing, Idle, Joined, Keeping, Root, Said, is_constituent_branch, is_kept_top, keeping_of, kept_of, no_keeping, no_root, on_doing, on_root, retained_in, root_at, second_uid, survives, top_uses}
+use Rattle.arj_protocol.specs.Coord.{Coord, Doing, Idle, Joined, Keeping, Root, Said, is_constituent_branch, is_kept_top, kept_of, no_keeping, no_root, on_doing, on_root, retained_in, root_at, second_uid, survives, top_uses}
 use Rattle.arj_protocol.specs.Ending.{decided, kept_after, keeping_after, root_after}
 use Rattle.arj_protocol.specs.Order.{at_number, each, put_number, put_uid}
 use Rattle.arj_protocol.specs.Tree.{Branch, behind, branch_of, ended_at, ended_so, has_end, is_aborted, is_committed, is_constituent, is_merged, is_spent, root_of}

@@ -30,7 +30,7 @@ use Rattle.arj_law_disk.specs.machine.Guards.{IsUntold}
 use Rattle.arj_law_disk.specs.machine.Messages.{ToldAbort, ToldBare, ToldCommit, ToldSerial}
 use Rattle.arj_law_disk.specs.machine.Named as names
 use Rattle.arj_law_disk.specs.machine.Names as machine
-use Rattle.arj_law_disk.specs.machine.Names.{Names, Office, acted, passed, rows_after, rows_left}
+use Rattle.arj_law_disk.specs.machine.Names.{Names, Office, acted, passed, rows_after}
 use Rattle.arj_law_disk.specs.machine.State.{State, Hold, naming}
 use Rattle.arj_law_disk.specs.machine.Words.{In, put}
 use Rattle.arj_law_disk.proofs.machine.Base.{bool_cases, falls_to, never, or_left, put_cases, put_same, put_other, some_is, test_is, test_same, test_not}

@@ -4,30 +4,21 @@ use Rattle.std.specs.Prelude.{if◌then◌else◌}
 use Rattle.std.proofs.lemmas.Bool.{and_parts}
 use Rattle.arj_base.proofs.Uids.{uid_is, uid_same}
 use Rattle.arj_lock.proofs.Members.{In as Stands, in_from, in_to}
-use Rattle.arj_protocol.specs.Words.{Uid, BoundReply, LoadedReply, RecordedReply, uid_eq}
-use Rattle.arj_protocol.specs.Words.bound
-use Rattle.arj_protocol.specs.Words.loaded
-use Rattle.arj_protocol.specs.Words.recorded
-use Rattle.arj_protocol.specs.Words.invoked
-use Rattle.arj_protocol.specs.Ask.{Reply}
-use Rattle.arj_protocol.specs.Asking.{granted_by}
-use Rattle.arj_protocol.specs.Call as call
-use Rattle.arj_protocol.specs.Call.{At, AtActivate, AtBind, AtInvoke, AtLoad, AtNote, CallStep, On, Ended, Goal, Run, Include, Known, Moved, activated_by, answered, bound_answer, bound_by, invoked_answer, loaded_answer, load_from, made_by, made_known, live_known, other_binding, recorded_answer, same_binding, with_inc, write_known}
+use Rattle.arj_protocol.specs.Words.{Uid, uid_eq}
 use Rattle.arj_protocol.specs.Commit as commit
 use Rattle.arj_protocol.specs.Commit.{Used, least_of}
 use Rattle.arj_protocol.specs.Coord.{Coord, Grant, Root, counts_grant, granted_with, is_grant_of, is_kept_top, least_grant, named_last, objects_in, top_uses, used_of, with_grant}
-use Rattle.arj_protocol.specs.Order.{binding_eq, binding_less, uid_number}
+use Rattle.arj_protocol.specs.Order.{uid_number}
 use Rattle.arj_protocol.proofs.Numbers.{number_tells}
 use Rattle.arj_law_disk.specs.machine.Guards.{HasPart}
 use Rattle.arj_law_disk.specs.machine.Named.{Roots}
-use Rattle.arj_law_disk.specs.machine.Names as machine
-use Rattle.arj_law_disk.specs.machine.Names.{Names, Office, acted, retained}
+use Rattle.arj_law_disk.specs.machine.Names.{Names, Office, retained}
 use Rattle.arj_law_disk.specs.machine.State.{State}
 use Rattle.arj_law_disk.specs.machine.Words.{has, put2}
-use Rattle.arj_law_disk.proofs.machine.Base.{bool_cases, never, or_cases, or_left, or_right, put_cases, put2_rises, put2_same, put2_true, some_is, test_cases, test_is, test_same}
+use Rattle.arj_law_disk.proofs.machine.Base.{bool_cases, never, or_cases, or_left, or_right, put_cases, put2_rises, put2_same, put2_true, test_is, test_same}
 use Rattle.arj_law_disk_view.specs.view.Plans.{plan_at, plan_by, used_at}
 use Rattle.arj_law_disk_view.specs.names.Booked.{HasGrant, NamesGrants}
-use Rattle.arj_law_disk_view.specs.names.Grants.{GrantsAreHeard, GrantsAreNamed, GrantsAreRetained, GrantsStay, HasLeast, HasTaken, SeesGrants, StandsOn, StepStandsOn, StepsStandOnGrants, is_retained}
+use Rattle.arj_law_disk_view.specs.names.Grants.{GrantsAreRetained, GrantsStay, HasLeast, SeesGrants, is_retained}
 
 -- ---- lists of grants
 
@@ -94,14 +85,6 @@ module _ (x : ℕ) (root : Uid) (c : Coord) (r : Root) (g : Grant) (A : Office) 
   abbrev Had : ℕ → ℕ → Bool
   Had = put2 (uid_number g.top) g.least true A.names.had
 
-  -- an answer of another object
-  elsewhere : (g.x ≡ x → ⊥) → SeesGrants x root c (with_grant g r) A.world.disk A.names
-  elsewhere other = record {
-    own = λ w i is off had. least_with x w i g r.grants (s.own w i is off had);
-    least = λ k there is. came_from (λ z. z.x ≡ x → A.names.had (uid_number z.top) z.least ≡ true) g r.grants (λ h i e. s.least h (in_to h r.grants i) e) (λ e. absurd (other e)) (λ h i top of e. absurd (other (sym of ∙ e))) k (in_from k (granted_with g r.grants) there) is;
-    kept = λ i serial had. let f = s.kept i serial had in (f.0, f.1, least_with x f.0 i g r.grants f.2);
-  }
-
   pub heard : g.x ≡ x → SeesGrants x root c (with_grant g r) A.world.disk (record A.names { had = put2 (uid_number g.top) g.least true A.names.had })
   heard same = record {
     own = λ w i is off had. ⊎_elim
@@ -114,20 +97,6 @@ module _ (x : ℕ) (root : Uid) (c : Coord) (r : Root) (g : Grant) (A : Office) 
         (λ (here : (uid_number root ≡ t) × (i ≡ g.least)). absurd (never serial (ap A.world.disk.serial here.0 ∙ plain)))
         (λ old. let f = s.kept i serial old in (f.0, f.1, least_with x f.0 i g r.grants f.2)) (put2_true t g.least A.names.had (uid_number root) i had);
   }
-
-pub grants_are_heard : GrantsAreHeard
-grants_are_heard x root c r g A s of_root plain idle answer = ⊎_elim
-    (λ (same : g.x ≡ x). let a = answer same in record {
-      acts = machine.Hear (uid_number g.top) g.least a.0 a.1 ∷ [];
-      may = (record { answered = a.2; idle = idle }, tt);
-      there = (record { names = refl; world = refl; had = λ t i h. put2_rises (uid_number g.top) g.least A.names.had t i h }, heard x root c r g A s of_root plain same, λ e. put2_same (uid_number g.top) g.least A.names.had);
-    })
-    (λ (other : (g.x == x) ≡ false). let apart : g.x ≡ x → ⊥ = (λ e. never (ap (λ n. n == x) e ∙ test_same x) other) in record {
-      acts = [];
-      may = tt;
-      there = (record { names = refl; world = refl; had = λ t i h. h }, elsewhere x root c r g A s of_root plain apart, λ e. absurd (apart e));
-    })
-    (test_cases g.x x)
 
 -- ---- a commit names its grants
 
@@ -185,9 +154,6 @@ module _ (x : ℕ) (root t : Uid) (c : Coord) (r : Root) (p : commit.Plan) (S : 
       has_grant None e = absurd (none e (subst HasPart planned part))
       has_grant (Some u) e = subst (λ us. HasGrant x (least_grant t x r c) (map {A = Used} {B = ℕ × ℕ} (λ v. (v.x, v.grant)) us)) (sym used) (named_of x t r c (objects_in t r c) u (ap (used_at x) (sym used) ∙ e))
 
-pub grants_are_named : GrantsAreNamed
-grants_are_named x root t c r p S N roots s of_root plain used planned = named x root t c r p S N roots s of_root plain used planned
-
 -- ---- decisions
 
 least_same : (x : ℕ) (t : Uid) (i : ℕ) (gs hs : List Grant) → hs ≡ gs → HasLeast x t i gs → HasLeast x t i hs
@@ -219,118 +185,3 @@ grants_are_retained x root t c d r q S V N s same stays roots serials of_root pl
     by : (i : ℕ) → (N.had (S.root (uid_number t)) i ≡ true) ⊎ (N.had (uid_number t) i ≡ true) → (w : Uid) × (is_retained x d q w ≡ true) × HasLeast x w i q.grants
     by i (inl old) = let f = s.kept i serial (ap (λ n. N.had n i) (sym of_root) ∙ old) in (f.0, stays f.0 f.1, least_same x f.0 i r.grants q.grants same f.2)
     by i (inr own) = (t, kept, least_same x t i r.grants q.grants same (s.own t i of_root plain own))
-
--- ---- a Record's grant
-
-module _ (t : Uid) (x : ℕ) (N : Names) where
-  abbrev Steps_on : Moved → Type 0
-  Steps_on m = StepStandsOn (uid_number t) N m.step
-
-  with_inc_on : (i : ℕ) (k : Known) (at : At) (o : Option ℕ) → StandsOn (uid_number t) N at → Steps_on (with_inc i k at o)
-  with_inc_on i k at None on = on
-  with_inc_on i k at (Some first) on = by (first == i)
-    where
-      by : (b : Bool) → Steps_on (if b then record { step = On at; kept = Some k } else record { step = Ended (call.Changed k.server (call.two_incs first i)); kept = Some k })
-      by true = on
-      by false = tt
-
-  same_on : (old k : Known) (at : At) (o : Option ℕ) → StandsOn (uid_number t) N at → Steps_on (same_binding old k at o)
-  same_on old k at None on = on
-  same_on old k at (Some i) on = with_inc_on i (call.named_again old k) at old.inc on
-
-  other_on : (free : Bool) (old k : Known) (at : At) → StandsOn (uid_number t) N at → Steps_on (other_binding free old k at)
-  other_on free old k at on = by (free && binding_less old.binding k.binding)
-    where
-      by : (b : Bool) → Steps_on (if b then record { step = On at; kept = Some k } else record { step = Ended (call.Changed 1 (call.two_bindings old.binding k.binding)); kept = Some old })
-      by true = on
-      by false = tt
-
-  bound_on : (free : Bool) (k : Known) (at : At) (kept : Option Known) → StandsOn (uid_number t) N at → Steps_on (bound_by free k at kept)
-  bound_on free k at None on = on
-  bound_on free k at (Some old) on = by (binding_eq old.binding k.binding)
-    where
-      by : (b : Bool) → Steps_on (if b then same_binding old k at k.inc else other_binding free old k at)
-      by true = same_on old k at k.inc on
-      by false = other_on free old k at on
-
-  load_on : (k : Known) (ss : List ℕ) (at : At) → N.had (uid_number t) k.grant ≡ true → load_from k ss ≡ Some at → StandsOn (uid_number t) N at
-  load_on k [] at had e = absurd (cc e)
-  load_on k (s ∷ ss) at had e = let same : AtLoad k s ss ≡ at = some_is refl e in subst (StandsOn (uid_number t) N) same (λ g is. subst (λ i. N.had (uid_number t) i ≡ true) (some_is refl is) had)
-
-  made_on : (free : Bool) (k : Known) (kept : Option Known) (o : Option At) → load_from k k.stores ≡ o → N.had (uid_number t) k.grant ≡ true → Steps_on (made_by free k kept o)
-  made_on free k kept None e had = tt
-  made_on free k kept (Some at) e had = bound_on free k at kept (load_on k k.stores at had e)
-
-  lost_on : (k : Known) (kept : Option Known) (o : Option At) → load_from k k.stores ≡ o → N.had (uid_number t) k.grant ≡ true → Steps_on (call.or_lost kept o)
-  lost_on k kept None e had = tt
-  lost_on k kept (Some at) e had = load_on k k.stores at had e
-
-  answer_on : (free : Bool) (kept : Option Known) (r : BoundReply) → HasTaken (uid_number t) N (granted_by t x (Reply.Bound r)) → Steps_on (bound_answer free kept r)
-  answer_on free kept (bound.Live b server i g stores) had = bound_on free (live_known b server i g stores) (AtInvoke (live_known b server i g stores) i) kept (λ k is. absurd (cc is))
-  answer_on free kept (bound.Make b server g stores) had = made_on free (made_known b server g stores) kept (load_from (made_known b server g stores) stores) refl had
-  answer_on free kept (bound.Write g stores) had = lost_on (write_known g stores) kept (load_from (write_known g stores) stores) refl had
-  answer_on free kept (bound.Conflict holder m) had = tt
-
-  loaded_on : (kept : Option Known) (k : Known) (s : ℕ) (goal : Goal) (r : LoadedReply) → N.had (uid_number t) k.grant ≡ true → Steps_on (loaded_answer kept k s goal r)
-  loaded_on kept k s (Run o) (loaded.State st) had = λ g is. subst (λ i. N.had (uid_number t) i ≡ true) (some_is refl is) had
-  loaded_on kept k s (Include j) (loaded.State st) had = tt
-  loaded_on kept k s goal (loaded.InDoubt holder) had = tt
-
-  activated_on : (k : Known) (i : ℕ) (kept : Option Known) → N.had (uid_number t) k.grant ≡ true → Steps_on (activated_by k i kept)
-  activated_on k i None had = λ g is. subst (λ j. N.had (uid_number t) j ≡ true) (some_is refl is) had
-  activated_on k i (Some old) had = by (binding_eq old.binding k.binding)
-    where
-      stands : StandsOn (uid_number t) N (AtNote k i)
-      stands g is = subst (λ j. N.had (uid_number t) j ≡ true) (some_is refl is) had
-
-      by : (b : Bool) → Steps_on (if b then with_inc i old (AtNote k i) old.inc else record { step = On (AtNote k i); kept = Some old })
-      by true = with_inc_on i old (AtNote k i) old.inc stands
-      by false = stands
-
-  recorded_on : (kept : Option Known) (k : Known) (i : ℕ) (r : RecordedReply) → Steps_on (recorded_answer kept k i r)
-  recorded_on kept k i recorded.Yes = λ g is. absurd (cc is)
-  recorded_on kept k i (recorded.Changed w) = tt
-
-pub steps_stand_on_grants : StepsStandOnGrants
-steps_stand_on_grants t x N free kept goal (AtBind avoid) (Reply.Bound r) on had = answer_on t x N free kept r had
-steps_stand_on_grants t x N free kept goal (AtLoad k s rest) (Reply.Loaded r) on had = loaded_on t x N kept k s goal r (on k.grant refl)
-steps_stand_on_grants t x N free kept goal (AtActivate k st) (Reply.Activated i) on had = activated_on t x N k i kept (on k.grant refl)
-steps_stand_on_grants t x N free kept goal (AtNote k i) (Reply.Noted r) on had = recorded_on t x N kept k i r
-steps_stand_on_grants t x N free kept goal (AtInvoke k i) (Reply.Invoked (invoked.Answered a)) on had = tt
-steps_stand_on_grants t x N free kept goal (AtInvoke k i) (Reply.Invoked (invoked.Conflict holder m)) on had = tt
-steps_stand_on_grants t x N free kept goal (AtInvoke k i) (Reply.Invoked (invoked.Changed w)) on had = tt
-steps_stand_on_grants t x N free kept goal (AtBind avoid) (Reply.Loaded r) on had = on
-steps_stand_on_grants t x N free kept goal (AtBind avoid) (Reply.Activated r) on had = on
-steps_stand_on_grants t x N free kept goal (AtBind avoid) (Reply.Noted r) on had = on
-steps_stand_on_grants t x N free kept goal (AtBind avoid) (Reply.Invoked r) on had = on
-steps_stand_on_grants t x N free kept goal (AtBind avoid) (Reply.Voted r) on had = on
-steps_stand_on_grants t x N free kept goal (AtBind avoid) (Reply.Prepared r) on had = on
-steps_stand_on_grants t x N free kept goal (AtBind avoid) (Reply.Confirmed r) on had = on
-steps_stand_on_grants t x N free kept goal (AtLoad k s rest) (Reply.Bound r) on had = on
-steps_stand_on_grants t x N free kept goal (AtLoad k s rest) (Reply.Activated r) on had = on
-steps_stand_on_grants t x N free kept goal (AtLoad k s rest) (Reply.Noted r) on had = on
-steps_stand_on_grants t x N free kept goal (AtLoad k s rest) (Reply.Invoked r) on had = on
-steps_stand_on_grants t x N free kept goal (AtLoad k s rest) (Reply.Voted r) on had = on
-steps_stand_on_grants t x N free kept goal (AtLoad k s rest) (Reply.Prepared r) on had = on
-steps_stand_on_grants t x N free kept goal (AtLoad k s rest) (Reply.Confirmed r) on had = on
-steps_stand_on_grants t x N free kept goal (AtActivate k st) (Reply.Bound r) on had = on
-steps_stand_on_grants t x N free kept goal (AtActivate k st) (Reply.Loaded r) on had = on
-steps_stand_on_grants t x N free kept goal (AtActivate k st) (Reply.Noted r) on had = on
-steps_stand_on_grants t x N free kept goal (AtActivate k st) (Reply.Invoked r) on had = on
-steps_stand_on_grants t x N free kept goal (AtActivate k st) (Reply.Voted r) on had = on
-steps_stand_on_grants t x N free kept goal (AtActivate k st) (Reply.Prepared r) on had = on
-steps_stand_on_grants t x N free kept goal (AtActivate k st) (Reply.Confirmed r) on had = on
-steps_stand_on_grants t x N free kept goal (AtNote k i) (Reply.Bound r) on had = on
-steps_stand_on_grants t x N free kept goal (AtNote k i) (Reply.Loaded r) on had = on
-steps_stand_on_grants t x N free kept goal (AtNote k i) (Reply.Activated r) on had = on
-steps_stand_on_grants t x N free kept goal (AtNote k i) (Reply.Invoked r) on had = on
-steps_stand_on_grants t x N free kept goal (AtNote k i) (Reply.Voted r) on had = on
-steps_stand_on_grants t x N free kept goal (AtNote k i) (Reply.Prepared r) on had = on
-steps_stand_on_grants t x N free kept goal (AtNote k i) (Reply.Confirmed r) on had = on
-steps_stand_on_grants t x N free kept goal (AtInvoke k i) (Reply.Bound r) on had = on
-steps_stand_on_grants t x N free kept goal (AtInvoke k i) (Reply.Loaded r) on had = on
-steps_stand_on_grants t x N free kept goal (AtInvoke k i) (Reply.Activated r) on had = on
-steps_stand_on_grants t x N free kept goal (AtInvoke k i) (Reply.Noted r) on had = on
-steps_stand_on_grants t x N free kept goal (AtInvoke k i) (Reply.Voted r) on had = on
-steps_stand_on_grants t x N free kept goal (AtInvoke k i) (Reply.Prepared r) on had = on
-steps_stand_on_grants t x N free kept goal (AtInvoke k i) (Reply.Confirmed r) on had = on

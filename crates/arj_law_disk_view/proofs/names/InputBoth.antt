@@ -10,7 +10,7 @@ use Rattle.arj_protocol.specs.Words.kind
 use Rattle.arj_protocol.specs.Ask.{actor}
 use Rattle.arj_protocol.specs.Asking.{commit_action, commit_open, commit_top, gaveup_lines, give_up, give_up_doing, gives_up, last_req, moved_commit}
 use Rattle.arj_protocol.specs.Commit as commit
-use Rattle.arj_protocol.specs.Commit.{CommitStep, Decides, Machine, Used, Voting, Preparing, Confirming, begin_confirm, begin_prepare, begin_vote, changed_of, first_of, is_empty, plainly, servers_of, start, stores_by, targets_of}
+use Rattle.arj_protocol.specs.Commit.{Decides, Machine, Used, Voting, Preparing, Confirming, begin_confirm, begin_prepare, begin_vote, changed_of, first_of, plainly, servers_of, start, stores_by}
 use Rattle.arj_protocol.specs.Coord.{Coord, Doing, Now, Idle, Calling, Committing, doing_of, plan_for, root_at}
 use Rattle.arj_protocol.specs.Effect.{Did, Disk, Effect}
 use Rattle.arj_protocol.specs.Ending.{aborts_with, says}
@@ -18,7 +18,7 @@ use Rattle.arj_protocol.specs.Node.{Parts, with_coord}
 use Rattle.arj_protocol.specs.Order.{number_set, uid_number}
 use Rattle.arj_protocol.specs.Says.{AreAll, is_coord_effect}
 use Rattle.arj_protocol.specs.Step as input
-use Rattle.arj_protocol.specs.Step.{Input, acts, branch_named, commit_reasons, first_reason, giveup_reasons, on_branch, refusal_up, refused_by, sibling_waits, waits_above, waits_below}
+use Rattle.arj_protocol.specs.Step.{Input, acts, branch_named, commit_reasons, giveup_reasons, on_branch, refusal_up, refused_by, sibling_waits, waits_above, waits_below}
 use Rattle.arj_protocol.specs.Coord.{number_of}
 use Rattle.arj_protocol.specs.Tree.{Branch, branch_of, has_open_child, root_of}
 use Rattle.arj_protocol.proofs.CoordSays.{acts_own}

@@ -7,9 +7,9 @@ use Rattle.arj_lock.proofs.Members.{In as Stands, in_filter, in_from, in_to}
 use Rattle.arj_protocol.specs.Words.{Uid, Binding, is_on}
 use Rattle.arj_protocol.specs.Asking.{is_named}
 use Rattle.arj_protocol.specs.Call as call
-use Rattle.arj_protocol.specs.Call.{At, Known, Moved, bound_by, other_binding, same_binding, with_inc}
+use Rattle.arj_protocol.specs.Call.{At, Known, bound_by, other_binding, same_binding, with_inc}
 use Rattle.arj_protocol.specs.Coord as coord
-use Rattle.arj_protocol.specs.Coord.{Coord, Grant, Root, Said, counts, granted_with, is_called, kept_of, named_last, said_in, survives}
+use Rattle.arj_protocol.specs.Coord.{Coord, Grant, Root, Said, counts, granted_with, is_called, kept_of, said_in, survives}
 use Rattle.arj_protocol.specs.Order.{binding_eq, binding_less, binding_number, uid_number}
 use Rattle.arj_protocol.specs.Tree as tree
 use Rattle.arj_protocol.specs.Tree.{is_spent}

@@ -4,7 +4,7 @@ use Rattle.std.specs.Prelude.{if◌then◌else◌, nat_lt, option_map}
 use Rattle.std.specs.List.{list_any}
 use Rattle.std.proofs.lemmas.Bool.Decides.{nat_tests}
 use Rattle.arj_base.specs.declared.mode.Mode.{Mode}
-use Rattle.arj_base.specs.declared.mode.Mode.TheVariants.{Read, Exclude, Write}
+use Rattle.arj_base.specs.declared.mode.Mode.TheVariants.{Read, Exclude}
 use Rattle.arj_base.specs.Rows.{Row, last_uid, is_row_of, lower_row, mode_of}
 use Rattle.arj_base.proofs.Uids.{uid_is, uid_same}
 use Rattle.arj_lock.proofs.Members.{In as Stands, in_from, in_to, in_map}
@@ -19,7 +19,7 @@ use Rattle.arj_protocol.specs.Ask.{top_of, top_path}
 use Rattle.arj_protocol.specs.Confirm.{conflict_in, lock_all, lock_in as lock_one}
 use Rattle.arj_protocol.specs.Copy.{is_granted}
 use Rattle.arj_protocol.specs.Effect.{Effect, Served, reply, void}
-use Rattle.arj_protocol.specs.Named.{Named, Live, Made, conflict_on, entry_row, in_use, is_binding, is_lowered, is_write_row, locked, lowered, note_made, note_named, note_other}
+use Rattle.arj_protocol.specs.Named.{Named, Made, conflict_on, entry_row, in_use, is_binding, is_lowered, is_write_row, locked, lowered, note_named, note_other}
 use Rattle.arj_protocol.specs.Named as naming_named
 use Rattle.arj_protocol.specs.Naming.{Naming, is_over, note, on_named}
 use Rattle.arj_protocol.specs.Order as order
@@ -31,7 +31,7 @@ use Rattle.arj_law_disk.specs.machine.Effects.{World, IsNot}
 use Rattle.arj_law_disk.specs.machine.Guards.{HasRow, IsUntold, Runs, end_of}
 use Rattle.arj_law_disk.specs.machine.Named as names
 use Rattle.arj_law_disk.specs.machine.Names as machine
-use Rattle.arj_law_disk.specs.machine.Names.{Names, Office, Act, Answer, acted}
+use Rattle.arj_law_disk.specs.machine.Names.{Names, Office, Act, acted}
 use Rattle.arj_law_disk.specs.machine.State.{State}
 use Rattle.arj_law_disk.specs.machine.Words.{put}
 use Rattle.arj_law_disk.proofs.machine.Acts.{runs_keep}

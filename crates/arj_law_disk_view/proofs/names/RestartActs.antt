@@ -19,7 +19,7 @@ use Rattle.arj_protocol.specs.Order.{at_number, at_uid, uid_number}
 use Rattle.arj_protocol.specs.Values.{state_entry}
 use Rattle.arj_protocol.proofs.Numbers.{number_tells}
 use Rattle.arj_law_disk.specs.machine.Names as machine
-use Rattle.arj_law_disk.specs.machine.Names.{Names, Office, acted, given_mode, given_row, is_pending}
+use Rattle.arj_law_disk.specs.machine.Names.{Names, acted, given_mode, given_row, is_pending}
 use Rattle.arj_law_disk.specs.machine.State.{State, Packed, Hold, undecided}
 use Rattle.arj_law_disk.specs.machine.Words.{has}
 use Rattle.arj_law_disk.proofs.machine.Base.{never, or_cases, or_left, or_right, some_is, test_is, test_same, test_not, falls_to}

@@ -21,7 +21,7 @@ use Rattle.arj_law_parts.specs.moves.Seen.{see}
 use Rattle.arj_law_disk_view.specs.view.Sees.{IsFixed, Kinds, SeesDisks}
 use Rattle.arj_law_disk_view.proofs.view.FirstSeen as seen
 use Rattle.arj_law_disk_view.proofs.view.FirstSeen.{first_at, format_seen}
-use Rattle.arj_law_disk_view.specs.names.Both.{FormatsHaveBoth, IsOther, OtherRootsStay, RootsStay, SeesBoth, SeesRootOf}
+use Rattle.arj_law_disk_view.specs.names.Both.{FormatsHaveBoth, SeesBoth, SeesRootOf}
 use Rattle.arj_law_disk_view.specs.names.Grants.{SeesGrants}
 use Rattle.arj_law_disk_view.specs.names.Lists.{HasList, HasRetained, IsTopOf, SeesLists}
 use Rattle.arj_law_disk_view.specs.names.Memory.{SeesNaming}
@@ -117,12 +117,3 @@ module _ (x : ℕ) (tops : Kinds) (root : Uid) (c : Coord) (r : Root) (A B : Off
     loads = λ j t there of on top. let l = s.loads j t there of on top in record { inc = l.inc; answered = answers (Loaded (uid_number t) l.inc (packed j.loaded)) l.answered; had = ap (λ z. z l.inc) (had (uid_number t) (inr top.of_root)) ∙ l.had };
     state = s.state ∙ sym states ∙ ap (λ z. written_in z (uid_number root) B.world.disk.tops) (sym roots);
   }
-
-pub roots_stay : RootsStay
-roots_stay x tops root c r A B f h s only = root_stays x tops root c r A B f h s (λ z m. ap (λ y. y z) only.had) (λ z m. ap (λ y. y z) only.kept) only.answers (ap (written_in A.world.disk.root (uid_number root)) only.tops)
-
-pub other_roots_stay : OtherRootsStay
-other_roots_stay x tops g root c r A B f h own apart s only = root_stays x tops root c r A B f h s (λ z m. only.had z (mine z m)) (λ z m. only.kept z (mine z m)) only.answers (only.tops (uid_number root) apart)
-  where
-    mine : (z : ℕ) → (z ≡ uid_number root) ⊎ (tops.root z ≡ uid_number root) → IsOther g A.world.disk (A.world.disk.root z)
-    mine z m = subst (IsOther g A.world.disk) (sym (ap (λ y. y z) f.root ∙ ⊎_elim (λ e. ap tops.root e ∙ own) (λ of. of) m)) apart

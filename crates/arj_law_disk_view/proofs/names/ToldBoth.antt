@@ -7,7 +7,7 @@ use Rattle.arj_protocol.specs.Words.{Uid, End, is_on}
 use Rattle.arj_protocol.specs.Words.ending
 use Rattle.arj_protocol.specs.Effect.{Disk, Effect, Say, Send, Do, Pair, is_prepared}
 use Rattle.arj_protocol.specs.Naming as naming
-use Rattle.arj_protocol.specs.Naming.{Naming, end_entries, end_lines, end_orphans, has_locks, orphans, own_entries, taken_end, told_new}
+use Rattle.arj_protocol.specs.Naming.{Naming}
 use Rattle.arj_protocol.specs.Node.{Parts, Took, ack_told, handle_told, end_states, naming_told, store_told}
 use Rattle.arj_protocol.specs.Order.{at_uid, uid_number}
 use Rattle.arj_protocol.specs.Says.{AreAll, is_server_effect}

@@ -12,7 +12,7 @@ use Rattle.arj_protocol.specs.Commit.{plan_of}
 use Rattle.arj_protocol.specs.Coord.{Coord, doing_of, of_root}
 use Rattle.arj_protocol.specs.Effect.{Disk}
 use Rattle.arj_protocol.specs.Node.{Parts}
-use Rattle.arj_protocol.specs.Step.{Input, branch_named, commit_reasons, first_reason, is_committing, is_committing_now, is_sibling, is_waiting, is_waiting_now, refusal_up, refused_by, sibling_waits, waits_above, waits_below}
+use Rattle.arj_protocol.specs.Step.{Input, branch_named, commit_reasons, first_reason, is_committing, is_committing_now, is_sibling, refusal_up, refused_by, sibling_waits, waits_above, waits_below}
 use Rattle.arj_protocol.specs.Step as input
 use Rattle.arj_protocol.specs.Tree.{Branch, branch_of, has_open_child, is_constituent, root_of}
 use Rattle.arj_law_parts.specs.parts.Actions.{Action, AreBegun, Stands, act_of, action_of, paths_of}

@@ -9,7 +9,7 @@ use Rattle.arj_protocol.specs.Words.cause
 use Rattle.arj_protocol.specs.Words.ending
 use Rattle.arj_protocol.specs.Words.kind
 use Rattle.arj_protocol.specs.Coord as coord
-use Rattle.arj_protocol.specs.Coord.{Calling, Committing, Coord, Doing, Idle, Joined, Root, Said, change_doing, doing_of, is_constituent_branch, is_kept_top, kept_of, no_root, nodes_sent, on_doing, retained_in, root_at, second_uid, servers_told, survives, top_uses}
+use Rattle.arj_protocol.specs.Coord.{Calling, Committing, Coord, Doing, Idle, Joined, Root, Said, change_doing, doing_of, is_constituent_branch, is_kept_top, kept_of, no_root, nodes_sent, retained_in, root_at, second_uid, servers_told, survives, top_uses}
 use Rattle.arj_protocol.specs.Effect.{Effect, Intent}
 use Rattle.arj_protocol.specs.Ending.{abort_action, all_aborted, ended, is_deferred, say_for, says, tell, tell_all, tolds_by, tolds_of, tolds_of_branch, up_to}
 use Rattle.arj_protocol.specs.Order.{at_number}

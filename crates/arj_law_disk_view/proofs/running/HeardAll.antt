@@ -1,5 +1,5 @@
 -- What coordinators have of naming's answers, at all nodes, where one of them makes a step.
-use Rattle.std.proofs.Common.{◌≡◌, ◌⊎◌, ◌<◌, ℕ, true, List, [], ◌∷◌, Option, Some, None, sym, ◌∙◌, ap, subst, ⊎_elim, inl}
+use Rattle.std.proofs.Common.{◌≡◌, ◌⊎◌, ◌<◌, ℕ, true, List, [], ◌∷◌, Option, Some, None, sym, ◌∙◌, subst, ⊎_elim, inl}
 use Rattle.std.specs.List.{AllByRecursion}
 use Rattle.arj_protocol.specs.Words.{Uid, asks, Asked}
 use Rattle.arj_protocol.specs.Call.{Steps}
@@ -10,10 +10,9 @@ use Rattle.arj_protocol.specs.Order.{uid_number}
 use Rattle.arj_protocol.specs.Step.{Node}
 use Rattle.arj_protocol.specs.Tree.{is_own}
 use Rattle.arj_law_disk.specs.machine.Names.{Office}
-use Rattle.arj_law_disk.specs.machine.State.{Packed}
 use Rattle.arj_law_disk.specs.machine.Words as words
 use Rattle.arj_law_parts.specs.moves.Seen as seen
-use Rattle.arj_law_parts.specs.moves.Seen.{AreQuiet, Post, Seen, at, down, posted, said, up}
+use Rattle.arj_law_parts.specs.moves.Seen.{Post, Seen, posted, said}
 use Rattle.arj_law_parts.specs.moves.Walks.{Walks, halted}
 use Rattle.arj_law_disk_view.specs.view.Sees.{IsFixed, Kinds}
 use Rattle.arj_law_disk_view.specs.running.Heard.{ClaimsAsked, HasNoneOf, SeesHeard, SeesHeardAt, IsToStep, IsAskedFor}

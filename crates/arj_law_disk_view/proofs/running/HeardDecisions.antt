@@ -83,9 +83,6 @@ module _ (x : ℕ) (tops : Kinds) (e k : ℕ) (d : Disk) (t : Parts) (M : Seen) 
   n : KnowsMachine tops t.coord u (Confirming p)
   n = let c = knows.coord in c.machines u q (Confirming p) at_work now
 
-  abbrev root : Uid
-  root = root_of p.path
-
   rooted : root_of n.branch.path ≡ root_of p.path
   rooted = ap root_of n.path
 

@@ -9,7 +9,7 @@ use Rattle.arj_law_disk_view.proofs.view.Frames.{node_here}
 use Rattle.arj_protocol.specs.Words.{Body, End, Label, Uid, is_on, uid_eq}
 use Rattle.arj_protocol.specs.Words.ending
 use Rattle.arj_protocol.specs.Coord as coord
-use Rattle.arj_protocol.specs.Coord.{Calling, Committing, Coord, Doing, Idle, Joined, Root, Said, doing_of, is_constituent_branch, is_kept_top, kept_of, no_root, on_doing, retained_in, root_at, second_uid, survives, top_uses}
+use Rattle.arj_protocol.specs.Coord.{Calling, Committing, Coord, Doing, Idle, Joined, Root, Said, doing_of, is_constituent_branch, is_kept_top, kept_of, no_root, retained_in, root_at, second_uid, survives, top_uses}
 use Rattle.arj_protocol.specs.Effect.{Did, Disk}
 use Rattle.arj_protocol.specs.Ending.{ended, ends_with, says, tolds_of}
 use Rattle.arj_protocol.specs.Node.{Parts, with_coord}

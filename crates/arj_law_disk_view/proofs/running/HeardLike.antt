@@ -7,7 +7,7 @@ use Rattle.arj_protocol.specs.Ask.{top_of}
 use Rattle.arj_protocol.specs.Asking.{begin_action}
 use Rattle.arj_protocol.specs.Call.{Steps}
 use Rattle.arj_protocol.specs.Coord as coord
-use Rattle.arj_protocol.specs.Coord.{Calling, Committing, Coord, Doing, Idle, Joined, Now, Root, Said, Went, doing_of, is_constituent_branch, is_kept_top, kept_of, retained_in, root_at, second_uid, survives, top_uses}
+use Rattle.arj_protocol.specs.Coord.{Calling, Committing, Coord, Doing, Idle, Joined, Root, Said, Went, doing_of, is_constituent_branch, is_kept_top, kept_of, retained_in, root_at, second_uid, survives, top_uses}
 use Rattle.arj_protocol.specs.Tree.{Branch, at_place, behind, branch_of, ended_so, has_end, is_committed, is_own, is_spent, next_uid, path_below, root_of}
 use Rattle.arj_law_disk.specs.machine.Names.{Names, Office}
 use Rattle.arj_law_disk.proofs.machine.Base.{some_is}

@@ -10,7 +10,7 @@ use Rattle.arj_protocol.specs.Ask.{actor}
 use Rattle.arj_protocol.specs.Asking.{commit_top, last_req, moved_commit}
 use Rattle.arj_protocol.specs.Call.{Known}
 use Rattle.arj_protocol.specs.Commit as commit
-use Rattle.arj_protocol.specs.Commit.{Decides, Used, has_record, included_of, is_empty, joins_left, participants, plainly, start}
+use Rattle.arj_protocol.specs.Commit.{Used, has_record, included_of, joins_left, participants}
 use Rattle.arj_protocol.specs.Coord as coord
 use Rattle.arj_protocol.specs.Coord.{Committing, Coord, Doing, Idle, Root, Said, doing_of, kept_of, plan_for, root_at, survives}
 use Rattle.arj_protocol.specs.Effect.{Did, Disk, Do, Effect, InPart, After, Before, Intent, PutIntent, Stop, stopped}

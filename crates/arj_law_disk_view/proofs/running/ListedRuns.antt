@@ -12,14 +12,12 @@ use Rattle.arj_protocol.specs.Order.{binding_number, has, uid_number}
 use Rattle.arj_protocol.specs.Step.{Node}
 use Rattle.arj_protocol.specs.Tree.{root_of}
 use Rattle.arj_law_parts.specs.parts.Actions.{Action}
-use Rattle.arj_law_runs.specs.kept.Worlds.{IsGood, IsGoodOf}
+use Rattle.arj_law_runs.specs.kept.Worlds.{IsGoodOf}
 use Rattle.arj_law_disk.specs.machine.Names.{Office}
 use Rattle.arj_law_disk.specs.machine.State.{Hold, is_gone, is_idle, last}
 use Rattle.arj_law_disk.proofs.machine.Base.{some_is, test_same}
 use Rattle.arj_law_disk.proofs.machine.Restarts.{write_clears}
 use Rattle.arj_law_disk.proofs.machine.Results.{clean}
-use Rattle.arj_law_parts.specs.moves.Keeps.{Keeps}
-use Rattle.arj_law_parts.specs.moves.Moves.{world_by}
 use Rattle.arj_law_parts.specs.moves.Seen.{Seen, at, up}
 use Rattle.arj_law_runs.specs.calls.Runs.{KnowsFew}
 use Rattle.arj_law_disk_view.specs.view.Coordinating.{KnowsNode}
@@ -35,23 +33,17 @@ use Rattle.arj_law_lock_view.specs.records.Claims.{AreFitting}
 use Rattle.arj_law_lock_view.specs.records.Coords.{KnowsRecords, StepStands}
 use Rattle.arj_law_lock_view.specs.records.Runs.{KnowsOfRecords, RecordsKnown}
 use Rattle.arj_law_lock_view.specs.records.Tests.{Tests}
-use Rattle.arj_law_disk_view.specs.running.Bindings.{AreGoodCounted, KnowsScript}
-use Rattle.arj_law_disk_view.proofs.running.Bindings.{good_counted}
-use Rattle.arj_law_disk_view.specs.running.Entries.{HaveEntries}
-use Rattle.arj_law_disk_view.specs.running.Kinds.{Agrees, kinds_of}
-use Rattle.arj_law_disk_view.specs.running.Listed.{AnswersList, IsCurrent, IsLoading, LoadsAgree, LoadsListed, PassesListed, PassesLists, RunsLoad, TellsLists}
-use Rattle.arj_law_disk_view.specs.running.Part.{IsCarried, KeepsPart}
+use Rattle.arj_law_disk_view.specs.running.Bindings.{AreGoodCounted}
+use Rattle.arj_law_disk_view.specs.running.Kinds.{Agrees}
+use Rattle.arj_law_disk_view.specs.running.Listed.{AnswersList, IsCurrent, IsLoading, LoadsAgree, LoadsListed, PassesListed, PassesLists, TellsLists}
 use Rattle.arj_law_disk_view.specs.running.Places.{ArePlaced}
 use Rattle.arj_law_disk_view.specs.running.Records.{AreRecorded}
 use Rattle.arj_law_disk_view.specs.running.Runs.{HasState}
-use Rattle.arj_law_runs.proofs.bindings.Events.{moves_reached}
-use Rattle.arj_law_disk_view.proofs.running.BothEach.{kinds_there, reached_beside, with_entries}
 use Rattle.arj_law_disk_view.proofs.running.Copies.{agrees_on, has_state}
 use Rattle.arj_law_disk_view.proofs.running.HeardPlaces.{StandsIn}
 use Rattle.arj_law_disk_view.proofs.running.HeardStarts.{step_idle, step_rooted, step_stands}
 use Rattle.arj_law_disk_view.proofs.running.Known.{knows_node}
 use Rattle.arj_law_disk_view.proofs.running.ListedBack.{holds_write, stores_are}
-use Rattle.arj_law_disk_view.proofs.running.ListedKept.{WithLists, listed_part}
 
 -- ---- what a waiting call asks
 
@@ -176,24 +168,3 @@ pub record IsSeenBegun (x : ℕ) (tops : Kinds) (A : Office) (M : Seen) : Type 0
 -- so it is where bindings are counted, and few were made
 pub loads_there : (x : ℕ) (tops : Kinds) (A : Office) (M : Seen) → IsSeenBegun x tops A M → AreGoodCounted M → KnowsFew M → AnswersList x tops A M → LoadsAgree x M
 loads_there x tops A M s good few answers = loads_agree x tops A M s.both (λ l. loading_listed x tops s.begun A M s.agree s.good s.recorded s.placed few s.both s.numbers l answers (let z = good.0.1 in z.1 (let f = few in f.0)).1)
-
-pub runs_load : RunsLoad
-runs_load hd x part parts ms short = reached_beside hd x Base (WithLists x P) base_everywhere listed (LoadsAgree x)
-    (λ M numbers few h.
-    let g = h.1 in
-    let agree = kinds_there (λ N. Base N × HaveEntries x N) (IsCarried (WithLists x P) x) M h in
-    let s = g.5 (kinds_of h.0) agree in
-    loads_there x (kinds_of h.0) s.0 M (record { begun = h.0; agree = agree; good = g.0; recorded = g.2; placed = g.3; both = s.1; numbers = numbers }) (let k = g.4 in k.0.0) few (let l = s.2 in l.1))
-    (world_by hd ms) (moves_reached hd ms short)
-  where
-    P : Kinds → Office → Seen → Type 0
-    P tops A M = part tops A M ≡ true
-
-    Base : Seen → Type 0
-    Base M = AreGoodCounted M × HaveEntries x M
-
-    base_everywhere : Keeps hd Base
-    base_everywhere = with_entries hd x AreGoodCounted (λ W M. IsGood M × KnowsFew M) P parts (good_counted hd)
-
-    listed : KeepsPart hd x (λ W M. Base M × KnowsScript M) (WithLists x P)
-    listed = listed_part hd x (λ W M. IsGood M × KnowsFew M) (λ W M. Base M × KnowsScript M) (λ W M r. ((let b = r.0 in b.0.0.0.0), (let s = r.1 in s.0))) (λ W M r. (r.0, (let s = r.1 in s.0))) P parts

@@ -74,7 +74,3 @@ part_more hd x R S P less parts = record {
   restart = λ tops e k d M A walk r. parts.restart tops e k d M A walk (less _ _ r);
   first = parts.first;
 }
-
--- what is kept where few bindings were made
-pub part_few : (hd : Header) (x : ℕ) (R : Seen → Type 0) (P : Kinds → Office → Seen → Type 0) → KeepsPart hd x (λ W M. R M × KnowsFew M) P → KeepsPart hd x (λ W M. R M × KnowsScript M) P
-part_few hd x R P parts = part_more hd x (λ W M. R M × KnowsFew M) (λ W M. R M × KnowsScript M) P (λ W M r. (r.0, let s = r.1 in s.0)) parts

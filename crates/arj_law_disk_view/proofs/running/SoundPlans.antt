@@ -11,7 +11,7 @@ use Rattle.arj_protocol.specs.Words.voted
 use Rattle.arj_base.proofs.Uids.{uid_is, uid_same}
 use Rattle.arj_protocol.specs.Ask.{Reply, actor}
 use Rattle.arj_protocol.specs.Commit as commit
-use Rattle.arj_protocol.specs.Commit.{CommitStep, Stays, Asks, Decides, Aborts, Machine, Voting, Preparing, Confirming, Plan, Used, begin_confirm, begin_prepare, begin_vote, changed_of, further, left_of, marks_store, marks_stores, plan_of, servers_of, stores_by, stores_left, targets_of, votes_left, with_state, with_states}
+use Rattle.arj_protocol.specs.Commit.{CommitStep, Stays, Asks, Decides, Aborts, Machine, Voting, Preparing, Confirming, Plan, Used, begin_confirm, begin_prepare, begin_vote, changed_of, further, left_of, marks_store, marks_stores, servers_of, stores_by, stores_left, targets_of, votes_left, with_state, with_states}
 use Rattle.arj_protocol.specs.Coord.{Coord, Joined, Root, joins_on, later_state, latest_of, loaded_for, objects_in, or_kept_state, plan_for, survives, used_of}
 use Rattle.arj_protocol.specs.Order as order
 use Rattle.arj_protocol.specs.Order.{at_number, number_set, put_number, with_number, without_number}

@@ -27,7 +27,7 @@ use Rattle.arj_protocol.specs.Coord.{Calling, Committing, Coord, Doing, Grant, I
 use Rattle.arj_protocol.specs.Effect.{Did, Do, Effect, Intent, PutIntent, Served}
 use Rattle.arj_protocol.specs.Ending.{abort_action, aborts_with, all_aborted, decide, decided_told, ended, ends_with, is_deferred, root_after, say_for, says, states_after, tell, tell_all, tolds_by, tolds_of, tolds_of_branch, up_to}
 use Rattle.arj_protocol.specs.Order.{at_number, binding_eq, binding_less, has, put_number, put_uid, unbound, with_number, without_number}
-use Rattle.arj_protocol.specs.Step.{Input, acts, branch_named, on_branch, parent_of, tolds_again}
+use Rattle.arj_protocol.specs.Step.{Input, acts, branch_named, on_branch, parent_of}
 use Rattle.arj_protocol.specs.Step as input
 use Rattle.arj_protocol.specs.Tree.{Branch, Tree, at_place, branch_of, doomed_at, ended_at, ends_of, is_own, open_below, root_of, uses_object}
 use Rattle.arj_law_parts.proofs.parts.GoodCoords.{doomed_same, uses_same}

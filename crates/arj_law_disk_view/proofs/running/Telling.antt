@@ -13,9 +13,9 @@ use Rattle.arj_protocol.specs.Words.kind
 use Rattle.arj_protocol.specs.Words.cause
 use Rattle.arj_protocol.specs.Ask.{Reply, actor}
 use Rattle.arj_protocol.specs.Asking.{call, call_steps, renewed, next_req, include, step_call, root_moved, kept_at, heard_call, commits_in, step_commit, moved_commit, mark_lines, gaveup_lines, commit_top, commit_open, commit_action, last_req, heard_now, heard_doing, heard, heard_by, heard_none, waits_for_call, waits_for_commit, root_lost, gives_up, give_up_doing, give_up, again_now, again_all}
-use Rattle.arj_protocol.specs.Call.{Steps, Moved, answered, given_up, next_node, start}
+use Rattle.arj_protocol.specs.Call.{Moved, answered, given_up, next_node, start}
 use Rattle.arj_protocol.specs.Call as calls
-use Rattle.arj_protocol.specs.Commit.{Plan, Machine, CommitStep, Stays, Asks, Decides, Aborts, nodes_given_up, plan_of, servers_of, naming_node, participants, has_record}
+use Rattle.arj_protocol.specs.Commit.{Plan, CommitStep, Stays, Asks, Decides, Aborts, nodes_given_up, plan_of, servers_of, naming_node, participants, has_record}
 use Rattle.arj_protocol.specs.Commit as commit
 use Rattle.arj_protocol.specs.Coord.{Coord, Doing, Now, Idle, Calling, Committing, doing_of, on_doing, on_root, root_at, plan_for, keeping_of, with_keeping, is_free}
 use Rattle.arj_protocol.specs.Effect.{Did, Effect, Served, Do, Intent, PutIntent}

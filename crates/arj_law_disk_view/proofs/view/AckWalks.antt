@@ -18,7 +18,7 @@ use Rattle.arj_law_disk.specs.machine.Effects as machine
 use Rattle.arj_law_disk.specs.machine.Effects.{World, Allowed, after}
 use Rattle.arj_law_disk.specs.machine.Messages as mail
 use Rattle.arj_law_disk.specs.machine.State as disk
-use Rattle.arj_law_disk.specs.machine.State.{State, is_gone}
+use Rattle.arj_law_disk.specs.machine.State.{is_gone}
 use Rattle.arj_law_disk.specs.machine.Words.{In}
 use Rattle.arj_law_disk.proofs.machine.Base.{never, never_some, some_is, put_same, put_other, test_same, test_is, and_left, not_true}
 use Rattle.arj_law_parts.specs.moves.Seen.{Seen, up}
@@ -114,12 +114,6 @@ module _ (x : ℕ) (tops : Kinds) (e k : ℕ) (d : Disk) (t : Parts) (from : ℕ
 
   mine : SeesCoord x k d.inc tops t.coord W.disk
   mine = sees.coords k (record { number = k; disk = d; live = Some t }) t (node_here M k (record { number = k; disk = d; live = Some t })) refl
-
-  records : SeesRecords k d.intents W.disk
-  records = sees.records k (record { number = k; disk = d; live = Some t }) (node_here M k (record { number = k; disk = d; live = Some t }))
-
-  notes : SeesNotes x d.intents t.coord W
-  notes = sees.notes k (record { number = k; disk = d; live = Some t }) t (node_here M k (record { number = k; disk = d; live = Some t })) refl
 
   -- who isn't left has acknowledged
   left_or : (m : ℕ) → (is_awaited_by m (at_uid act t.coord.telling) ≡ true) ⊎ In (mail.Acked (uid_number act) m) W.sent → (order.has (without_number from i.nodes) m ≡ true) ⊎ In (mail.Acked (uid_number act) m) W.sent

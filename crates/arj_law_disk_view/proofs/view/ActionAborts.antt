@@ -21,11 +21,11 @@ use Rattle.arj_protocol.specs.Tree.{Branch, branch_of, is_open, is_open_branch, 
 use Rattle.arj_protocol.proofs.Numbers.{number_tells}
 use Rattle.arj_protocol.proofs.PartSays.{all_both}
 use Rattle.arj_law_disk.specs.machine.Effects as machine
-use Rattle.arj_law_disk.specs.machine.Effects.{World, after, run}
+use Rattle.arj_law_disk.specs.machine.Effects.{World, after}
 use Rattle.arj_law_disk.specs.machine.Messages as mail
 use Rattle.arj_law_disk.specs.machine.Messages.{Meaning, IsOver}
 use Rattle.arj_law_disk.specs.machine.State as disk
-use Rattle.arj_law_disk.specs.machine.State.{State, Gone, is_gone, undecided, lists, listed_by, open_by}
+use Rattle.arj_law_disk.specs.machine.State.{State, is_gone, undecided, lists, listed_by}
 use Rattle.arj_law_disk.proofs.machine.Base.{never, never_some, falls_to, open_parts, open_done, gone_closed, or_left, or_right, test_same}
 use Rattle.arj_law_parts.specs.moves.Seen.{Seen, up}
 use Rattle.arj_law_disk_view.specs.view.Coordinating.{DidIsWalked, ActionsAreAborted}

@@ -5,17 +5,16 @@ use Rattle.std.proofs.lemmas.List.{map-append}
 use Rattle.std.proofs.lemmas.List.Elements.{filter-append}
 use Rattle.arj_protocol.specs.Words.{ObjectState}
 use Rattle.arj_protocol.specs.Commit as commit
-use Rattle.arj_protocol.specs.Commit.{Used, is_marked, included_of, joins_left, states_for, changed_of}
+use Rattle.arj_protocol.specs.Commit.{Used, is_marked, included_of, joins_left, changed_of}
 use Rattle.arj_protocol.specs.Confirm.{marked}
 use Rattle.arj_protocol.specs.Laws.{names_grant}
 use Rattle.arj_protocol.specs.Order as order
-use Rattle.arj_protocol.specs.Order.{uid_number}
 use Rattle.arj_law_disk.specs.machine.State as disk
 use Rattle.arj_law_disk.specs.machine.State.{State, target}
 use Rattle.arj_law_disk.specs.machine.Words as words
 use Rattle.arj_law_disk.proofs.machine.Base.{bool_cases, test_is, test_same}
 use Rattle.arj_law_disk_view.specs.view.Asking.{SeesConfirming}
-use Rattle.arj_law_disk_view.specs.view.Confirming.{SaysMarks, ConfirmsSay}
+use Rattle.arj_law_disk_view.specs.view.Confirming.{SaysMarks}
 use Rattle.arj_law_disk_view.specs.view.Plans.{used_at, plan_by, plan_at, Uses, AreApart, AreDistinct}
 use Rattle.arj_law_disk_view.proofs.view.Planned.{has_same, used_there}
 
@@ -117,6 +116,3 @@ confirm_says x S t p sees = record {
     granted : (o : Option Used) → used_at x p.used ≡ o → (s : ℕ) → target (plan_at x p) s ≡ true → names_grant x (map {A = Used} {B = ℕ × ℕ} (λ u. (u.x, u.grant)) p.used) ≡ true
     granted None e s on = absurd (cc (sym (ap (λ o. target (plan_by o (changed_of x p)) s) e) ∙ on))
     granted (Some u) e s on = let f = used_there x p.used u e in grants p.used u f.0 f.1
-
-pub confirms_say : ConfirmsSay
-confirms_say x S t p sees = confirm_says x S t p sees

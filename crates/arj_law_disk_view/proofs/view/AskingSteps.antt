@@ -9,7 +9,7 @@ use Rattle.arj_protocol.specs.Words.{ObjectState, object, entry}
 use Rattle.arj_protocol.specs.Commit as commit
 use Rattle.arj_protocol.specs.Commit.{is_marked, marks_store, marks_stores, targets_of}
 use Rattle.arj_protocol.specs.Order as order
-use Rattle.arj_protocol.specs.Order.{uid_number, at_uid, with_number, without_number}
+use Rattle.arj_protocol.specs.Order.{uid_number, with_number, without_number}
 use Rattle.arj_law_disk.specs.machine.Core.{Fresh}
 use Rattle.arj_law_disk.specs.machine.Effects.{World, Begin, Take, Seal, CanBegin, after}
 use Rattle.arj_law_disk.specs.machine.Messages as mail

@@ -18,7 +18,7 @@ use Rattle.arj_law_disk.specs.machine.Words.{has}
 use Rattle.arj_law_disk.proofs.machine.Base.{never}
 use Rattle.arj_law_parts.specs.moves.Seen.{Seen, up}
 use Rattle.arj_law_disk_view.specs.view.Asking.{SeesPreparing, SeesConfirming, TopGoes, IsUnanswered}
-use Rattle.arj_law_disk_view.specs.view.Coordinating.{DidIsWalked, IsBefore, UsesNothing, TopsPrepare}
+use Rattle.arj_law_disk_view.specs.view.Coordinating.{DidIsWalked, IsBefore, UsesNothing}
 use Rattle.arj_law_disk_view.specs.view.Knows.{KnowsCoord, KnowsPlan, IsOfKind}
 use Rattle.arj_law_disk_view.specs.view.Plans.{Uses, loads, plan_at, plan_by, used_at}
 use Rattle.arj_law_disk_view.specs.view.Sees.{may_note, Kinds, SeesDisks, SeesCoord, IsKnownIfThere, KnowsNow, Works, WorksBy, MayPrepare}
@@ -120,6 +120,3 @@ module _ (x : ℕ) (tops : Kinds) (e k : ℕ) (d : Disk) (t : Parts) (act : Uid)
 
   pub begin_walks : DidIsWalked x tops e k d t (step_commit act (begin_prepare (targets_of p) p) d.intents t.coord) M
   begin_walks = by_targets (targets_of p) refl
-
-pub tops_prepare : TopsPrepare
-tops_prepare x tops e k d t act b q p M knows found unended at_work before top note plan unanswered unused W sees known = begin_walks x tops e k d t act b q p M knows found unended at_work before top note plan unanswered unused W sees known

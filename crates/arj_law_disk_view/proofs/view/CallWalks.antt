@@ -12,7 +12,7 @@ use Rattle.arj_protocol.specs.Words.invoked
 use Rattle.arj_protocol.specs.Ask.{Reply, actor, top_of}
 use Rattle.arj_protocol.specs.Asking.{goes_on, step_call, ends_call, end_line, root_heard, root_moved, root_lost, doomed_by, kept_at, give_up_call, gaveup_lines, call_steps, renewed, next_req, granted_by, notes_grant, store_of}
 use Rattle.arj_protocol.specs.Call as calls
-use Rattle.arj_protocol.specs.Call.{Known, Steps, Goal, Run, Include, At, AtBind, AtLoad, AtActivate, AtNote, AtInvoke, CallEnd, Answered, Included, Conflict, Changed, Lost, CallStep, On, Ended, Moved, next_ask, next_node, ask_at, start, has_changed}
+use Rattle.arj_protocol.specs.Call.{Known, Steps, Goal, Run, Include, At, AtBind, AtLoad, AtActivate, AtNote, AtInvoke, CallEnd, Answered, Included, Conflict, Changed, Lost, CallStep, On, Ended, Moved, next_ask, next_node, ask_at, start}
 use Rattle.arj_protocol.specs.Coord.{Coord, Doing, Joined, Root, Keeping, Grant, Now, Idle, Calling, Committing, doing_of, on_doing, on_root, root_at, keeping_of, with_keeping, joined_with, same_join, same_said, later_state, is_free}
 use Rattle.arj_protocol.specs.Effect.{Disk}
 use Rattle.arj_protocol.specs.Ending.{says, say_for}

@@ -14,7 +14,7 @@ use Rattle.arj_protocol.specs.Words.confirmed
 use Rattle.arj_protocol.specs.Ask.{Reply, actor, differs, ask_kind, reply_kind}
 use Rattle.arj_protocol.specs.Asking.{moved_commit, step_commit, commit_action, commit_open, commit_top, commits_in, last_req, gives_up, gaveup_lines}
 use Rattle.arj_protocol.specs.Commit as commit
-use Rattle.arj_protocol.specs.Commit.{Used, Machine, Voting, Preparing, Confirming, Asks, plainly, start, begin_vote, servers_of, further, vote_ask, ask_of, left_of, plan_of, votes_left, targets_of, with_states, first_of}
+use Rattle.arj_protocol.specs.Commit.{Used, Machine, Voting, Preparing, Confirming, start, begin_vote, servers_of, further, vote_ask, ask_of, left_of, plan_of, votes_left, with_states, first_of}
 use Rattle.arj_protocol.specs.Coord.{Coord, Doing, Joined, Root, Idle, Committing, doing_of, root_at, plan_for, objects_in, used_of, joins_on, latest_of, later_state, or_kept_state, survives}
 use Rattle.arj_protocol.specs.Effect.{Disk}
 use Rattle.arj_protocol.specs.Ending.{says, say_for, aborts_with}

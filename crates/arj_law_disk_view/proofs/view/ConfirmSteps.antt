@@ -18,7 +18,7 @@ use Rattle.arj_law_disk.proofs.machine.Base.{test_is, test_same, never, never_so
 use Rattle.arj_law_disk_view.specs.view.Pairs.{Among, IsOf, HasNone, AreOne, packed_entry}
 use Rattle.arj_law_disk_view.specs.view.Entries.{SeesEntry}
 use Rattle.arj_law_disk_view.specs.view.Plans.{AreDistinct}
-use Rattle.arj_law_disk_view.specs.view.Confirming.{SaysMarks, AreNew, ListsAreSeen, EntriesAreEntered, FitsVersion}
+use Rattle.arj_law_disk_view.specs.view.Confirming.{SaysMarks, AreNew, ListsAreSeen, FitsVersion}
 
 -- ---- lists of stores
 
@@ -216,13 +216,5 @@ module _ (x : ℕ) (d : Pair) (S : State) (top : Uid) (grants : Grants) (exclude
     pub is_one : FitsVersion S.entry → bytes_eq Now S.entry.content ≡ false → AreOne packed_entry (entry x) (entries_after top grants excluded included d) (entry_hold S (uid_number top)).new
     is_one fits other r of = ap packed_entry (some_is (own_made r of) (is_made other)) ∙ packs fits ∙ sym (ap (λ b. if b then S.entry else record { version = S.entry.version + 1; writer = uid_number top; content = Now }) other)
 
-    changes : FitsVersion S.entry → bytes_eq Now S.entry.content ≡ false → (q : ObjectState) × IsOf (entry x) (entries_after top grants excluded included d) q × AreOne packed_entry (entry x) (entries_after top grants excluded included d) (entry_hold S (uid_number top)).new
-    changes fits other = (entry_state x top st Now, stands_there other, is_one fits other)
-
     pub rests : bytes_eq Now S.entry.content ≡ true → HasNone (entry x) (entries_after top grants excluded included d)
     rests same q of = never_some (own_made q of) (makes ∙ ap (λ b. if b then None else Some (entry_state x top st Now)) same)
-
-pub entries_are_entered : EntriesAreEntered
-entries_are_entered x d S top grants excluded included sees fits says new =
-    let h = held_is x d S sees in
-    (λ other. changes x d S top grants excluded included sees says new h.0 h.1 h.2 fits other, λ same. rests x d S top grants excluded included sees says new h.0 h.1 h.2 same)

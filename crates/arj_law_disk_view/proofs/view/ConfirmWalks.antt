@@ -27,7 +27,7 @@ use Rattle.arj_protocol.specs.World.{numbered}
 use Rattle.arj_protocol.proofs.PartSays.{all_both}
 use Rattle.arj_law_disk.specs.machine.Core.{Core}
 use Rattle.arj_law_disk.specs.machine.Effects as machine
-use Rattle.arj_law_disk.specs.machine.Effects.{World, Allowed, IsUnlisted, NoneIsListed, after, changed, entry_hold, marked as has_marked, new_list}
+use Rattle.arj_law_disk.specs.machine.Effects.{World, Allowed, IsUnlisted, NoneIsListed, after, changed, entry_hold, new_list}
 use Rattle.arj_law_disk.specs.machine.Messages as mail
 use Rattle.arj_law_disk.specs.machine.State.{State, Packed, Plan, undecided}
 use Rattle.arj_law_disk.specs.machine.Words.{In, has}

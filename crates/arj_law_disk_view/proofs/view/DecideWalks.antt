@@ -12,20 +12,20 @@ use Rattle.arj_protocol.specs.Words.message
 use Rattle.arj_protocol.specs.Ask.{Reply}
 use Rattle.arj_protocol.specs.Asking.{moved_commit}
 use Rattle.arj_protocol.specs.Commit as commit
-use Rattle.arj_protocol.specs.Commit.{Confirming, changed_of, participants, has_record}
+use Rattle.arj_protocol.specs.Commit.{Confirming, participants, has_record}
 use Rattle.arj_protocol.specs.Coord.{Coord, Doing, Now, Idle, Committing, Root, doing_of}
 use Rattle.arj_protocol.specs.Effect.{Disk, Effect, Do, PutIntent, Intent, Before, After, InPart, Stop, stopped}
 use Rattle.arj_protocol.specs.Ending.{says, say_for, decided, decided_told, tell, record_work}
 use Rattle.arj_protocol.specs.Node.{Parts, with_coord}
 use Rattle.arj_protocol.specs.Order as order
-use Rattle.arj_protocol.specs.Order.{at_uid, put_uid, put_number, uid_number}
+use Rattle.arj_protocol.specs.Order.{at_uid, put_uid, uid_number}
 use Rattle.arj_protocol.specs.Says.{AreAll}
 use Rattle.arj_protocol.specs.Step.{Node}
 use Rattle.arj_protocol.specs.Tree.{root_of, is_open, is_open_branch}
 use Rattle.arj_protocol.specs.World.{numbered}
 use Rattle.arj_law_disk.specs.machine.Core.{Core}
 use Rattle.arj_law_disk.specs.machine.Effects as machine
-use Rattle.arj_law_disk.specs.machine.Effects.{World, Allowed, run, after}
+use Rattle.arj_law_disk.specs.machine.Effects.{World, Allowed, after}
 use Rattle.arj_law_disk.specs.machine.Messages as mail
 use Rattle.arj_law_disk.specs.machine.State as disk
 use Rattle.arj_law_disk.specs.machine.State.{State, Hold, Packed, Known, Listed, IsExcused, naming, is_gone, undecided, target, open_by, last_entry, effective_by}

@@ -5,14 +5,14 @@ use Rattle.std.specs.List.{AllByRecursion}
 use Rattle.arj_protocol.specs.Words.{Uid, ObjectState, object}
 use Rattle.arj_protocol.specs.Words.ending
 use Rattle.arj_protocol.specs.Commit as commit
-use Rattle.arj_protocol.specs.Commit.{Confirming, changed_of, participants, has_record}
+use Rattle.arj_protocol.specs.Commit.{changed_of, participants, has_record}
 use Rattle.arj_protocol.specs.Coord.{Coord, Doing, Idle, Root, doing_of, on_doing, on_root, root_at}
 use Rattle.arj_protocol.specs.Ending.{decided, awaits, root_after, states_after}
 use Rattle.arj_protocol.specs.Order.{at_uid, put_uid, put_number}
 use Rattle.arj_protocol.specs.Tree.{Tree, Branch, branch_of, root_of, ended_at, is_own, at_place}
 use Rattle.arj_law_disk.specs.machine.Effects.{World}
 use Rattle.arj_law_disk.specs.machine.State as disk
-use Rattle.arj_law_disk.specs.machine.State.{State, Hold, Packed, Known, Listed, IsExcused, naming, is_gone, undecided, target, open_by, last_entry, effective_by}
+use Rattle.arj_law_disk.specs.machine.State.{Packed, Known}
 use Rattle.arj_law_disk.specs.machine.Words.{has}
 use Rattle.arj_law_disk_view.specs.view.Pairs.{Among, packed}
 use Rattle.arj_law_disk_view.specs.view.Plans.{plan_at, plan_by}

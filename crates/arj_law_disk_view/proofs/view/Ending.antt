@@ -13,7 +13,7 @@ use Rattle.arj_protocol.specs.Tree.{Branch, branch_of, ended_at, at_place}
 use Rattle.arj_law_disk.specs.machine.Effects as machine
 use Rattle.arj_law_disk.specs.machine.Effects.{World, after}
 use Rattle.arj_law_disk.specs.machine.State as disk
-use Rattle.arj_law_disk.specs.machine.State.{State, is_gone}
+use Rattle.arj_law_disk.specs.machine.State.{is_gone}
 use Rattle.arj_law_disk.proofs.machine.Base.{put_same, put_other, never_some}
 use Rattle.arj_law_parts.specs.moves.Seen.{Seen, up}
 use Rattle.arj_law_disk_view.specs.view.Deciding.{SeesRecords, Stills}

@@ -24,7 +24,7 @@ use Rattle.arj_law_disk.proofs.machine.Results.{first_is_whole}
 use Rattle.arj_law_parts.specs.moves.Seen.{see}
 use Rattle.arj_law_disk_view.specs.view.Deciding.{SeesRecords}
 use Rattle.arj_law_disk_view.specs.view.Entries.{SeesEntry}
-use Rattle.arj_law_disk_view.specs.view.Formats.{IsLine, HasObject, FormatsAreSeen}
+use Rattle.arj_law_disk_view.specs.view.Formats.{IsLine, HasObject}
 use Rattle.arj_law_disk_view.specs.view.Pairs.{Among, packed, packed_entry}
 use Rattle.arj_law_disk_view.specs.view.Sees.{IsAlong, Kinds, SeesDisks, SeesCoord, SeesNotes, SeesConfirmed}
 use Rattle.arj_law_disk_view.specs.view.Stores.{SeesStore}
@@ -301,6 +301,3 @@ module _ (hd : Header) (x : ℕ) (tops : Kinds) (has_it : HasObject hd x) where
         confirmed_seen o (some_is refl (subst (λ j. (let q = parts_in j 1 (first_disk hd j) in q.naming) ≡ Some o) one (ap (λ (q : Parts). q.naming) same ∙ named)))) 1 n is refl p o live named;
     posts = λ p i. absurd i;
   }
-
-pub formats_are_seen : FormatsAreSeen
-formats_are_seen hd x tops unwalked has_it = (W hd x tops has_it, format_seen hd x tops has_it unwalked)

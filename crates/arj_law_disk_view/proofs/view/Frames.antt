@@ -11,13 +11,13 @@ use Rattle.arj_protocol.specs.Node.{Parts}
 use Rattle.arj_protocol.specs.Order.{uid_number}
 use Rattle.arj_protocol.specs.Step.{Node}
 use Rattle.arj_law_disk.specs.machine.Effects
-use Rattle.arj_law_disk.specs.machine.Effects.{World, Effect, Whole, MaySend, Follows, run, after}
+use Rattle.arj_law_disk.specs.machine.Effects.{World, Whole, MaySend, run, after}
 use Rattle.arj_law_disk.specs.machine.Messages as mail
 use Rattle.arj_law_disk.specs.machine.State.{State, is_gone}
 use Rattle.arj_law_disk.proofs.machine.Base.{test_is, test_same}
 use Rattle.arj_law_disk.proofs.machine.Keeps.{effect_keeps, run_keeps}
 use Rattle.arj_law_parts.specs.moves.Seen as seen
-use Rattle.arj_law_parts.specs.moves.Seen.{Post, Seen, at, up, down, with_node, posted, said}
+use Rattle.arj_law_parts.specs.moves.Seen.{Post, Seen, up, with_node, posted}
 use Rattle.arj_law_disk_view.specs.view.Deciding.{SeesRecords}
 use Rattle.arj_law_disk_view.specs.view.Entries.{SeesEntry}
 use Rattle.arj_law_disk_view.specs.view.Stores.{SeesStore, StoreGoes}

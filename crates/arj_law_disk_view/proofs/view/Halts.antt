@@ -14,13 +14,13 @@ use Rattle.arj_protocol.specs.Step.{Node, numbers_to}
 use Rattle.arj_protocol.specs.Tree.{Branch, branch_of, is_open, is_open_branch, is_own, at_place}
 use Rattle.arj_protocol.proofs.Numbers.{number_tells}
 use Rattle.arj_law_disk.specs.machine.Effects
-use Rattle.arj_law_disk.specs.machine.Effects.{World, Effect, Whole, Follows, run, after}
+use Rattle.arj_law_disk.specs.machine.Effects.{World, Effect, Whole, run, after}
 use Rattle.arj_law_disk.specs.machine.State.{State, Gone, is_gone}
 use Rattle.arj_law_disk.specs.machine.Words.{put}
 use Rattle.arj_law_disk.proofs.machine.Base.{test_same, test_not, put_same, put_other, put_cases, bool_cases, never}
 use Rattle.arj_law_disk.proofs.machine.Keeps.{effect_keeps}
 use Rattle.arj_law_parts.specs.moves.Seen as seen
-use Rattle.arj_law_parts.specs.moves.Seen.{Post, Seen, at, up, down, with_node, said}
+use Rattle.arj_law_parts.specs.moves.Seen.{Post, Seen, at, up, down, said}
 use Rattle.arj_law_parts.specs.moves.Walks.{halted}
 use Rattle.arj_law_disk_view.specs.view.Deciding.{SeesRecords}
 use Rattle.arj_law_disk_view.specs.view.Entries.{SeesEntry}

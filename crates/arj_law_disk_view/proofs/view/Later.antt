@@ -12,7 +12,7 @@ use Rattle.arj_protocol.specs.Words.confirmed
 use Rattle.arj_protocol.specs.Ask.{Reply, answers, actor, top_of, last_end}
 use Rattle.arj_protocol.specs.Order.{uid_number}
 use Rattle.arj_law_disk.specs.machine.Effects
-use Rattle.arj_law_disk.specs.machine.Effects.{World, Effect, Whole, Follows, Allowed, run, after}
+use Rattle.arj_law_disk.specs.machine.Effects.{World, Effect, Whole, Allowed, run, after}
 use Rattle.arj_law_disk.specs.machine.Messages as mail
 use Rattle.arj_law_disk.specs.machine.State as disk
 use Rattle.arj_law_disk.specs.machine.State.{Stage, Preparing, Confirming, Gone, is_gone, is_idle, is_open, is_sealed, open_by, target, state_for, undecided, IsNew}

@@ -4,9 +4,9 @@ use Rattle.std.specs.Prelude.{if◌then◌else◌}
 use Rattle.std.specs.List.{list_any}
 use Rattle.arj_protocol.specs.Words.{Uid, ObjectState, object}
 use Rattle.arj_protocol.specs.Commit as commit
-use Rattle.arj_protocol.specs.Commit.{states_for, is_marked, with_mark, with_marks, marks_at, marks_store, marks_stores}
+use Rattle.arj_protocol.specs.Commit.{states_for, is_marked, with_mark, with_marks, marks_at, marks_store}
 use Rattle.arj_protocol.specs.Order as order
-use Rattle.arj_protocol.specs.Order.{with_number, without_number}
+use Rattle.arj_protocol.specs.Order.{without_number}
 use Rattle.arj_law_disk.specs.machine.State.{target}
 use Rattle.arj_law_disk.proofs.machine.Base.{test_is, test_same, never, falls_to}
 use Rattle.arj_law_disk_view.specs.view.Pairs.{Among, IsOf}

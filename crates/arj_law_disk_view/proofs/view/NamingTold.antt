@@ -15,7 +15,7 @@ use Rattle.arj_protocol.specs.Words.part
 use Rattle.arj_protocol.specs.Words.role
 use Rattle.arj_protocol.specs.Effect.{Disk, did_nothing, Pair, Effect, Say, Do, Commit, Abort, Before, After, InPart, is_prepared, pair_committed, pair_aborted, pair_in_part}
 use Rattle.arj_protocol.specs.Naming as naming
-use Rattle.arj_protocol.specs.Naming.{Naming, has_locks, end_entries, end_lines, end_locks, end_orphans, orphans, own_entries, taken_end, told_new}
+use Rattle.arj_protocol.specs.Naming.{Naming, has_locks, end_entries, end_lines, end_orphans, orphans, own_entries, taken_end, told_new}
 use Rattle.arj_protocol.specs.Node.{Parts, Took, handle_told, naming_told, store_told, ack_told}
 use Rattle.arj_protocol.specs.Order.{at_uid, uid_number, without_uid}
 use Rattle.arj_protocol.specs.Says.{AreAll}

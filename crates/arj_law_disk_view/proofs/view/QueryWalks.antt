@@ -15,7 +15,7 @@ use Rattle.arj_protocol.specs.Order.{at_uid, uid_number}
 use Rattle.arj_protocol.specs.Tree.{Branch, at_place, branch_of, ended_so, has_end, is_constituent, is_open, is_open_branch, is_own, root_of}
 use Rattle.arj_protocol.specs.World.{numbered}
 use Rattle.arj_law_disk.specs.machine.Effects as machine
-use Rattle.arj_law_disk.specs.machine.Effects.{World, MaySend, after}
+use Rattle.arj_law_disk.specs.machine.Effects.{World, after}
 use Rattle.arj_law_disk.specs.machine.Messages as mail
 use Rattle.arj_law_disk.specs.machine.Messages.{IsOver}
 use Rattle.arj_law_disk.specs.machine.State as disk

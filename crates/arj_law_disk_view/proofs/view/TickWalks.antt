@@ -11,7 +11,7 @@ use Rattle.arj_protocol.specs.Ask.{actor, top_of}
 use Rattle.arj_protocol.specs.Asking.{again_all, again_now, asks_all, asks_node}
 use Rattle.arj_protocol.specs.Call.{Goal, At, AtBind, AtLoad, AtActivate, AtNote, AtInvoke, ask_at, next_ask, next_node}
 use Rattle.arj_protocol.specs.Commit as commit
-use Rattle.arj_protocol.specs.Commit.{Used, Machine, Voting, Preparing, Confirming, vote_ask, confirm_ask, included_of, states_for, plan_of, waiting}
+use Rattle.arj_protocol.specs.Commit.{Used, Voting, Preparing, Confirming, vote_ask, confirm_ask, included_of, states_for, plan_of, waiting}
 use Rattle.arj_protocol.specs.Coord.{Coord, Doing, Root, Now, Idle, Calling, Committing, doing_of}
 use Rattle.arj_protocol.specs.Effect.{Disk, Effect, Intent}
 use Rattle.arj_protocol.specs.Ending.{tell_all}
@@ -23,7 +23,7 @@ use Rattle.arj_protocol.specs.Tree.{ends_of, root_of}
 use Rattle.arj_protocol.specs.World.{numbered}
 use Rattle.arj_protocol.proofs.Messages.{request_reads_back}
 use Rattle.arj_law_disk.specs.machine.Effects as machine
-use Rattle.arj_law_disk.specs.machine.Effects.{World, MaySend, after}
+use Rattle.arj_law_disk.specs.machine.Effects.{World, after}
 use Rattle.arj_law_disk.specs.machine.Messages as mail
 use Rattle.arj_law_disk.specs.machine.State as disk
 use Rattle.arj_law_disk.specs.machine.State.{State, target}

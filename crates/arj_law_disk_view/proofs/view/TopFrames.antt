@@ -21,7 +21,7 @@ use Rattle.arj_law_disk_view.specs.view.Asking.{TopGoes}
 use Rattle.arj_law_disk_view.specs.view.Deciding.{SeesRecords}
 use Rattle.arj_law_disk_view.specs.view.Entries.{SeesEntry}
 use Rattle.arj_law_disk_view.specs.view.Stores.{SeesStore}
-use Rattle.arj_law_disk_view.specs.view.Sees.{may_note, Kinds, IsFuture, IsNamedCommit, SeesDisks, SeesCoord, SeesNotes, SeesDown, SeesConfirmed, KnowsNow, IsLater, Works, TopsAreSeen}
+use Rattle.arj_law_disk_view.specs.view.Sees.{may_note, Kinds, IsFuture, IsNamedCommit, SeesDisks, SeesCoord, SeesNotes, SeesDown, SeesConfirmed, KnowsNow, IsLater, Works}
 use Rattle.arj_law_disk_view.proofs.view.AskingSteps.{stores_by_top, entry_by_top}
 use Rattle.arj_law_disk_view.proofs.view.Doings.{doing_here, doing_other, doing_tree}
 use Rattle.arj_law_disk_view.proofs.view.Frames.{nodes_to, node_here, works_same, claim_here}
@@ -179,6 +179,3 @@ module _ (x k : ℕ) (tops : Kinds) (W : World) (M : Seen) (d : Disk) (t : Parts
         (λ s one p o live named. let same : with_coord t (on_doing u f t.coord) ≡ p = cc live in confirmed_stays o (s one t o refl (ap (λ (z : Parts). z.naming) same ∙ named))) (λ m n e s one p o live named. confirmed_stays o (s one p o live named)) 1 n is refl p o live named;
     posts = λ p i. claim_here x tops W V M.lines p sees.whole (effects_are_later W goes.effects goes.allowed sees.whole) (sees.posts p i);
   }
-
-pub tops_are_seen : TopsAreSeen
-tops_are_seen x k tops W M d t u b q f sees found open_yet doing top may plain took now goes = top_goes_seen x k tops W M d t u b q f sees found open_yet doing top may plain took now goes

@@ -5,7 +5,7 @@ use Rattle.arj_protocol.specs.Words.{Uid, End, ObjectState}
 use Rattle.arj_protocol.specs.Words.body
 use Rattle.arj_protocol.specs.Words.ending
 use Rattle.arj_protocol.specs.Commit as commit
-use Rattle.arj_protocol.specs.Commit.{Used, participants, has_record, is_empty, included_of, naming_node, changed_of}
+use Rattle.arj_protocol.specs.Commit.{Used, participants, has_record, is_empty, included_of, changed_of}
 use Rattle.arj_protocol.specs.Coord.{Coord, Doing, Idle, doing_of}
 use Rattle.arj_protocol.specs.Effect.{Disk, Do, PutIntent}
 use Rattle.arj_protocol.specs.Ending.{says, say_for, decided, decided_told, record_work, tell, tell_all}

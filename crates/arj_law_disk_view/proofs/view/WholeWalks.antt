@@ -10,7 +10,6 @@ use Rattle.arj_protocol.specs.Words.message
 use Rattle.arj_protocol.specs.Ask.{Reply, last_end, actor, answers}
 use Rattle.arj_protocol.specs.Asking.{call, include, commit_action, gives_up, heard, heard_doing, heard_now, heard_by, heard_none, waits_for_call, waits_for_commit, moved_commit, heard_call, give_up, give_up_doing}
 use Rattle.arj_protocol.specs.Commit as commit
-use Rattle.arj_protocol.specs.Commit.{Machine}
 use Rattle.arj_protocol.specs.Confirm.{confirm}
 use Rattle.arj_protocol.specs.Coord.{Coord, Doing, Now, Idle, Calling, Committing, doing_of, number_of}
 use Rattle.arj_protocol.specs.Effect.{Disk, Effect, Intent, Did}
@@ -20,14 +19,14 @@ use Rattle.arj_protocol.specs.Node.{Handled, Parts, Took, Void, coord_heard, han
 use Rattle.arj_protocol.specs.Order as order
 use Rattle.arj_protocol.specs.Order.{at_uid, uid_number, without_number}
 use Rattle.arj_protocol.specs.Step as input
-use Rattle.arj_protocol.specs.Step.{Node, Input, acts, refusal_up, refused_by, first_reason, call_reasons, include_reasons, commit_reasons, abort_reasons, giveup_reasons, branch_named, branch_numbered, on_branch, waits, waits_above, waits_below, sibling_waits, is_waiting, is_waiting_now, class_at, lacks_op}
+use Rattle.arj_protocol.specs.Step.{acts, refusal_up, refused_by, first_reason, call_reasons, include_reasons, commit_reasons, abort_reasons, giveup_reasons, branch_named, branch_numbered, on_branch, waits, waits_above, waits_below, sibling_waits, is_waiting, is_waiting_now, class_at, lacks_op}
 use Rattle.arj_protocol.specs.Tree.{Branch, branch_of, at_place, has_open_child, has_many_objects, is_serial, root_of}
 use Rattle.arj_law_disk.specs.machine.Effects.{World}
 use Rattle.arj_law_disk.specs.machine.Messages as mail
 use Rattle.arj_law_disk.specs.machine.Words.{In}
 use Rattle.arj_law_disk.proofs.machine.Base.{test_same}
 use Rattle.arj_law_parts.specs.moves.Seen as seen
-use Rattle.arj_law_parts.specs.moves.Seen.{Post, Seen, up}
+use Rattle.arj_law_parts.specs.moves.Seen.{Seen, up}
 use Rattle.arj_law_parts.specs.moves.Walks.{Walks, Up}
 use Rattle.arj_law_disk_view.specs.view.Coordinating.{DidIsWalked, ActsAreWalked, MessagesAreWalked, KnowsNode, ConfirmsAreBooked, NotesMessage}
 use Rattle.arj_law_disk_view.specs.view.Knows.{KnowsKinds, KnowsCoord}
@@ -66,12 +65,6 @@ last_not f (u ∷ []) r on none = (or_parts (f u) false none).0
 last_not f (u ∷ w ∷ us) r on none = last_not f (w ∷ us) w (ap (λ b. b || is_on us w) (uid_same w)) (or_parts (f u) (list_any f (w ∷ us)) none).1
 
 module _ (hd : Header) (x : ℕ) (tops : Kinds) (e k : ℕ) (d : Disk) (t : Parts) (M : Seen) (kinds : KnowsKinds tops) (knows : KnowsCoord tops d.intents t.coord) (W : World) (sees : SeesDisks x tops W (up k d t M)) where
-  -- the action of a label
-  record Named (o : Option Branch) : Type 0 where
-    branch : Branch
-    is : o ≡ Some branch
-    found : branch_of (actor branch.path) t.coord.tree ≡ Some branch
-
   pub placed : (o : Option ℕ) (b : Branch) → branch_numbered t.coord o ≡ Some b → branch_of (actor b.path) t.coord.tree ≡ Some b
   placed None b is = absurd (cc is)
   placed (Some n) b is =

@@ -1,25 +1,19 @@
 -- The decisions of an object's machine against the journal, and back.
-use Rattle.std.specs.Prelude.{◌≡◌, ◌⊎◌, ◌≤◌, ◌++◌, ℕ, Bool, true, false, List, None, Some, Contains, length}
+use Rattle.std.specs.Prelude.{◌≡◌, ◌⊎◌, ◌≤◌, ◌++◌, ℕ, Bool, true, false, List, None, Some, Contains}
 use Rattle.arj_model.specs.Actions.{Act, acts}
-use Rattle.arj_protocol.specs.Words.{Header, Line, Uid}
+use Rattle.arj_protocol.specs.Words.{Line, Uid}
 use Rattle.arj_protocol.specs.Effect.{Intent}
 use Rattle.arj_protocol.specs.Order.{uid_number}
 use Rattle.arj_protocol.specs.Step.{Node}
 use Rattle.arj_law_disk.specs.machine.Effects as machine
 use Rattle.arj_law_disk.specs.machine.State.{decided}
-use Rattle.arj_law_parts.specs.moves.Keeps.{Holds}
-use Rattle.arj_law_parts.specs.moves.Moves.{Move, world_by}
 use Rattle.arj_law_parts.specs.moves.Seen.{Seen}
 use Rattle.arj_law_disk_view.specs.view.Sees.{Kinds, SeesDisks}
-use Rattle.arj_law_runs.specs.calls.Runs.{KnowsFew}
-use Rattle.arj_law_runs.specs.bindings.Scripts.{most_events}
 use Rattle.arj_law_disk.specs.machine.Names.{Office}
 use Rattle.arj_law_disk_view.specs.running.Bindings.{KnowsScript}
-use Rattle.arj_law_disk_view.specs.running.Part.{KeepsPart}
 use Rattle.arj_law_runs.specs.journal.Book.{book, is_decided, is_top}
 use Rattle.arj_law_runs.specs.journal.Idle.{HasNothing}
 use Rattle.arj_law_runs.specs.journal.Laws.{IsCommittedIn, IsDone}
-use Rattle.arj_law_runs.specs.kept.Worlds.{IsGood}
 
 -- ---- what the machine decides is said
 
@@ -79,9 +73,3 @@ pub record IsJournalled (x : ℕ) (M : Seen) : Type 0 where
   pub whose : (t : ℕ) → decided (let W = machine in W.disk) t ≡ true → (a : Act) × Contains (acts M.lines) a × (uid_number a.uid ≡ t)
   pub done : (a : Act) → Contains (acts M.lines) a → is_top a.kind ≡ true → IsDone M.lines a
       → (decided (let W = machine in W.disk) (uid_number a.uid) ≡ true) ⊎ ((let W = machine in W.disk.bare) (uid_number a.uid) ≡ true) ⊎ HasNothing M.lines a
-
--- What is kept beside the machine's state of what coordinators have and messages claim has it after all moves: nodes are good there, and calls are
--- known while few bindings were made.
-abbrev pub RunsAreJournalled : Type 0
-RunsAreJournalled = (hd : Header) (x : ℕ) (part : Kinds → Office → Seen → Bool) → KeepsPart hd x (λ W M. IsGood M × KnowsFew M) (λ tops A M. part tops A M ≡ true)
-    → (ms : List Move) → length ms ≤ most_events → Holds hd (IsJournalled x) (world_by hd ms)

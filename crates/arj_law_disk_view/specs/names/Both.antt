@@ -1,13 +1,12 @@
 -- Both halves of an object's machine in what is seen, of one state: stores, entry and coordinators, and naming's memory.
 use Rattle.std.specs.Prelude.{⊤, ◌≡◌, ◌⊎◌, ◌+◌, ◌==◌, ◌≤◌, ◌||◌, not, ℕ, Bool, true, false, List, [], ◌∷◌, Option, Some, None, is_some}
-use Rattle.arj_protocol.specs.Words.{Uid, Binding, Body, BoundReply, End, Head, Header, Label, ObjectState, is_on, object}
+use Rattle.arj_protocol.specs.Words.{Uid, Binding, Body, BoundReply, End, Head, Header, Label, is_on}
 use Rattle.arj_protocol.specs.Words.ask
 use Rattle.arj_protocol.specs.Words.ending
 use Rattle.arj_protocol.specs.Ask.{top_of}
-use Rattle.arj_protocol.specs.Call.{At, Known}
 use Rattle.arj_protocol.specs.Commit.{is_empty}
 use Rattle.arj_protocol.specs.Confirm.{Grants, Marks}
-use Rattle.arj_protocol.specs.Effect.{Disk, Effect, Say, Send, Do, Work, PutInc, is_prepared, held_at, holder_of}
+use Rattle.arj_protocol.specs.Effect.{Disk, Effect, Say, Send, Do, Work, PutInc, is_prepared}
 use Rattle.arj_protocol.specs.Naming.{Naming, bind}
 use Rattle.arj_protocol.specs.Node.{Parts, Took, handle_hello, handle_told, serve}
 use Rattle.arj_protocol.specs.Order.{at_number, uid_number}
@@ -19,22 +18,21 @@ use Rattle.arj_law_disk.specs.machine.Effects.{World, Allowed, Begin}
 use Rattle.arj_law_disk.specs.machine.Guards.{HasPart, IsNext, IsPresent, Note, MayBegin, only_acks, only_begins, only_decides}
 use Rattle.arj_law_disk.specs.machine.Messages.{ToldSerial}
 use Rattle.arj_law_disk.specs.machine.Named.{Named}
-use Rattle.arj_law_disk.specs.machine.Names.{Answer, Bound, Loaded, Names, Office, lists_after, retained, written_in}
+use Rattle.arj_law_disk.specs.machine.Names.{Answer, Names, Office, lists_after, retained, written_in}
 use Rattle.arj_law_disk.specs.machine.Offices.{chosen}
 use Rattle.arj_law_disk.specs.machine.State.{State, Done, Plan, Idle, is_gone, is_sealed, undecided}
-use Rattle.arj_law_disk.specs.machine.Words.{In, has}
+use Rattle.arj_law_disk.specs.machine.Words.{In}
 use Rattle.arj_law_parts.specs.moves.Seen.{Seen, at, down, given, said, see, up}
 use Rattle.arj_law_parts.specs.moves.Walks.{Walks, Up, halted}
 use Rattle.arj_law_disk_view.specs.view.Entries.{SeesEntry}
 use Rattle.arj_law_disk_view.specs.view.Confirming.{IsNewConfirm}
-use Rattle.arj_law_disk_view.specs.view.Sees.{Along, ClaimsAsk, IsFixed, IsLater, IsNested, Kinds, SeesDisks, IsSeenByDisks, followed}
+use Rattle.arj_law_disk_view.specs.view.Sees.{Along, ClaimsAsk, IsLater, IsNested, Kinds, SeesDisks, IsSeenByDisks, followed}
 use Rattle.arj_law_disk_view.specs.names.Booked.{CountsOnGrants}
 use Rattle.arj_law_disk_view.specs.names.Calls.{ClaimsBound, ClaimsTop, MayNote}
 use Rattle.arj_law_disk_view.specs.names.Memory.{IsOfTop, SeesNaming}
 use Rattle.arj_law_disk_view.specs.view.Formats.{HasObject}
-use Rattle.arj_law_disk_view.specs.view.Pairs.{packed}
-use Rattle.arj_law_disk_view.specs.names.Grants.{SeesGrants, StaysRetained}
-use Rattle.arj_law_disk_view.specs.names.Lists.{AfterAnswer, AreNarrowed, IsLasting, IsNamedNow, IsTopOf, SeesLists}
+use Rattle.arj_law_disk_view.specs.names.Grants.{SeesGrants}
+use Rattle.arj_law_disk_view.specs.names.Lists.{AreNarrowed, SeesLists}
 use Rattle.arj_law_disk_view.specs.names.Loads.{HaveLoads, KeepsState}
 use Rattle.arj_law_disk_view.specs.names.Restarts.{AreEntries}
 
@@ -332,16 +330,6 @@ pub record SeesRootOf (x : ℕ) (tops : Kinds) (root : Uid) (c : Coord) (r : Roo
   pub loads : HaveLoads x tops root r A.names
   pub state : KeepsState x root r A.world.disk
 
--- It is so still where nothing but naming's memory has changed, and where other roots' tops were decided: of each action of the root
--- the root is this one.
-abbrev pub RootsStay : Type 0
-RootsStay = (x : ℕ) (tops : Kinds) (root : Uid) (c : Coord) (r : Root) (A B : Office) → IsFixed tops A.world.disk → IsFixed tops B.world.disk → SeesRootOf x tops root c r A → OnlyMemory A B → SeesRootOf x tops root c r B
-
--- what other roots have is seen as before
-abbrev pub OtherRootsStay : Type 0
-OtherRootsStay = (x : ℕ) (tops : Kinds) (g : ℕ → Bool) (root : Uid) (c : Coord) (r : Root) (A B : Office) → IsFixed tops A.world.disk → IsFixed tops B.world.disk → tops.root (uid_number root) ≡ uid_number root → IsOther g A.world.disk (uid_number root)
-    → SeesRootOf x tops root c r A → OnlyAtNode g A B → SeesRootOf x tops root c r B
-
 -- ---- answers are taken and given
 
 -- Of naming's half only grants, kept lists and answers have changed; answers grow, and so do grants of who works and is no serializing
@@ -359,25 +347,6 @@ pub record HasGoneOn (A C : Office) : Type 0 where
   pub names : C.names ≡ A.names
   pub later : IsLater A.world C.world
   pub tops : C.world.disk.tops ≡ A.world.disk.tops
-
--- an office that both halves have come to, of which this holds
-abbrev pub IsAnswered : ℕ → Kinds → ℕ → Parts → Office → (Office → Type 0) → Disk → Seen → Type 0
-IsAnswered x tops k v A Q c N = (C : Office) × (D : Office) × HasGoneOn A C × OnlyAnswers C D × SeesBoth x tops D (up k c v N) × Q D
-
--- A store answers a Load with the state that it holds, for an include whose lock was granted with a list that has the store: the
--- answer is among the machine's.
-abbrev pub LoadsKeepBoth : Type 0
-LoadsKeepBoth = (x : ℕ) (tops : Kinds) (e k : ℕ) (d : Disk) (t v : Parts) (from : ℕ) (h : Head) (st : ObjectState) (top i : ℕ) (l : List ℕ) (outs : List Effect) (A : Office) (M : Seen) → tops.walk ≡ None → serve k d t from h (ask.Load x) ≡ Took v outs
-    → holder_of (object x) d.store ≡ None → held_at (object x) d.store ≡ Some st → In (Bound top i true l) A.names.answers → has k l ≡ true → SeesBoth x tops A (up k d t M)
-    → DisksWalk (λ n. false) x tops A e k outs v d M → Walks (IsSeenFrom x tops A) e k outs (IsAnswered x tops k v A (λ D. In (Loaded top i (packed st)) D.names.answers × OnlyAtNode (λ n. false) A D)) d M
-
--- A coordinator takes naming's answer to a top's call, which names a binding: it has the root's grants and lists afterwards, and of
--- another root nothing changes.
-abbrev pub CallsKeepBoth : Type 0
-CallsKeepBoth = (x g : ℕ) (tops : Kinds) (e k : ℕ) (d : Disk) (t v : Parts) (outs : List Effect) (root top : Uid) (c : Coord) (r q : Root) (known : Known) (at : At) (free : Bool) (A : Office) (M : Seen) → tops.walk ≡ None → AreAll leaves_the_inc outs → v.naming ≡ t.naming
-    → ((C : Office) (z : Disk) (N : Seen) → HasGoneOn A C → SeesDisks x tops C.world (up k z v N) → C.world.disk.stage (uid_number top) ≡ Idle) → In (Bound (uid_number top) g false known.stores) A.names.answers
-    → SeesGrants x root c r A.world.disk A.names → SeesLists x tops root c r A.names → IsLasting x c r → IsTopOf tops root top → tops.root (uid_number root) ≡ uid_number root → IsNamedNow x c r g known free → AfterAnswer x g top known at free r q → StaysRetained x c r c q
-    → SeesBoth x tops A (up k d t M) → DisksWalk (λ n. false) x tops A e k outs v d M → Walks (IsSeenFrom x tops A) e k outs (IsAnswered x tops k v A (λ D. SeesGrants x root c q D.world.disk D.names × SeesLists x tops root c q D.names × OnlyAtNode (λ n. n == uid_number top) A D)) d M
 
 -- ---- where stops fall
 

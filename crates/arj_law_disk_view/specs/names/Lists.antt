@@ -13,7 +13,7 @@ use Rattle.arj_protocol.specs.Tree.{is_spent}
 use Rattle.arj_law_disk.specs.machine.Guards.{IsPresent}
 use Rattle.arj_law_disk.specs.machine.Named.{Named}
 use Rattle.arj_law_disk.specs.machine.Names as machine
-use Rattle.arj_law_disk.specs.machine.Names.{Names, Office, Answer, Kept, lists_after, retained}
+use Rattle.arj_law_disk.specs.machine.Names.{Names, Office, Kept, lists_after, retained}
 use Rattle.arj_law_disk.specs.machine.State.{State, Idle}
 use Rattle.arj_law_disk.specs.machine.Words.{In, has, put2}
 use Rattle.arj_law_disk_view.specs.view.Confirming.{SaysMarks}

@@ -1,6 +1,6 @@
 -- Which stores coordinators ask for the state of an object: those that its entry lists, while the binding for which they ask is current.
-use Rattle.std.specs.Prelude.{◌≡◌, ◌+◌, ◌*◌, ◌≤◌, ◌<◌, ℕ, Bool, true, false, List, ◌∷◌, Option, None, Some, length}
-use Rattle.arj_protocol.specs.Words.{Header, Op, Uid, object}
+use Rattle.std.specs.Prelude.{◌≡◌, ◌+◌, ◌*◌, ◌≤◌, ◌<◌, ℕ, Bool, true, false, List, ◌∷◌, Option, None, Some}
+use Rattle.arj_protocol.specs.Words.{Op, Uid, object}
 use Rattle.arj_protocol.specs.Ask.{top_of}
 use Rattle.arj_protocol.specs.Call.{AtLoad, Known, Run, Steps}
 use Rattle.arj_protocol.specs.Coord.{Calling, Doing, doing_of}
@@ -14,16 +14,10 @@ use Rattle.arj_law_disk.specs.machine.Names.{Office}
 use Rattle.arj_law_disk.specs.machine.NamingLaws.{HoldsWrite}
 use Rattle.arj_law_disk.specs.machine.State.{Packed, State, is_gone, is_idle}
 use Rattle.arj_law_disk.specs.machine.Words as list
-use Rattle.arj_law_parts.specs.moves.Keeps.{Holds}
-use Rattle.arj_law_parts.specs.moves.Moves.{Move, world_by}
 use Rattle.arj_law_parts.specs.moves.Seen.{Seen}
-use Rattle.arj_law_runs.specs.kept.Worlds.{IsGood}
-use Rattle.arj_law_runs.specs.calls.Runs.{KnowsFew}
 use Rattle.arj_law_disk_view.specs.view.Sees.{Kinds}
-use Rattle.arj_law_runs.specs.bindings.Scripts.{most_events}
 use Rattle.arj_law_lock_view.specs.records.Claims.{AreAnswered}
 use Rattle.arj_law_lock_view.specs.records.Tests.{Tests}
-use Rattle.arj_law_disk_view.specs.running.Part.{KeepsPart}
 use Rattle.arj_law_disk_view.specs.running.Runs.{AgreesOn, HasState}
 
 -- A binding is current for a top at naming: it is the one that was made last for it, and isn't recorded yet, while the top works and its
@@ -102,8 +96,3 @@ pub record LoadsListed (x : ℕ) (A : Office) (M : Seen) (l : IsLoading x M) : T
 -- Copies agree, and each store that such a call asks holds what they agree on, where the object isn't in doubt there.
 abbrev pub LoadsAgree : ℕ → Seen → Type 0
 LoadsAgree x M = (last : Packed) × AgreesOn x last M × ((l : IsLoading x M) (s : ℕ) (m : Node) → has (l.store ∷ l.rest) s ≡ true → M.nodes s ≡ Some m → holder_of (object x) m.disk.store ≡ None → HasState x last m)
-
--- So it is after all moves, with what is kept beside the machine's state of what coordinators have and messages claim.
-abbrev pub RunsLoad : Type 0
-RunsLoad = (hd : Header) (x : ℕ) (part : Kinds → Office → Seen → Bool) → KeepsPart hd x (λ W M. IsGood M × KnowsFew M) (λ tops A M. part tops A M ≡ true)
-    → (ms : List Move) → length ms ≤ most_events → Holds hd (LoadsAgree x) (world_by hd ms)

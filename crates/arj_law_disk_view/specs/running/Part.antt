@@ -87,7 +87,3 @@ pub record KeepsPart (hd : Header) (x : ℕ) (R : World → Seen → Type 0) (P 
   pub restart : (tops : Kinds) (e k : ℕ) (d : Disk) (M : Seen) (A : Office) → tops.walk ≡ None → R A.world (down k d M) → SeesBoth x tops A (down k d M) → P tops A (down k d M)
       → Walks (HoldsAgain P x tops (are_recorded d.intents) A) e k (restart_outs hd k (d.inc + 1) d) (Up (HoldsAgain P x tops (are_recorded d.intents) A) k (parts_in k (d.inc + 1) d)) d M
   pub first : (tops : Kinds) → tops.walk ≡ None → KnowsKinds tops → (A : Office) × SeesBoth x tops A (see [] (format hd)) × P tops A (see [] (format hd)) × (A.world.disk.tops ≡ []) × ((t : ℕ) → A.world.disk.bare t ≡ false)
-
--- the state of the machine that is carried through a run: both halves are seen in it, and the relation holds of it
-abbrev pub IsCarried : (Kinds → Office → Seen → Type 0) → ℕ → Kinds → Seen → Type 0
-IsCarried P x tops M = (A : Office) × SeesBoth x tops A M × P tops A M

@@ -1,21 +1,13 @@
 -- The disk half of the view, for whole runs: the machine's state for every kinds that agree with the actions begun so far.
-use Rattle.std.specs.Prelude.{◌≡◌, ◌⊎◌, ◌≤◌, ℕ, Bool, true, List, Some, None, length}
-use Rattle.arj_protocol.specs.Words.{Uid, Header, ObjectState, entry, object, is_listed}
+use Rattle.std.specs.Prelude.{◌≡◌, ◌⊎◌, ◌≤◌, ℕ, Bool, true, List, Some, None}
+use Rattle.arj_protocol.specs.Words.{Uid, ObjectState, entry, object, is_listed}
 use Rattle.arj_protocol.specs.Effect.{Pair, held_at, holder_of}
 use Rattle.arj_protocol.specs.Order.{at_uid}
 use Rattle.arj_protocol.specs.Step.{Node}
 use Rattle.arj_protocol.specs.Values.{state_entry}
 use Rattle.arj_law_disk.specs.machine.State.{Below, Packed}
-use Rattle.arj_law_parts.specs.moves.Keeps.{Holds}
-use Rattle.arj_law_parts.specs.moves.Moves.{Move, world_by}
 use Rattle.arj_law_parts.specs.moves.Seen.{Seen}
 use Rattle.arj_law_disk_view.specs.view.Pairs.{IsOf, packed}
-use Rattle.arj_law_disk_view.specs.view.Sees.{Kinds}
-use Rattle.arj_law_runs.specs.kept.Worlds.{IsGood}
-use Rattle.arj_law_runs.specs.calls.Runs.{KnowsFew}
-use Rattle.arj_law_runs.specs.bindings.Scripts.{most_events}
-use Rattle.arj_law_disk.specs.machine.Names.{Office}
-use Rattle.arj_law_disk_view.specs.running.Part.{KeepsPart}
 
 -- a store that the entry lists, where the object isn't in doubt, holds this state
 abbrev pub HasState : ℕ → Packed → Node → Type 0
@@ -46,9 +38,3 @@ pub record AgreesOn (x : ℕ) (last : Packed) (M : Seen) : Type 0 where
 -- there is such a last state
 abbrev pub CopiesAgree : ℕ → Seen → Type 0
 CopiesAgree x M = (last : Packed) × AgreesOn x last M
-
--- What is kept beside the machine's state of what coordinators have and messages claim keeps copies in agreement after all moves: nodes are good
--- there, and calls are known while few bindings were made.
-abbrev pub RunsAgree : Type 0
-RunsAgree = (hd : Header) (x : ℕ) (part : Kinds → Office → Seen → Bool) → KeepsPart hd x (λ W M. IsGood M × KnowsFew M) (λ tops A M. part tops A M ≡ true)
-    → (ms : List Move) → length ms ≤ most_events → Holds hd (CopiesAgree x) (world_by hd ms)

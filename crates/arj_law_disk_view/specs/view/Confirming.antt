@@ -1,11 +1,9 @@
 -- What naming does at a Confirm, in the machine's terms: the list that a top leaves, and the entry that it has prepared.
-use Rattle.std.specs.Prelude.{⊤, ◌≡◌, ◌⊎◌, ◌<◌, ℕ, Bool, true, false, not, ◌&&◌, ◌||◌, ◌==◌, List, [], ◌∷◌, filter, None, bytes_eq, is_some, map}
+use Rattle.std.specs.Prelude.{⊤, ◌≡◌, ◌⊎◌, ◌<◌, ℕ, Bool, true, false, not, ◌&&◌, ◌||◌, ◌==◌, List, [], ◌∷◌, filter, None, bytes_eq, is_some}
 use Rattle.std.specs.List.{list_any}
 use Rattle.arj_protocol.specs.Words.{Uid, Path, ObjectState, Entry, entry, is_listed, is_on}
 use Rattle.arj_protocol.specs.Ask.{top_of}
-use Rattle.arj_protocol.specs.Commit as commit
-use Rattle.arj_protocol.specs.Commit.{Used, included_of}
-use Rattle.arj_protocol.specs.Confirm.{Grants, Marks, marked, stores_after, entries_after, has_all, checked, confirms, lock_all, wanted}
+use Rattle.arj_protocol.specs.Confirm.{Grants, Marks, marked, stores_after, has_all, checked, confirms, lock_all, wanted}
 use Rattle.arj_protocol.specs.Effect.{Pair, is_prepared, pair_prepared}
 use Rattle.arj_protocol.specs.Laws.{names_grant}
 use Rattle.arj_protocol.specs.Naming.{Naming, is_over}
@@ -16,7 +14,6 @@ use Rattle.arj_law_disk.specs.machine.State.{State, Plan, Packed, decided, undec
 use Rattle.arj_law_disk.specs.machine.Words.{In}
 use Rattle.arj_law_disk_view.specs.view.Pairs.{IsOf, HasNone, AreOne, packed_entry}
 use Rattle.arj_law_disk_view.specs.view.Plans.{AreDistinct}
-use Rattle.arj_law_disk_view.specs.view.Asking.{SeesConfirming}
 use Rattle.arj_law_disk_view.specs.view.Entries.{SeesEntry}
 
 -- What a Confirm says of an object: it marks the targets that didn't say Yes, includes the stores of the plan's includes that
@@ -40,14 +37,6 @@ ListsAreSeen = (x : ℕ) (p : Plan) (got : ℕ → Bool) (grants : Grants) (excl
 -- the entry that is held isn't of the last version
 abbrev pub FitsVersion : Packed → Type 0
 FitsVersion e = e.version < 18446744073709551615
-
--- A Confirm whose object gets another list prepares the entry that the machine enters, and one whose list stays prepares none.
-abbrev pub EntriesAreEntered : Type 0
-EntriesAreEntered = (x : ℕ) (d : Pair) (S : State) (top : Uid) (grants : Grants) (excluded included : Marks) → SeesEntry x d S → FitsVersion S.entry
-    → SaysMarks x (S.plan (uid_number top)) (S.got (uid_number top)) grants excluded included → AreNew (marked x included) S.entry.content
-    → (bytes_eq (new_list S (uid_number top)) S.entry.content ≡ false → (st : ObjectState) × IsOf (entry x) (entries_after top grants excluded included d) st
-    × AreOne packed_entry (entry x) (entries_after top grants excluded included d) (entry_hold S (uid_number top)).new)
-    × (bytes_eq (new_list S (uid_number top)) S.entry.content ≡ true → HasNone (entry x) (entries_after top grants excluded included d))
 
 -- ---- the three kinds of confirmation keep the entry seen
 
@@ -105,10 +94,3 @@ with_locks p grants excluded d n = let l = lock_all (wanted (top_of p) grants ex
 abbrev pub IsUnconfirmed : Path → Grants → Marks → Marks → Pair → Naming → Naming → Type 0
 IsUnconfirmed p grants excluded included d n o = (o ≡ n) ⊎ ((o ≡ with_locks p grants excluded d n) × IsNewConfirm p grants excluded included d n)
     ⊎ ((o ≡ confirms (top_of p) n) × ((is_on n.confirmed (top_of p) || is_prepared (top_of p) d) ≡ true) × (is_over p n ≡ false))
-
--- ---- what a coordinator asks
-
--- a Confirm whose prepare step has ended says what that found
-abbrev pub ConfirmsSay : Type 0
-ConfirmsSay = (x : ℕ) (S : State) (t : ℕ) (p : commit.Plan) → SeesConfirming x S t p
-    → SaysMarks x (S.plan t) (S.got t) (map {A = Used} {B = ℕ × ℕ} (λ u. (u.x, u.grant)) p.used) p.excluded (included_of p)

@@ -8,11 +8,10 @@ use Rattle.arj_protocol.specs.Follow.{tick_outs}
 use Rattle.arj_protocol.specs.Ask.{Reply, actor, answers, last_end, top_of}
 use Rattle.arj_protocol.specs.Call.{Steps}
 use Rattle.arj_protocol.specs.Commit as commit
-use Rattle.arj_protocol.specs.Commit.{begin_prepare, targets_of}
 use Rattle.arj_protocol.specs.Confirm.{Grants, Marks, confirms}
 use Rattle.arj_protocol.specs.Coord.{Coord, Doing, Now, Idle, Calling, Committing, doing_of}
 use Rattle.arj_protocol.specs.Effect.{Disk, Did, Effect, Intent}
-use Rattle.arj_protocol.specs.Asking.{again_all, begin_action, call, include, heard_call, step_commit, moved_commit, commit_action, waits_for_commit, gives_up}
+use Rattle.arj_protocol.specs.Asking.{again_all, begin_action, call, include, heard_call, moved_commit, commit_action, waits_for_commit, gives_up}
 use Rattle.arj_protocol.specs.Ending.{abort_action, acked_left, answer_query, ends_with, decide}
 use Rattle.arj_protocol.specs.Naming.{Naming, orphans}
 use Rattle.arj_protocol.specs.Node.{Parts, Took, handle, handle_told, serve, holders, prepared_actions, with_coord, with_naming}
@@ -30,10 +29,9 @@ use Rattle.arj_law_parts.specs.moves.Keeps.{is_act}
 use Rattle.arj_law_parts.specs.moves.Seen as seen
 use Rattle.arj_law_parts.specs.moves.Seen.{Seen, up, down, given}
 use Rattle.arj_law_parts.specs.moves.Walks.{Walks, Up}
-use Rattle.arj_law_disk_view.specs.view.Asking.{IsUnanswered}
 use Rattle.arj_law_disk_view.specs.view.Confirming.{IsBooked, IsConfirmation, IsNewConfirm, IsUnconfirmed, with_locks}
-use Rattle.arj_law_disk_view.specs.view.Knows.{KnowsKinds, KnowsCoord, KnowsPlan, IsOfKind}
-use Rattle.arj_law_disk_view.specs.view.Sees.{Kinds, Walk, followed, may_note, was_begun, IsFuture, SeesDisks, IsSeenByDisks, KnowsNow, ClaimsAsk, ClaimsLast, ClaimsReply}
+use Rattle.arj_law_disk_view.specs.view.Knows.{KnowsKinds, KnowsCoord, IsOfKind}
+use Rattle.arj_law_disk_view.specs.view.Sees.{Kinds, Walk, followed, may_note, was_begun, IsFuture, SeesDisks, IsSeenByDisks, ClaimsAsk, ClaimsLast, ClaimsReply}
 
 -- the coordinator's part of a step keeps the disk half
 abbrev pub DidIsWalked : ℕ → Kinds → ℕ → ℕ → Disk → Parts → Did Coord → Seen → Type 0
@@ -68,12 +66,6 @@ abbrev pub IsBefore : Now → Type 0
 IsBefore Idle = ⊤
 IsBefore (Committing (commit.Voting p left)) = ⊤
 IsBefore _ = ⊥
-
--- A top's prepare step begins, or what follows where no store is to be asked.
-abbrev pub TopsPrepare : Type 0
-TopsPrepare = (x : ℕ) (tops : Kinds) (e k : ℕ) (d : Disk) (t : Parts) (act : Uid) (b : Branch) (q : Doing) (p : commit.Plan) (M : Seen) → KnowsCoord tops d.intents t.coord
-    → branch_of act t.coord.tree ≡ Some b → b.ended ≡ None → doing_of act t.coord ≡ Some q → IsBefore q.now → tops.is_top (uid_number act) ≡ true → may_note tops.walk (Begins (uid_number act)) ≡ true → KnowsPlan act p → IsUnanswered p → (p.used ≡ [] → UsesNothing p)
-    → (W : World) → SeesDisks x tops W (up k d t M) → KnowsNow x W (Committing (commit.Voting p [])) → DidIsWalked x tops e k d t (step_commit act (begin_prepare (targets_of p) p) d.intents t.coord) M
 
 -- An open action commits that has no open action in it and that waits for nothing: a doomed one is aborted, a nested one is
 -- committed, a serializing one ends; a top asks for its votes.

@@ -2,7 +2,7 @@
 use Rattle.std.specs.Prelude.{◌≡◌, ℕ, true, false, List, Option, Some, None}
 use Rattle.arj_protocol.specs.Words.{Uid}
 use Rattle.arj_protocol.specs.Commit as commit
-use Rattle.arj_protocol.specs.Commit.{participants, has_record, included_of}
+use Rattle.arj_protocol.specs.Commit.{participants, has_record}
 use Rattle.arj_protocol.specs.Effect.{Pair, Intent}
 use Rattle.arj_protocol.specs.Order as order
 use Rattle.arj_protocol.specs.Order.{at_uid, put_uid, without_uid, uid_number}

@@ -17,10 +17,6 @@ abbrev pub AreSorted : {X : Type 0} → List (Uid × X) → Type 0
 AreSorted [] = ⊤
 AreSorted (e ∷ es) = AreAbove e.0 es × AreSorted es
 
--- an action as a number
-abbrev pub num : Uid → ℕ
-num u = uid_number u
-
 -- a state of an object, and of an entry, which holds the list of its stores
 abbrev pub packed : ObjectState → Packed
 packed s = record { version = s.version; writer = uid_number s.writer; content = s.payload }

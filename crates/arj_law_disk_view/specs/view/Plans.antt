@@ -3,11 +3,11 @@
 use Rattle.std.specs.Prelude.{⊤, ◌≡◌, ◌⊎◌, ℕ, true, ◌==◌, List, [], ◌∷◌, find, Option, Some, None, option_map, false}
 use Rattle.arj_protocol.specs.Words.{Uid, ObjectState, object}
 use Rattle.arj_protocol.specs.Commit as commit
-use Rattle.arj_protocol.specs.Commit.{Used, Machine, Voting, Preparing, Confirming, changed_of, states_for, is_marked, included_of, targets_of}
+use Rattle.arj_protocol.specs.Commit.{Used, changed_of, states_for, targets_of}
 use Rattle.arj_protocol.specs.Order as order
 use Rattle.arj_protocol.specs.Order.{uid_number}
 use Rattle.arj_law_disk.specs.machine.State as disk
-use Rattle.arj_law_disk.specs.machine.State.{State, Packed, target, state_for}
+use Rattle.arj_law_disk.specs.machine.State.{State, Packed, target}
 use Rattle.arj_law_disk_view.specs.view.Pairs.{packed}
 use Rattle.arj_law_disk_view.specs.view.Stores.{IsPlanned}
 

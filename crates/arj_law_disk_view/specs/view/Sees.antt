@@ -1,7 +1,7 @@
 -- The disk half of the view, whole: each place of the machine tied to the world, and what each message claims.
 use Rattle.std.specs.Prelude.{⊤, ◌≡◌, ◌⊎◌, ◌<◌, ℕ, Bool, true, false, List, ◌++◌, length, Option, Some, None, ◌==◌, ◌∷◌}
 use Rattle.std.specs.List.{list_any, AllByRecursion}
-use Rattle.arj_protocol.specs.Words.{Uid, End, Kind, Cause, Line, Body, ObjectState, Head, Asked, Ask, asks, Message, uid_eq, is_on, object, PreparedReply}
+use Rattle.arj_protocol.specs.Words.{Uid, End, Kind, Line, Body, ObjectState, Head, Asked, Ask, asks, Message, uid_eq, is_on, object, PreparedReply}
 use Rattle.arj_protocol.specs.Words.ask
 use Rattle.arj_protocol.specs.Words.body
 use Rattle.arj_protocol.specs.Words.kind
@@ -13,14 +13,13 @@ use Rattle.arj_protocol.specs.Words.confirmed
 use Rattle.arj_protocol.specs.Ask.{Reply, answers, actor, top_of, last_end}
 use Rattle.arj_protocol.specs.Commit as commit
 use Rattle.arj_protocol.specs.Commit.{Used, changed_of, Voting, Preparing, Confirming, begin_prepare, targets_of}
-use Rattle.arj_protocol.specs.Coord.{Coord, Doing, Joined, Root, Now, Committing, doing_of, on_doing}
+use Rattle.arj_protocol.specs.Coord.{Coord, Doing, Joined, Root, Now, Committing, doing_of}
 use Rattle.arj_protocol.specs.Naming.{Naming}
 use Rattle.arj_protocol.specs.Node.{Parts, Took, serve, handle_ends, handle_hello, holders, with_coord}
 use Rattle.arj_protocol.specs.Effect.{Disk, Effect, Intent}
 use Rattle.arj_protocol.specs.Asking.{moved_commit, step_commit, gives_up}
 use Rattle.arj_protocol.specs.Order as order
 use Rattle.arj_protocol.specs.Order.{at_uid, uid_number}
-use Rattle.arj_protocol.specs.Ending.{aborts_with}
 use Rattle.arj_protocol.specs.Step.{Node}
 use Rattle.arj_protocol.specs.Tree.{Branch, branch_of, is_open}
 use Rattle.arj_law_disk.specs.machine.Effects as machine
@@ -28,12 +27,12 @@ use Rattle.arj_law_disk.specs.machine.Effects.{World, Follows, Whole, run}
 use Rattle.arj_law_disk.specs.machine.Guards.{AreOnlyOf, Note, Begins, Decides}
 use Rattle.arj_law_disk.specs.machine.Messages as mail
 use Rattle.arj_law_disk.specs.machine.State as disk
-use Rattle.arj_law_disk.specs.machine.State.{State, naming, target, is_gone, is_sealed, undecided, KnownIn, Known}
+use Rattle.arj_law_disk.specs.machine.State.{State, naming, target, is_gone, is_sealed, undecided, Known}
 use Rattle.arj_law_disk.specs.machine.Words.{In}
 use Rattle.arj_law_parts.specs.moves.Seen as seen
-use Rattle.arj_law_parts.specs.moves.Seen.{Post, Seen, at, up, said}
-use Rattle.arj_law_parts.specs.moves.Walks.{Walks, Up, halted}
-use Rattle.arj_law_disk_view.specs.view.Asking.{SeesPreparing, SeesConfirming, TopGoes, IsUnanswered}
+use Rattle.arj_law_parts.specs.moves.Seen.{Post, Seen, up}
+use Rattle.arj_law_parts.specs.moves.Walks.{Walks, Up}
+use Rattle.arj_law_disk_view.specs.view.Asking.{SeesPreparing, SeesConfirming, IsUnanswered}
 use Rattle.arj_law_disk_view.specs.view.Confirming.{SaysMarks}
 use Rattle.arj_law_disk_view.specs.view.Deciding.{SeesRecords}
 use Rattle.arj_law_disk_view.specs.view.Entries.{SeesEntry}
@@ -279,14 +278,6 @@ WalksAreFollowed = (x : ℕ) (tops : Kinds) (o : Option Walk) (W : World) (M : S
 
 -- ---- what handlers keep of the disk half
 
--- a node may stop at any time, and lines at which no place looks may be said
-abbrev pub StopsAreSeen : Type 0
-StopsAreSeen = (x : ℕ) (tops : Kinds) (e k : ℕ) (d : Disk) (live : Option Parts) (M : Seen) → IsSeenByDisks x tops (at k d live M) → IsSeenByDisks x tops (halted e k d M)
-
--- lines at which no place looks may be said
-abbrev pub LinesAreSeen : Type 0
-LinesAreSeen = (x : ℕ) (tops : Kinds) (e : ℕ) (bs : List Body) (M : Seen) → IsSeenByDisks x tops M → IsSeenByDisks x tops (said e bs M)
-
 -- a request that is taken is walked through, wherever a stop falls
 abbrev pub RequestIsWalked : (Ask → Type 0) → Type 0
 RequestIsWalked Kind = (x : ℕ) (tops : Kinds) (e k : ℕ) (d : Disk) (t v : Parts) (from : ℕ) (h : Head) (a : Ask) (outs : List Effect) (M : Seen)
@@ -321,12 +312,6 @@ abbrev pub EndsAreWalked : Type 0
 EndsAreWalked = (x : ℕ) (tops : Kinds) (e k : ℕ) (d : Disk) (t v : Parts) (from : ℕ) (ack : Bool) (ends : List (Uid × End)) (outs : List Effect) (M : Seen)
     → (k == 1) ≡ false → t.naming ≡ None → IsSeenByDisks x tops (up k d t M) → ((W : World) → SeesDisks x tops W (up k d t M) → ClaimsLast tops W k ack (last_end ends))
     → handle_ends k d t from ack ends (last_end ends) ≡ Took v outs → Walks (IsSeenByDisks x tops) e k outs (Up (IsSeenByDisks x tops) k v) d M
-
--- A step of an open top's commit machine: where the machine goes with it, the whole stays seen.
-abbrev pub TopsAreSeen : Type 0
-TopsAreSeen = (x k : ℕ) (tops : Kinds) (W : World) (M : Seen) (d : Disk) (t : Parts) (u : Uid) (b : Branch) (q : Doing) (f : Doing → Doing) → SeesDisks x tops W (up k d t M)
-    → branch_of u t.coord.tree ≡ Some b → b.ended ≡ None → doing_of u t.coord ≡ Some q → tops.is_top (uid_number u) ≡ true → may_note tops.walk (Begins (uid_number u)) ≡ true → W.disk.serial (uid_number u) ≡ false → (let r = f q in r.took) ≡ q.took → ((V : World) → IsLater W V → KnowsNow x V (let r = f q in r.now))
-    → (goes : TopGoes (uid_number u) (λ S. let r = f q in Works x tops S (uid_number u) b.kind r.now) W) → SeesDisks x tops (run W goes.effects) (up k d (with_coord t (on_doing u f t.coord)) M)
 
 -- A store's answer to a Prepare that isn't Old: it is taken, and with the last one the coordinator asks naming.
 abbrev pub IsTaken : PreparedReply → Type 0
@@ -408,9 +393,3 @@ abbrev pub ConfirmedIsHeard : Type 0
 ConfirmedIsHeard = (x : ℕ) (tops : Kinds) (e k : ℕ) (d : Disk) (t : Parts) (from : ℕ) (act : Uid) (p : commit.Plan) (M : Seen)
     → WaitsForNaming t d.intents act p → tops.is_top (uid_number act) ≡ true → may_note tops.walk (Decides (uid_number act)) ≡ true → (W : World) → SeesDisks x tops W (up k d t M) → ClaimsReply x W from act (Reply.Confirmed confirmed.Yes)
     → let did = moved_commit act (commit.answered from (Confirming p) (Reply.Confirmed confirmed.Yes)) d.intents t.coord in Walks (IsSeenByDisks x tops) e k did.outs (Up (IsSeenByDisks x tops) k (with_coord t did.part)) d M
-
--- An open top without a record may be aborted by itself, whatever the cause: all nodes that it sent something are told.
-abbrev pub TopsAreAborted : Type 0
-TopsAreAborted = (x : ℕ) (tops : Kinds) (e k : ℕ) (d : Disk) (t : Parts) (act : Uid) (why : Cause) (b : Branch) (q : Doing) (M : Seen)
-    → branch_of act t.coord.tree ≡ Some b → b.ended ≡ None → doing_of act t.coord ≡ Some q → at_uid act d.intents ≡ None → tops.is_top (uid_number act) ≡ true → (W : World) → SeesDisks x tops W (up k d t M)
-    → let did = aborts_with act why d.intents t.coord in Walks (IsSeenByDisks x tops) e k did.outs (Up (IsSeenByDisks x tops) k (with_coord t did.part)) d M

@@ -115,9 +115,6 @@ module _ (first : ℕ) (s t : State) (k : ℕ) (m : Act) (i q : ℕ) (c : Call) 
   od : In c s.calls
   od = bh.old c there its
 
-  lv : Alive s c.act
-  lv = bh.back c.act alive
-
   kept_then : s.kept (root m) ≡ b
   kept_then = sym (bh.kept c od its alive) ∙ sym kept_is
 

@@ -150,9 +150,6 @@ module _ (s : State) (a : Act) (x : Action) (p : ℕ) (cs : List Call) (ms : Lis
 
 -- the same where no call comes
 module _ (s : State) (h : Holds s) (a : Act) (x : Action) (p : ℕ) (ms : List Message) (m : Moves s a x p s.calls ms) where
-  abbrev t' : State
-  t' = record s { action = at_act s.action a x; now = p; net = ms }
-
   pub later_acted : Later s (record s { action = at_act s.action a x; now = p; net = ms })
   later_acted = later_action s a x p s.calls ms m (λ c i. i) (λ c i. inl i) (λ c conf i zero.
       let l = (h.tops (top c.act) (top_is c.act (h.calls c i).acts)).asked conf in

@@ -39,9 +39,6 @@ pub stage_is : (n : ℕ) → (n ≡ 0) ⊎ (1 ≤ n)
 stage_is n = grind arith
 
 module _ {s : State} (h : Holds s) (r : Answer) (i : In (Invoked r) s.net) (pending : Pending s r.request.act r.request.number) (good : Good s (top r.request.act)) where
-  a : Act
-  a = r.request.act
-
   b : ℕ
   b = s.kept (root r.request.act)
 

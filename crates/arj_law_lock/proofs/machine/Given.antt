@@ -1,14 +1,14 @@
 -- A vote that was given stands.
 use Rattle.std.proofs.Common.{◌≡◌, ◌≤◌, ◌==◌, ◌⊎◌, ℕ, Bool, true, false, cond, max, inl, inr, refl, sym, ◌∙◌, ap, subst, arith, eq-eqb, eqb-true}
-use Rattle.arj_law_lock.specs.machine.Actions.{Act, In, is_top, root, same, top}
+use Rattle.arj_law_lock.specs.machine.Actions.{Act, In, root, same, top}
 use Rattle.arj_law_lock.specs.machine.State.{Alive, Call, State, Vote}
 use Rattle.arj_law_lock.specs.machine.Steps.{Event, CrashNaming, BindLive, BindNew, Grant, Record, ConfirmTop, PassEntry, DropEntry, CrashServer, ActivateCopy, Apply, Refuse, Change, PassRow, PassTop, DropRows, VoteTop, Keep, Name, Load, SendInvoke, Answered, TurnedDown, Lost, GiveUp, CommitNested, Abort, CommitTop, SendVote, SendConfirm, Decide, Report, EndUnit, Included}
 use Rattle.arj_law_lock.specs.machine.Machine.{Guard, Run, ballot, next, stay, step}
-use Rattle.arj_law_lock.specs.machine.Laws.{ConfirmedStands, GivenStands, given_by}
-use Rattle.arj_law_lock.proofs.machine.Paths.{act_here, by_cases, differ, same_is, top_root}
-use Rattle.arj_law_lock.proofs.machine.Claims.{Holds, Mean}
+use Rattle.arj_law_lock.specs.machine.Laws.{GivenStands, given_by}
+use Rattle.arj_law_lock.proofs.machine.Paths.{act_here, same_is}
+use Rattle.arj_law_lock.proofs.machine.Claims.{Holds}
 use Rattle.arj_law_lock.proofs.machine.Later.{Later, alive_back, first_rises}
-use Rattle.arj_law_lock.proofs.machine.Order.{go_on, run_keeps, step_keeps}
+use Rattle.arj_law_lock.proofs.machine.Order.{step_keeps}
 use Rattle.arj_law_lock.proofs.machine.ValueClaims.{Values}
 use Rattle.arj_law_lock.proofs.machine.VoteLasts.{Votes}
 use Rattle.arj_law_lock.proofs.machine.VoteSteps.{votes_agree}
@@ -138,73 +138,3 @@ given_stands {s} h v o n m b i t c guard run one given kept first ci write tops 
     by : (w : Bool) → (max (s.yes m) b == s.yes m) ≡ w → t.vote m ≡ given_by s n m
     by true is = stays ∙ (λ j. cond (is j) (s.vote m) (given_by s n m)) ∙ again (eqb-true (max (s.yes m) b) (s.yes m) is)
     by false is = stays ∙ (λ j. cond (is j) (s.vote m) (given_by s n m))
-
--- ---- what was given and confirmed
-
--- A top that is confirmed and wasn't: as it was, naming was of the incarnation of the binding that its unit kept.
-record Confirming (m : Act) (s t : State) : Type 0 where
-  pub at : State
-  pub before : Run s at
-  pub holds : Holds at
-  pub after : Run at t
-  pub first : at.naming.first ≤ at.kept (root m)
-
-confirming : (m : Act) {s r t : State} (c : Call) → Run s r → Holds r → Run r t → r.confirmed m ≡ false → t.confirmed m ≡ true → is_top m ≡ true → 1 ≤ (r.action m).stage → In c t.calls → top c.act ≡ m → Alive t c.act → Confirming m s t
-confirming m c before hr stay off on is called ci tops alive = differ on off
-confirming m {s} {r} {t} c before hr (step e guard more) off on is called ci tops alive = by (λ still. (let p = step_keeps e r guard hr in let later = p.0 in let up = later.stage m in confirming m c (go_on before (step e guard stay)) p.1 more still on is (omega (arith, up, called)) ci tops alive)) (by_cases (let u = next e r in u.confirmed m))
-  where
-    k : Later r (next e r) × Holds (next e r)
-    k = step_keeps e r guard hr
-
-    behind : Since m (next e r) t
-    behind = since m more k.1
-
-    whole : Since m r t
-    whole = since_both m r (next e r) t (since_step m e r k.0) behind
-
-    by : ((let u = next e r in u.confirmed m) ≡ false → Confirming m s t) → ((let u = next e r in u.confirmed m) ≡ true) ⊎ ((let u = next e r in u.confirmed m) ≡ false) → Confirming m s t
-    by more_of (inl now) =
-        let later = k.0 in
-        elim (later.confirms c (whole.calls called c ci tops) (behind.alive c.act alive) m is (inr (sym (top_root c.act) ∙ ap root tops, inl tops)) now) [
-          | inl old ↦ differ old off
-          | inr low ↦ record { at = r; before = before; holds = hr; after = step e guard more; first = low }
-        ]
-    by more_of (inr still) = more_of still
-
-pub confirmed_stands : {s : State} → Holds s → Values s → Votes s → ConfirmedStands s
-confirmed_stands {s} h v o n m b i r t c guard run off more one given kept on ci write tops alive =
-    let late = after.vote in let same = late.1 (let y = yes_there in omega (arith, y, given)) in
-    same ∙ given_stands h v o n m b i q.at c guard q.before stage_there yes_there kept_there (let f = q.first in let z = kept_there in omega (arith, f, z)) (after.calls (let z = stage_there in omega (arith, z)) c ci tops) write tops (after.alive c.act alive)
-  where
-    k1 : Later s (next (VoteTop n m b i) s) × Holds (next (VoteTop n m b i) s)
-    k1 = step_keeps (VoteTop n m b i) s guard h
-
-    mean : Mean s (Vote m b i)
-    mean = h.mail (Vote m b i) guard.0
-
-    voted : Since m s (next (VoteTop n m b i) s)
-    voted = since_step m (VoteTop n m b i) s k1.0
-
-    called : 1 ≤ (r.action m).stage
-    called = let a = voted.stage in let b' = (let z = since m run k1.1 in z.stage) in let least = mean.4 in omega (arith, a, b', least)
-
-    q : Confirming m (next (VoteTop n m b i) s) t
-    q = confirming m c run (run_keeps run k1.1) more off on mean.0 called ci tops alive
-
-    before : Since m (next (VoteTop n m b i) s) q.at
-    before = since m q.before k1.1
-
-    after : Since m q.at t
-    after = since m q.after q.holds
-
-    stage_there : (let z = q.at in (z.action m).stage) ≡ 1
-    stage_there = let x = voted.stage in let y = before.stage in let z = after.stage in let least = mean.4 in omega (arith, x, y, z, least, one)
-
-    its_yes : (let u = next (VoteTop n m b i) s in u.yes m) ≡ max (s.yes m) b
-    its_yes = act_here s.yes m (max (s.yes m) b)
-
-    yes_there : (let z = q.at in z.yes m) ≡ b
-    yes_there = let e = its_yes in let x = before.vote in let y = after.vote in let lo = x.0 in let hi = y.0 in omega (arith, e, lo, hi, given)
-
-    kept_there : (let z = q.at in z.kept (root m)) ≡ b
-    kept_there = let least = mean.2 in let x = voted.kept (root m) in let y = before.kept (root m) in let z = after.kept (root m) in omega (arith, least, x, y, z, kept)

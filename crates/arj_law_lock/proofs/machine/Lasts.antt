@@ -7,10 +7,6 @@ use Rattle.arj_law_lock.proofs.machine.Paths.{top_root, top_is, on_top}
 use Rattle.arj_law_lock.proofs.machine.Claims.{server_of, IsUp, Reached, Covers, Good, Pending, Conflict, Order, Asked, Mean, NamingHolds, NamedHolds, CallHolds, IncludeHolds, TopHolds, WaitHolds, Waits, Anti, Before, Turns, Member, Follows, Counts, Holds}
 use Rattle.arj_law_lock.proofs.machine.Later.{doubt_on, Later, alive_back, passed_on, done_on, before_on, covered_back, first_rises, same_server, reached_on, reached_lasts, up_back, covers_on, mode_positive, sure_on, entered_on, good_back}
 
--- a top with a call is an action with the root of the call
-pub call_top : (a : Act) → is_action a ≡ true → is_top (top a) ≡ true
-call_top a e = top_is a e
-
 -- Facts of one state.
 
 module _ {s : State} (h : Holds s) where

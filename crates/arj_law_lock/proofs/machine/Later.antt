@@ -67,10 +67,6 @@ module _ {s t : State} (later : Later s t) where
   pub before_on : (m : Act) (p : ℕ) → Before s m p → Before t m p
   before_on m p h = let e = later.place m h.0 in let l = later.stage m in ((let l0 = h.0 in omega (arith, l, l0)), (let l1 = h.1 in omega (arith, e, l1)))
 
-  pub covered_on : (m a : Act) → 1 ≤ (s.action m).stage → Covered s m a → Covered t m a
-  covered_on m a one (r, inl is) = (r, inl is)
-  covered_on m a one (r, inr (done, less)) = let k = later.ends (top a) done in let p = later.place m one in (r, inr (k.0, (let e = k.1 in omega (arith, less, e, p))))
-
   pub covered_back : (m a : Act) → is_action a ≡ true → 1 ≤ (s.action m).stage → (s.action m).place < s.now → Covered t m a → Covered s m a
   covered_back m a act one line (r, inl is) = (r, inl is)
   covered_back m a act one line (r, inr (done, less)) = by (later.fresh (top a) (top_act a act) done)

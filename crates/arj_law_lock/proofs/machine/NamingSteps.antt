@@ -23,9 +23,6 @@ server_same v = record { rises = omega arith; active = λ e. omega arith; voted 
 
 -- Naming's part alone changes.
 module _ (s : State) (n : Naming) (ms : List Message) where
-  abbrev named_state : State
-  named_state = record s { naming = n; net = ms }
-
   pub later_naming : ((n.first ≡ s.naming.first) ⊎ ((s.naming.bound ≤ n.first) × (s.naming.first < n.first))) → s.naming.recorded ≤ n.recorded → s.naming.bound ≤ n.bound
       → ((m : Act) (b : ℕ) → is_top m ≡ true → b < s.naming.bound → Own s m b → Own (record s { naming = n; net = ms }) m b)
       → ((m : Act) (g : ℕ) → is_top m ≡ true → g ≤ s.naming.first → Wrote s m g → Wrote (record s { naming = n; net = ms }) m g)
@@ -77,9 +74,6 @@ module _ (s : State) (n : Naming) (ms : List Message) where
 
 -- The rows of naming only rise, and all else stays.
 module _ (s : State) (rows : Rows) (asked : Act → Bool) (ms : List Message) (rise : (a : Act) → s.naming.rows a ≤ rows a) (still : (a : Act) → s.naming.asked a ≡ true → asked a ≡ true) where
-  abbrev grown : Naming
-  grown = record s.naming { rows = rows; asked = asked }
-
   holds_more : (k : ℕ) (m : Act) → HoldsTop s.naming k m → HoldsTop (record s.naming { rows = rows; asked = asked }) k m
   holds_more k m p = ((let l = p.0 in let r = rise m in omega (arith, l, r)), λ two. still m (p.1 two))
 

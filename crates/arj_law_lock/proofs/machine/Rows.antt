@@ -7,9 +7,6 @@ use Rattle.arj_law_lock.proofs.machine.Paths.{by_cases, on_self, on_up, on_above
 pub apart_none : Apart (λ a. 0)
 apart_none a b p q = absurd (omega (arith, p))
 
-pub Kin : Act → Act → Type 0
-Kin a b = (on a b ≡ true) ⊎ (on b a ≡ true)
-
 turn : (a b : Act) → (on a b ≡ true) ⊎ (on b a ≡ true) → (on b a ≡ true) ⊎ (on a b ≡ true)
 turn a b (inl p) = inr p
 turn a b (inr p) = inl p

@@ -36,9 +36,6 @@ no_base a b u kin o f = elim (by_cases (is_action u)) [ inl t ↦ t | inr e ↦ 
 
 -- One server changes.
 module _ (s : State) (n : ℕ) (v : Server) (ys : Act → ℕ) (vs : Act → Ballot) (ms : List Message) where
-  abbrev changed : State
-  changed = record s { server = at s.server n v; yes = ys; vote = vs; net = ms }
-
   pub there : (b : ℕ) → (s.binding b).server ≡ n → server_of (record s { server = at s.server n v; yes = ys; vote = vs; net = ms }) b ≡ v
   there b e = ap (at s.server n v) e ∙ at_here s.server n v
 
@@ -261,9 +258,6 @@ change s n q guard h = send_one s (Changed q.binding) h tt
 
 -- Rows and log of one server change so that each row that covers something passes on.
 module _ (s : State) (n : ℕ) (base : ℕ) (log : List Entry) (rows : Rows) where
-  abbrev moved : Server
-  moved = record (s.server n) { base = base; log = log; rows = rows }
-
   pub later_rows : ((a : Act) (k : ℕ) (x : Act) → Alive s a → 1 ≤ k → ((s.action (top a)).stage ≡ 3 → (s.server n).voted (top a) ≡ true) → on a x ≡ true → k ≤ (s.server n).rows x → Merged s a x → ((s.action (Root (root a))).stage ≡ 3) ⊎ ((y : Act) × (on a y ≡ true) × (k ≤ rows y) × Merged s a y)) → Later s (record s { server = at s.server n (record (s.server n) { base = base; log = log; rows = rows }) })
   later_rows moves = later_server s n v s.yes s.vote s.net (record { rises = omega arith; active = λ e. omega arith; voted = λ e m f. f })
       (λ a b k x e inc act alive one voted o row merged. elim (moves a k x alive one voted o row merged) [ inl three ↦ over (omega (arith, three)) | inr p ↦ stands_by s n v s.yes s.vote s.net a b k p.0 v e inc act p.1 p.2 p.3 ])

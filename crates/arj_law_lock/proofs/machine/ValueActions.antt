@@ -3,7 +3,7 @@ use Rattle.std.proofs.Common.{◌≡◌, ◌≢◌, ◌≤◌, ◌⊎◌, ℕ, L
 use Rattle.arj_law_lock.specs.machine.Actions.{Act, same, on, root, top, is_top, is_action, In}
 use Rattle.arj_law_lock.specs.machine.State.{Action, Entry, Call, Request, Message, Invoke, State, Alive, Merged}
 use Rattle.arj_law_lock.specs.machine.Steps.{Survives}
-use Rattle.arj_law_lock.proofs.machine.Paths.{by_cases, differ, same_is, on_top, top_action}
+use Rattle.arj_law_lock.proofs.machine.Paths.{by_cases, differ, same_is, on_top}
 use Rattle.arj_law_lock.proofs.machine.Claims.{server_of, IsUp, GoesOn, Pending, Holds}
 use Rattle.arj_law_lock.proofs.machine.Later.{Later, alive_back, merged_on}
 use Rattle.arj_law_lock.proofs.machine.CallSteps.{top_acts}
@@ -14,9 +14,6 @@ use Rattle.arj_law_lock.specs.machine.Actions.{at_act}
 use Rattle.arj_law_lock.proofs.machine.Paths.{act_cases, act_here, act_other}
 
 -- Values where one action changes at its coordinator.
-
-top_acts' : (a : Act) → is_top a ≡ true → is_action a ≡ true
-top_acts' a e = top_action a e
 
 module _ (s : State) (a : Act) (x : Action) (p : ℕ) (ms : List Message) where
   abbrev acted' : State

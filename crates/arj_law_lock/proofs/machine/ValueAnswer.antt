@@ -90,14 +90,8 @@ module _ (s : State) (base : ℕ) (e0 : Entry) (waits0 : IsWaiting s e0) (fine0 
       by (inr j) = absurd (n e0 j waits0 fine0)
 
 module _ (s : State) (r : Answer) (p : ℕ) (guard : Guard (Answered r p) s) (h : Holds s) (v : Values s) (later : Later s (next (Answered r p) s)) where
-  a' : Act
-  a' = r.request.act
-
   abbrev c0 : Call
   c0 = record { act = r.request.act; write = r.request.write; line = p; sees = r.sees; gives = r.gives }
-
-  abbrev After : State
-  After = next (Answered r p) s
 
   w' : ValueLater s (next (Answered r p) s)
   w' = let k = stopped_later s r.request.act in record { initial = refl; request = λ n e b. omega arith; clean = k.clean; doomed = k.doomed; spoils = k.spoils; news = k.news; tops = k.tops; wait_back = k.wait_back }

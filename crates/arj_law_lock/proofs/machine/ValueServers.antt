@@ -33,12 +33,6 @@ survives_of s h v c i alive three u o act = by (by_cases (on (top c.act) u))
     by (inr p) = v.whole c i alive (omega (arith, three)) u o p
 
 module _ (s : State) (h : Holds s) (v : Values s) (n : ℕ) (x : Server) (ms : List Message) (later : Later s (record s { server = at s.server n x; net = ms })) (rises : ((a : Act) → (s.server n).request a ≤ x.request a) ⊎ ((s.server n).incarnation < x.incarnation)) where
-  abbrev t' : State
-  t' = record s { server = at s.server n x; net = ms }
-
-  abbrev Next : State
-  Next = record s { server = at s.server n x; net = ms }
-
   w' : ValueLater s (record s { server = at s.server n x; net = ms })
   w' = same_server_actions s n x s.yes s.vote ms rises
 
@@ -225,9 +219,6 @@ value_pass_row s n a j guard h v later = server_values s h v n x s.net later (in
 
 -- what of a log is not below an action
 module _ (s : State) (v : Values s) (n : ℕ) (a : Act) where
-  abbrev keeps : Entry → Bool
-  keeps e = not (on e.holder a)
-
   pub gone_on : (e : Entry) → not (on e.holder a) ≡ false → on e.holder a ≡ true
   gone_on e q = by (on e.holder a) q
     where

@@ -88,11 +88,6 @@ abbrev pub GivenStands : State → Type 0
 GivenStands s = (n : ℕ) (m : Act) (b i : ℕ) (t : State) (c : Call) → Guard (VoteTop n m b i) s → Run (next (VoteTop n m b i) s) t → (t.action m).stage ≡ 1 → t.yes m ≡ b → t.kept (root m) ≡ b → t.naming.first ≤ b
     → In c t.calls → c.write ≡ true → top c.act ≡ m → Alive t c.act → t.vote m ≡ given_by s n m
 
--- And so it stands where the top is confirmed, which it wasn't in some state behind the vote: whatever naming has forgotten since.
-abbrev pub ConfirmedStands : State → Type 0
-ConfirmedStands s = (n : ℕ) (m : Act) (b i : ℕ) (r t : State) (c : Call) → Guard (VoteTop n m b i) s → Run (next (VoteTop n m b i) s) r → r.confirmed m ≡ false → Run r t
-    → (t.action m).stage ≡ 1 → t.yes m ≡ b → t.kept (root m) ≡ b → t.confirmed m ≡ true → In c t.calls → c.write ≡ true → top c.act ≡ m → Alive t c.act → t.vote m ≡ given_by s n m
-
 -- Of the binding that a unit keeps an incarnation was heard, where a call of the unit wasn't undone; and it isn't 0.
 abbrev pub KeptAreNamed : State → Type 0
 KeptAreNamed s = (c : Call) → In c s.calls → Alive s c.act → ((s.binding (s.kept (root c.act))).named ≡ true) × (1 ≤ s.kept (root c.act))

@@ -21,9 +21,7 @@ use Rattle.arj_law_runs.proofs.addresses.Lists.{found_put}
 use Rattle.arj_law_runs.proofs.kept.Starts.{first_at}
 use Rattle.arj_law_parts.specs.moves.Seen.{Seen, at, given, posted, said, see}
 use Rattle.arj_law_parts.specs.moves.Walks.{Up, Walks}
-use Rattle.arj_law_parts.proofs.moves.Happens.{keeps_asked}
-use Rattle.arj_law_parts.proofs.moves.Moving.{moves_asked}
-use Rattle.arj_law_lock_view.specs.facts.Entries.{EntriesAreFound, HandlersKeepEntries, HasObject, HoldsEntry, RunsKeepEntries}
+use Rattle.arj_law_lock_view.specs.facts.Entries.{EntriesAreFound, HandlersKeepEntries, HasObject, HoldsEntry}
 
 some_is : {A : Type 0} {a b : A} → Some a ≡ Some b → a ≡ b
 some_is {A} {a} {b} is = let k : ◌≡◌ {A = Option A} (Some a) (Some b) = is in cc
@@ -119,9 +117,6 @@ entries_keep hd x has = record {
   restart = λ e k d M all. walk x e k (parts_in k (d.inc + 1) d) (restart_outs hd k (d.inc + 1) d) d M all;
   first = first_so x hd has;
 }
-
-pub entries_run : RunsKeepEntries
-entries_run hd x has ms = moves_asked hd (HoldsEntry x) (keeps_asked hd (HoldsEntry x) (entries_keep hd x has)) ms
 
 -- ---- what a restart finds
 

@@ -22,7 +22,6 @@ use Rattle.arj_law_parts.specs.parts.Actions.{Action, AreBegun, Stands, act_of, 
 use Rattle.arj_law_parts.specs.parts.Coords.{IsBusy, IsVoting}
 use Rattle.arj_law_parts.proofs.parts.Begun.{on_own, one_action, path_length, path_some, serial_alone, where_stands}
 use Rattle.arj_law_parts.proofs.parts.GoodTrees.{found_by, place_in}
-use Rattle.arj_law_lock_view.specs.view.Actions.{IsLone}
 use Rattle.arj_law_lock_view.specs.view.Actions as view
 use Rattle.arj_law_lock_view.specs.view.Telling.{Family}
 use Rattle.arj_law_lock_view.specs.facts.Given.{ActionsAreTopped, BroughtAreUnserial, CommitsAreFirst, FreeAreLone, IsPlaced, ListedAreUnserial, NewRootsAreEmpty, WaitersAreLone}

@@ -36,11 +36,11 @@ use Rattle.arj_law_parts.proofs.parts.Pairs.{at_each}
 use Rattle.arj_law_parts.proofs.parts.Stores.{each_passes, either_none}
 use Rattle.arj_law_runs.specs.addresses.Addresses.{IsEntry}
 use Rattle.arj_law_runs.proofs.addresses.Lists.{all_filter, all_key, all_with, all_without}
-use Rattle.arj_law_lock_view.specs.facts.Uppers.{AsTops, HandlersKeepObjects, HavePrepared, HaveUpper, HoldsObjects, IsTopOf, ObjectsAreGood, RunsKeepObjects}
+use Rattle.arj_law_lock_view.specs.facts.Uppers.{AsTops, HandlersKeepObjects, HavePrepared, HaveUpper, HoldsObjects, IsTopOf, ObjectsAreGood}
 use Rattle.arj_law_lock_view.proofs.facts.GoodOwners.{object_more, owns_none, top_on, tops_more}
 use Rattle.arj_law_lock_view.proofs.facts.UpperRows.{top_asks}
 use Rattle.arj_law_lock_view.proofs.facts.Uppers.{held_uppers, uppers_more}
-use Rattle.arj_law_lock_view.proofs.facts.UpperWalks.{IsHeld, keeps_uppers, runs_uppers}
+use Rattle.arj_law_lock_view.proofs.facts.UpperWalks.{IsHeld, keeps_uppers}
 
 some_is : {A : Type 0} {a b : A} → Some a ≡ Some b → a ≡ b
 some_is {A} {a} {b} is = let k : ◌≡◌ {A = Option A} (Some a) (Some b) = is in cc
@@ -318,9 +318,6 @@ held_objects = record {
 
 pub objects_keep : HandlersKeepObjects
 objects_keep hd = keeps_uppers HoldsObjects held_objects hd
-
-pub objects_run : RunsKeepObjects
-objects_run hd ms = runs_uppers HoldsObjects held_objects hd ms
 
 pub objects_good : ObjectsAreGood
 objects_good v acts k n t o M held found live names q is = let h = (held k n found).live t o live names in h.objects v.x q is

@@ -11,7 +11,7 @@ use Rattle.arj_protocol.specs.Words.recorded
 use Rattle.arj_protocol.specs.Ask.{Reply}
 use Rattle.arj_protocol.specs.Asking.{granted_by, notes_grant}
 use Rattle.arj_protocol.specs.Call as calls
-use Rattle.arj_protocol.specs.Call.{At, AtActivate, AtBind, AtInvoke, AtLoad, AtNote, CallEnd, CallStep, Changed, Ended, Goal, Include, Known, Moved, On, Run, activated_by, answered, bound_answer, bound_by, finds, live_known, load_from, made_by, made_known, moves, named_again, other_binding, recorded_kept, same_binding, two_bindings, two_incs, with_inc}
+use Rattle.arj_protocol.specs.Call.{At, AtActivate, AtBind, AtInvoke, AtLoad, AtNote, CallEnd, Changed, Ended, Goal, Known, Moved, On, Run, activated_by, answered, bound_answer, bound_by, finds, live_known, load_from, made_by, made_known, moves, named_again, other_binding, recorded_kept, same_binding, two_bindings, two_incs, with_inc}
 use Rattle.arj_protocol.specs.Coord.{Grant, Root, granted_with, is_call, is_grant_of, named_last}
 use Rattle.arj_protocol.specs.Order.{binding_eq, binding_less, binding_number}
 use Rattle.arj_law_runs.specs.addresses.Binds.{AnswersAt}

@@ -9,7 +9,7 @@ use Rattle.arj_protocol.specs.Words.{Answer, Ask, Binding, End, Path, Uid, last_
 use Rattle.arj_protocol.specs.Ask.{actor}
 use Rattle.arj_protocol.specs.Asking.{asks_node, doomed_by, goes_on, is_invoke_ask, root_heard, step_call}
 use Rattle.arj_protocol.specs.Call as calls
-use Rattle.arj_protocol.specs.Call.{At, AtBind, CallEnd, CallStep, Ended, Goal, Include, Known, On, Run, Steps, next_ask, next_node}
+use Rattle.arj_protocol.specs.Call.{At, CallEnd, CallStep, Ended, Known, On, Steps, next_ask, next_node}
 use Rattle.arj_protocol.specs.Commit.{Plan, plan_of}
 use Rattle.arj_protocol.specs.Coord.{Calling, Committing, Coord, Doing, Grant, Idle, Keeping, Root, Said, Went, doing_of, is_call, kept_of, no_keeping, no_root, on_doing, on_root, root_at, same_said, same_went, with_went}
 use Rattle.arj_protocol.specs.Ending.{kept_after, keeping_after, root_after}

@@ -42,12 +42,9 @@ use Rattle.arj_law_runs.specs.kept.Worlds.{IsGood, IsGoodOf, IsUp}
 use Rattle.arj_law_runs.proofs.kept.Begins.{may as may_begin}
 use Rattle.arj_law_runs.proofs.kept.Handled.{own_of_disk, tops_of_disk}
 use Rattle.arj_law_runs.proofs.kept.Walked.{other_number, same_number}
-use Rattle.arj_law_parts.specs.moves.Keeps.{Holds, Keeps, is_act}
-use Rattle.arj_law_parts.specs.moves.Moves.{Move, world_by}
+use Rattle.arj_law_parts.specs.moves.Keeps.{Keeps, is_act}
 use Rattle.arj_law_parts.specs.moves.Seen.{In, Post, Seen, at, down, given, posted, said, see, up}
 use Rattle.arj_law_parts.specs.moves.Walks.{Up, Walks, halted}
-use Rattle.arj_law_parts.proofs.moves.Happens.{keeps_asked}
-use Rattle.arj_law_parts.proofs.moves.Moving.{moves_asked}
 use Rattle.arj_law_parts.proofs.moves.Together.{walks_both}
 use Rattle.arj_law_runs.proofs.calls.CoordOuts.{acked_so, acts_so, again_so, heard_so, query_so, tolds_so}
 use Rattle.arj_law_runs.proofs.calls.CoordSends.{AllSo, IsSentBy}
@@ -468,6 +465,3 @@ module _ (S : Said) (Q : Coord → Type 0) (N : Naming → Type 0) (kept : IsKep
 
       together : (e k : ℕ) (outs : List Effect) (v : Parts) (d : Disk) (M : Seen) → Walks (λ M. IsGood M × BindsAreKnown M) e k outs (Up (λ M. IsGood M × BindsAreKnown M) k v) d M → Walks AreSo e k outs (Up AreSo k v) d M → Walks IsSo e k outs (Up IsSo k v) d M
       together e k outs v d M a b = walks_both (λ M. IsGood M × BindsAreKnown M) AreSo e k outs (Up (λ M. IsGood M × BindsAreKnown M) k v) (Up AreSo k v) d M a b
-
-  pub runs_so : (hd : Header) (ms : List Move) → Holds hd IsSo (world_by hd ms)
-  runs_so hd ms = moves_asked hd IsSo (keeps_asked hd IsSo (keeps_so hd)) ms

@@ -7,12 +7,12 @@ use Rattle.arj_protocol.specs.Words.voted
 use Rattle.arj_protocol.specs.Ask.{Reply, actor}
 use Rattle.arj_protocol.specs.Asking.{again_all, begin_action, heard, last_req}
 use Rattle.arj_protocol.specs.Commit as commit
-use Rattle.arj_protocol.specs.Commit.{Aborts, Asks, CommitStep, Confirming, Decides, Machine, Plan, Preparing, Stays, Used, Voting, begin_confirm, begin_prepare, begin_vote, has_record, participants, plan_of, servers_of, targets_of}
+use Rattle.arj_protocol.specs.Commit.{Aborts, Asks, CommitStep, Confirming, Decides, Machine, Plan, Preparing, Stays, Used, Voting, begin_confirm, begin_prepare, begin_vote, servers_of, targets_of}
 use Rattle.arj_protocol.specs.Coord.{Calling, Committing, Coord, Doing, Idle, Now, doing_of, plan_for, root_at}
 use Rattle.arj_protocol.specs.Effect.{Intent}
 use Rattle.arj_protocol.specs.Ending.{acked}
 use Rattle.arj_protocol.specs.Order.{has, with_number, without_number}
-use Rattle.arj_protocol.specs.Step.{Input, acts, branch_named, on_branch, parent_of}
+use Rattle.arj_protocol.specs.Step.{Input, acts, parent_of}
 use Rattle.arj_protocol.specs.Step as input
 use Rattle.arj_protocol.specs.Tree.{root_of}
 use Rattle.arj_law_lock_view.specs.facts.Parted.{AreLeft, IsLeft}

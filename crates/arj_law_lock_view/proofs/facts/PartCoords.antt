@@ -19,7 +19,7 @@ use Rattle.arj_protocol.specs.Effect.{Did, Intent, Served}
 use Rattle.arj_protocol.specs.Ending.{abort_action, acked, acked_by, acked_left, aborts_with}
 use Rattle.arj_protocol.specs.Order.{at_uid, has, unbound, without_number}
 use Rattle.arj_protocol.specs.Step as input
-use Rattle.arj_protocol.specs.Step.{Input, acts, begin_refusal, branch_named, call_reasons, commit_reasons, include_reasons, is_waiting, is_waiting_now, on_branch, parent_of, refusal_up, refused_by, sibling_waits, waits, waits_above, waits_below}
+use Rattle.arj_protocol.specs.Step.{Input, acts, branch_named, call_reasons, commit_reasons, include_reasons, is_waiting, is_waiting_now, on_branch, parent_of, refusal_up, refused_by, sibling_waits, waits, waits_above, waits_below}
 use Rattle.arj_protocol.specs.Tree.{Branch, at_place, branch_of, is_own, next_uid, open_below, path_below, root_of, uses_object}
 use Rattle.arj_law_parts.specs.parts.Actions.{Action}
 use Rattle.arj_law_parts.specs.parts.Coords.{IsAsking, IsBusy, IsGoodCoord, IsVoting}

@@ -26,7 +26,7 @@ use Rattle.arj_protocol.specs.Node.{Handled, Parts, Took, Void, ack_told, by_rep
 use Rattle.arj_protocol.specs.Order.{has, uid_set, without_number}
 use Rattle.arj_protocol.specs.Says.{AreAll, is_naming_effect, is_server_effect}
 use Rattle.arj_protocol.specs.Server as server
-use Rattle.arj_protocol.specs.Step.{Input, Node, acts, begin_refusal, first_disk, first_node, hello_to, naming_at, naming_back, numbers_to, parent_of, parts_in, recovered_records, refusal_up, restart_outs, tolds_again}
+use Rattle.arj_protocol.specs.Step.{Input, Node, acts, first_disk, first_node, hello_to, naming_at, naming_back, numbers_to, parent_of, parts_in, recovered_records, refusal_up, restart_outs, tolds_again}
 use Rattle.arj_protocol.specs.Step as input
 use Rattle.arj_protocol.specs.Tree.{Branch, at_place, branch_of, is_own}
 use Rattle.arj_protocol.specs.World.{format, is_serial_kind}
@@ -46,15 +46,12 @@ use Rattle.arj_law_runs.proofs.kept.Walked.{other_number, same_number}
 use Rattle.arj_law_parts.specs.moves.Keeps.{is_act}
 use Rattle.arj_law_parts.specs.moves.Seen.{In, Post, Seen, at, down, given, posted, said, see, up}
 use Rattle.arj_law_parts.specs.moves.Walks.{Up, Walks, halted}
-use Rattle.arj_law_parts.proofs.moves.Happens.{keeps_asked}
-use Rattle.arj_law_parts.proofs.moves.Moving.{moves_asked}
 use Rattle.arj_law_runs.proofs.calls.CoordOuts.{quiet_again}
 use Rattle.arj_law_runs.proofs.calls.CoordSends.{AllQuiet, IsQuiet}
 use Rattle.arj_law_runs.proofs.calls.WorldSteps.{no_request}
 use Rattle.arj_law_lock_view.specs.facts.Acts.{begins_in}
-use Rattle.arj_law_lock_view.specs.facts.Parted.{AreLeft, AreOneConfirm, HandlersKeepParted, IsAskedNow, IsLeft, IsPart, IsSought, KnowsParted, KnowsParts, RunsKeepParted, asks_part, is_confirm}
+use Rattle.arj_law_lock_view.specs.facts.Parted.{AreLeft, AreOneConfirm, HandlersKeepParted, IsAskedNow, IsLeft, IsPart, IsSought, KnowsParted, KnowsParts, asks_part, is_confirm}
 use Rattle.arj_law_lock_view.specs.facts.Uppers.{IsTopOf}
-use Rattle.arj_law_lock_view.proofs.facts.Acts.{kept_of}
 use Rattle.arj_law_lock_view.proofs.facts.LeftCoords.{left_acked, left_acts, left_again, left_begins, left_heard}
 use Rattle.arj_law_lock_view.proofs.facts.PartCoords.{part_acked, part_acts, part_again, part_begins, part_heard}
 use Rattle.arj_law_lock_view.proofs.facts.PartSends.{AllSeek, acked_seeks, acts_seeks, again_seeks, heard_seeks, query_seeks, seek_both, seek_quiet}
@@ -586,6 +583,3 @@ parted_keep hd = record {
   restart = λ begun e k d M g good all. restart_walk begun hd e k d M good all;
   first = parted_first hd;
 }
-
-pub parted_run : RunsKeepParted
-parted_run hd ms = moves_asked hd (λ M. (begun : List Action) × IsGoodOf begun M × KnowsParted begun M) (keeps_asked hd (λ M. (begun : List Action) × IsGoodOf begun M × KnowsParted begun M) (kept_of hd KnowsParted (parted_keep hd))) ms

@@ -15,11 +15,9 @@ use Rattle.arj_law_parts.specs.parts.Actions.{paths_of}
 use Rattle.arj_law_parts.proofs.parts.Begun.{begun_tree, on_own}
 use Rattle.arj_law_parts.proofs.parts.TrueSteps.{well_acked, well_acts, well_again, well_heard}
 use Rattle.arj_law_parts.specs.moves.Seen.{Post}
-use Rattle.arj_law_parts.proofs.moves.Happens.{keeps_asked}
-use Rattle.arj_law_parts.proofs.moves.Moving.{moves_asked}
 use Rattle.arj_law_runs.specs.calls.Coords.{IsOfStep}
 use Rattle.arj_law_runs.proofs.calls.CoordSends.{IsSentBy, SendsSo}
-use Rattle.arj_law_lock_view.specs.facts.Requests.{HandlersKeepRequests, IsAskedBy, KnowsRequests, RequestsAreKnown, RunsKeepRequests}
+use Rattle.arj_law_lock_view.specs.facts.Requests.{HandlersKeepRequests, IsAskedBy, KnowsRequests}
 use Rattle.arj_law_lock_view.proofs.facts.CoordRuns.{IsKeptBy, Sender, coords_plain}
 use Rattle.arj_law_lock_view.proofs.facts.Onward.{AsksSame, IsFurther, IsLater, further_acked, further_acts, further_again, further_begins, further_heard}
 
@@ -78,6 +76,3 @@ requests_kept = record {
 
 pub requests_keep : HandlersKeepRequests
 requests_keep hd = coords_plain (λ s c. KnowsRequests s.sent s.node c) requests_kept hd
-
-pub requests_run : RunsKeepRequests
-requests_run hd ms = moves_asked hd RequestsAreKnown (keeps_asked hd RequestsAreKnown (requests_keep hd)) ms

@@ -41,12 +41,9 @@ use Rattle.arj_law_parts.proofs.parts.SaidIncs.{all_map}
 use Rattle.arj_law_runs.specs.kept.Worlds.{IsGoodOf}
 use Rattle.arj_law_runs.proofs.kept.Begins.{begin_good}
 use Rattle.arj_law_runs.proofs.kept.Walked.{other_number, same_number}
-use Rattle.arj_law_parts.specs.moves.Keeps.{Holds, Keeps}
-use Rattle.arj_law_parts.specs.moves.Moves.{Move, world_by}
+use Rattle.arj_law_parts.specs.moves.Keeps.{Keeps}
 use Rattle.arj_law_parts.specs.moves.Seen.{Seen, at, given, posted, said, see}
 use Rattle.arj_law_parts.specs.moves.Walks.{Up, Walks, halted}
-use Rattle.arj_law_parts.proofs.moves.Happens.{keeps_asked}
-use Rattle.arj_law_parts.proofs.moves.Moving.{moves_asked}
 use Rattle.arj_law_lock_view.specs.facts.Acts.{KeepsOf, begins_in}
 use Rattle.arj_law_lock_view.specs.facts.Uppers.{AreOfEntries, AreUppersOf, HavePrepared, IsTopOf, IsUpperNode, PreparesUpper}
 use Rattle.arj_law_lock_view.proofs.facts.Acts.{kept_of}
@@ -435,6 +432,3 @@ module _ (N : List Action → Naming → Type 0) (held : IsHeld N) where
 
   pub keeps_uppers : (hd : Header) → Keeps hd IsSo
   keeps_uppers hd = kept_of hd (AreUppersOf N) (uppers_of hd)
-
-  pub runs_uppers : (hd : Header) (ms : List Move) → Holds hd IsSo (world_by hd ms)
-  runs_uppers hd ms = moves_asked hd IsSo (keeps_asked hd IsSo (keeps_uppers hd)) ms

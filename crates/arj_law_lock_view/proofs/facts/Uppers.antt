@@ -12,9 +12,9 @@ use Rattle.arj_law_parts.specs.parts.Actions.{Action, AreBegun, act_of}
 use Rattle.arj_law_parts.specs.parts.Messages.{IsTopAction}
 use Rattle.arj_law_parts.proofs.parts.Begun.{one_action}
 use Rattle.arj_law_parts.proofs.parts.LivesNamed.{all_found}
-use Rattle.arj_law_lock_view.specs.facts.Uppers.{AreUpper, HandlersKeepUppers, HaveUpper, HoldsUppers, IsTopOf, NestedHaveNothing, RunsKeepUppers}
+use Rattle.arj_law_lock_view.specs.facts.Uppers.{AreUpper, HaveUpper, HoldsUppers, IsTopOf, NestedHaveNothing}
 use Rattle.arj_law_lock_view.proofs.facts.UpperRows.{path_asks, top_asks, uppers_bind, uppers_confirm, uppers_hello, uppers_note, uppers_recovered, uppers_told}
-use Rattle.arj_law_lock_view.proofs.facts.UpperWalks.{IsHeld, keeps_uppers, runs_uppers, top_more}
+use Rattle.arj_law_lock_view.proofs.facts.UpperWalks.{IsHeld, top_more}
 
 upper_more : (a : Action) (acts : List Action) (us : List Uid) → AreUpper acts us → AreUpper (a ∷ acts) us
 upper_more a acts [] its = tt
@@ -41,12 +41,6 @@ held_uppers = record {
   tells = λ acts begun u e d n its. uppers_told acts u e d n its;
   hellos = λ acts begun node inc n its. uppers_hello acts node inc n its;
 }
-
-pub uppers_keep : HandlersKeepUppers
-uppers_keep hd = keeps_uppers HoldsUppers held_uppers hd
-
-pub uppers_run : RunsKeepUppers
-uppers_run hd ms = runs_uppers HoldsUppers held_uppers hd ms
 
 module _ (acts : List Action) (begun : AreBegun acts) (a : Action) (there : Contains acts a) (nested : a.kind ≡ kind.Nested) where
   apart : (u : Uid) → IsTopAction acts u → u ≡ act_of a → ⊥

@@ -7,7 +7,7 @@ use Rattle.arj_protocol.specs.Words.{Asked, Uid}
 use Rattle.arj_protocol.specs.Ask.{Reply, actor, reply_kind, ask_kind}
 use Rattle.arj_protocol.specs.Asking.{last_req, waits_for_commit}
 use Rattle.arj_protocol.specs.Commit as commit
-use Rattle.arj_protocol.specs.Commit.{Aborts, Asks, CommitStep, Decides, Machine, Plan, Stays, Used, ask_of, left_of, plan_of}
+use Rattle.arj_protocol.specs.Commit.{Aborts, Asks, CommitStep, Decides, Machine, Stays, Used, ask_of, left_of, plan_of}
 use Rattle.arj_protocol.specs.Coord.{Coord, Root, doing_of, objects_in, plan_for, root_at, used_of}
 use Rattle.arj_protocol.specs.Order.{has}
 use Rattle.arj_protocol.specs.Tree.{Branch, root_of}

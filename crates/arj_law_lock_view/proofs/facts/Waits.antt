@@ -14,7 +14,7 @@ use Rattle.arj_protocol.specs.Coord.{Calling, Committing, Coord, Doing, Idle, No
 use Rattle.arj_protocol.specs.Effect.{Intent}
 use Rattle.arj_protocol.specs.Ending.{acked}
 use Rattle.arj_protocol.specs.Step as input
-use Rattle.arj_protocol.specs.Step.{Input, acts, begin_refusal, branch_named, call_reasons, commit_reasons, include_reasons, is_waiting, is_waiting_now, parent_of, refusal_up, refused_by, sibling_waits, waits, waits_above, waits_below}
+use Rattle.arj_protocol.specs.Step.{Input, acts, branch_named, call_reasons, commit_reasons, include_reasons, is_waiting, is_waiting_now, parent_of, refusal_up, refused_by, sibling_waits, waits, waits_above, waits_below}
 use Rattle.arj_protocol.specs.Tree.{Branch, at_place, branch_of, is_open_below, is_own, next_uid, path_below}
 use Rattle.arj_law_runs.proofs.coordinators.CoordRooms.{acked_tree, again_tree}
 use Rattle.arj_law_runs.proofs.coordinators.CoordUses.{some_is as one_is}

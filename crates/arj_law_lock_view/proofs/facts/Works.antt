@@ -10,10 +10,10 @@ use Rattle.arj_law_parts.specs.parts.Actions.{paths_of}
 use Rattle.arj_law_parts.proofs.parts.Begun.{begun_tree}
 use Rattle.arj_law_runs.proofs.coordinators.RunCoords as coords
 use Rattle.arj_law_lock_view.specs.facts.Works.{HasNoRoots, KnowsEnds, KnowsWaits}
-use Rattle.arj_law_lock_view.specs.facts.Worlds.{HandlersKeepWorks, IsFromOne, KnowsWorks, RunsKeepWorks, Said, says_works}
+use Rattle.arj_law_lock_view.specs.facts.Worlds.{HandlersKeepWorks, IsFromOne, KnowsWorks, Said, says_works}
 use Rattle.arj_law_lock_view.proofs.facts.Fresh.{roots_kept}
 use Rattle.arj_law_lock_view.proofs.facts.Inner.{ends_kept}
-use Rattle.arj_law_lock_view.proofs.facts.Kept.{IsGiven, IsKept, answers_so, keeps_so, runs_so}
+use Rattle.arj_law_lock_view.proofs.facts.Kept.{IsGiven, IsKept, answers_so, keeps_so}
 use Rattle.arj_law_runs.proofs.calls.CoordSends.{IsSentBy}
 use Rattle.arj_law_lock_view.proofs.facts.Waits.{waits_kept}
 
@@ -79,6 +79,3 @@ nothing_given = record {
 
 pub works_keep : HandlersKeepWorks
 works_keep hd = keeps_so says_works KnowsWorks (λ (n : Naming). ⊤) (works_kept (λ r. ⊤)) nothing_given hd
-
-pub runs_keep : RunsKeepWorks
-runs_keep hd ms = runs_so says_works KnowsWorks (λ (n : Naming). ⊤) (works_kept (λ r. ⊤)) nothing_given hd ms

@@ -1,6 +1,5 @@
 -- A coordinator's lines about an abort with all that is open below it.
 use Rattle.std.proofs.Common.{◌≡◌, ◌≢◌, ◌≤◌, ◌⊎◌, ℕ, List, [], ◌∷◌, ◌++◌, true, false, Option, Some, refl, sym, ◌∙◌, ap, subst, inl, inr, ⊎_elim, arith, is_some}
-use Rattle.std.specs.Prelude.{flat_map}
 use Rattle.arj_base.proofs.Uids.{uid_cases}
 use Rattle.arj_journal.specs.declared.body.Body.{Body}
 use Rattle.arj_journal.specs.declared.body.Body.TheVariants as body
@@ -11,7 +10,7 @@ use Rattle.arj_protocol.specs.Words.cause
 use Rattle.arj_protocol.specs.Words.ending
 use Rattle.arj_protocol.specs.Coord.{Coord, Doing, Idle, doing_of}
 use Rattle.arj_protocol.specs.Effect.{Intent}
-use Rattle.arj_protocol.specs.Ending.{abort_action, all_aborted, ended, says, tolds_of}
+use Rattle.arj_protocol.specs.Ending.{all_aborted, ended, says}
 use Rattle.arj_protocol.specs.Tree.{Branch, branch_of, open_below}
 use Rattle.arj_protocol.specs.World.{numbered}
 use Rattle.arj_law_lock.specs.machine.Actions.{Act, Root, at_act, is_action, root, same}
@@ -27,18 +26,16 @@ use Rattle.arj_law_lock_view.specs.view.Copies.{Codes}
 use Rattle.arj_law_lock_view.specs.view.Ending.{AbortsOnly, ChangesOne, IsOpenAt, SameEnd, aborted}
 use Rattle.arj_law_lock_view.specs.view.Inputs.{OnlyEnded, SeesWhole}
 use Rattle.arj_law_lock_view.specs.view.Stops.{AreAborted}
-use Rattle.arj_law_lock_view.proofs.view.AbortInputSteps.{actions_are_aborted}
 use Rattle.arj_law_lock_view.proofs.view.AbortSteps as abort
 use Rattle.arj_law_lock_view.proofs.view.ActingSteps.{low_stage, unit_open}
 use Rattle.arj_law_lock_view.proofs.view.OneSteps.{OnlyOne, end_changed}
-use Rattle.arj_law_lock_view.proofs.view.RunSteps.{goes_to}
-use Rattle.arj_law_lock_view.specs.journal.Coordinators.{AbortsAreTied, IsLabelled, IsOnPage, KnowsLabels, Page, bodies_of}
+use Rattle.arj_law_lock_view.specs.journal.Coordinators.{IsLabelled, IsOnPage, KnowsLabels, Page, bodies_of}
 use Rattle.arj_law_lock_view.specs.journal.Lines.{IsTiedToLines}
 use Rattle.arj_law_lock_view.specs.journal.Steps.{AreNamed, EndsStay}
 use Rattle.arj_law_lock_view.proofs.journal.EndTies.{calls_stay, first_stays}
 use Rattle.arj_law_lock_view.proofs.journal.Pages.{behind, behind_none, behind_one, named_still, one_tied, page_still, tied_same}
 use Rattle.arj_law_lock_view.proofs.journal.Reading.{more}
-use Rattle.arj_law_lock_view.proofs.journal.Saying.{bodies_app, quiet_behind, say_one, tolds_none}
+use Rattle.arj_law_lock_view.proofs.journal.Saying.{bodies_app, say_one}
 
 -- an action with its work
 abbrev IsThere : Coord → Uid → Type 0
@@ -164,10 +161,6 @@ named_all act (w ∷ ws) p c may named = subst (λ bs. AreNamed act (p.lines ++ 
     says_it : bodies_of (let t = all_aborted (w ∷ ws) c in t.outs) ≡ line ∷ bodies_of (let t = all_aborted ws (ended w ending.Abort c) in t.outs)
     says_it = bodies_app (says w (λ k. body.Aborted k cause.Asked) c) (let t = all_aborted ws (ended w ending.Abort c) in t.outs) ∙ ap (λ bs. bs ++ bodies_of (let t = all_aborted ws (ended w ending.Abort c) in t.outs)) (say_one w (λ k. body.Aborted k cause.Asked) c it.2.0 it.2.1)
 
-tolds_all : (intents : List (Uid × Intent)) (c : Coord) (us : List Uid) → bodies_of (flat_map (tolds_of intents c) us) ≡ []
-tolds_all intents c [] = refl
-tolds_all intents c (u ∷ us) = bodies_app (tolds_of intents c u) (flat_map (tolds_of intents c) us) ∙ (λ i. tolds_none intents c u i ++ tolds_all intents c us i)
-
 -- an action is aborted with all that is open below it, by their lines
 pub abort_said : (act : Acts) (code : Codes) (paths : Paths) (x : ℕ) (p : Page) (c : Coord) (u : Uid) (b : Branch) (intents : List (Uid × Intent)) (S T : State) → IsSteady act paths c → branch_of u c.tree ≡ Some b → is_some b.ended ≡ false → IsOnPage act code x p c S → SeesWhole act code x c S
     → OnlyEnded (root (act u)) S T → T.now ≡ S.now → AreAborted act paths c.tree u T → AbortsOnly act paths c.tree u S T → IsTiedToLines act code p.values x (p.lines ++ numbered p.event (bodies_of (let t = all_aborted (open_below u c.tree ++ u ∷ []) c in t.outs))) T
@@ -228,13 +221,3 @@ abort_said act code paths x p c u b intents S T steady found unended on whole on
             let low_w = stage_low w i its_w in
             let e : (T.action (act w)).stage ≡ (S.action (act w)).stage = ap (λ (y : Act). (T.action y).stage) (sym at) ∙ ap (λ (y : Action). y.stage) same_T ∙ ap (λ (y : Act). (S.action y).stage) at in
             absurd (omega (arith, four, low_w, e))
-
-pub aborts_are_tied : AbortsAreTied
-aborts_are_tied act code paths x p c u b intents S reached steady found unended on whole =
-    goes_to (actions_are_aborted act code paths x c u b intents S reached steady found unended whole) (λ T h. (h.0, (h.1.0, subst (λ bs. IsTiedToLines act code p.values x (p.lines ++ numbered p.event bs) T) (sym says_it) (abort_said act code paths x p c u b intents S T steady found unended on whole h.1.0 h.1.1.0 h.1.1.1 h.1.1.2))))
-  where
-    us : List Uid
-    us = open_below u c.tree ++ u ∷ []
-
-    says_it : bodies_of (let e = abort_action u intents c in e.outs) ≡ bodies_of (let t = all_aborted us c in t.outs)
-    says_it = quiet_behind (let t = all_aborted us c in t.outs) (flat_map (tolds_of intents (let t = all_aborted us c in t.part)) us) (tolds_all intents (let t = all_aborted us c in t.part) us)

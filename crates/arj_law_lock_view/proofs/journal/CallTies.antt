@@ -8,10 +8,10 @@ use Rattle.arj_protocol.specs.Words.invoked
 use Rattle.arj_protocol.specs.Words.loaded
 use Rattle.arj_protocol.specs.Words.recorded
 use Rattle.arj_protocol.specs.Ask.{Reply, actor}
-use Rattle.arj_protocol.specs.Asking.{end_line, kept_at, root_lost, root_moved, step_call, store_of}
+use Rattle.arj_protocol.specs.Asking.{end_line, kept_at, store_of}
 use Rattle.arj_protocol.specs.Call as protocol
 use Rattle.arj_protocol.specs.Call.{At, AtActivate, AtBind, AtInvoke, AtLoad, AtNote, CallEnd, CallStep, Ended, Goal, Include as IncludeStore, Known, Moved, On, Run, Steps, answered, bound_answer, bound_by, given_up, load_from, load_given_up, made_by, or_lost, other_binding, same_binding, with_inc}
-use Rattle.arj_protocol.specs.Coord.{Coord, Doing, doing_of, is_call, is_free, on_root}
+use Rattle.arj_protocol.specs.Coord.{Coord, Doing, is_call, is_free}
 use Rattle.arj_protocol.specs.Order.{binding_eq, binding_less}
 use Rattle.arj_protocol.specs.Tree.{Branch, root_of}
 use Rattle.arj_protocol.specs.World.{numbered}
@@ -26,13 +26,10 @@ use Rattle.arj_law_lock_view.specs.view.Ending.{KeepsEnds, SameEnd}
 use Rattle.arj_law_lock_view.specs.view.Including.{OnlyIncluded, WritesInclude, included_by}
 use Rattle.arj_law_lock_view.specs.view.Inputs.{SeesWhole}
 use Rattle.arj_law_lock_view.specs.view.Roots.{is_early}
-use Rattle.arj_law_lock_view.proofs.view.CallInputSteps.{call_answers_are_heard, calls_are_lost, calls_are_made, include_answers_are_heard, other_answers_are_heard}
-use Rattle.arj_law_lock_view.proofs.view.RunSteps.{goes_to}
-use Rattle.arj_law_lock_view.specs.journal.Coordinators.{CallAnswersAreTied, CallsAreTied, IncludeAnswersAreTied, IsLabelled, IsOnPage, LostCallsAreTied, OtherAnswersAreTied, Page, bodies_of}
+use Rattle.arj_law_lock_view.specs.journal.Coordinators.{IsLabelled, IsOnPage, Page}
 use Rattle.arj_law_lock_view.specs.journal.Lines.{IsTiedToLines}
 use Rattle.arj_law_lock_view.specs.journal.Steps.{CallsStay, EndsStay, is_plain}
 use Rattle.arj_law_lock_view.proofs.journal.Pages.{behind_none, none_tied, one_tied, same_stay}
-use Rattle.arj_law_lock_view.proofs.journal.Saying.{say_one}
 use Rattle.arj_law_lock_view.proofs.journal.Ties.{plain_goes}
 
 -- ---- what a step of a call says
@@ -112,10 +109,6 @@ abbrev pub call_says : Steps → CallStep → Label → List Body
 call_says s (On at) l = []
 call_says s (Ended e) l = end_line s.x s.goal e l ∷ []
 
-pub step_call_says : (s : Steps) (t : CallStep) (c : Coord) (d : Doing) → doing_of (actor s.path) c ≡ Some d → bodies_of (let e = step_call s t c in e.outs) ≡ call_says s t d.label
-step_call_says s (On at) c d works = refl
-step_call_says s (Ended e) c d works = say_one (actor s.path) (end_line s.x s.goal e) c d works
-
 plain_end : (x : ℕ) (g : Goal) (e : CallEnd) (l : Label) → is_bare_end e ≡ true → is_plain (end_line x g e l) ≡ true
 plain_end x g (protocol.Answered a) l h = absurd (cc h)
 plain_end x g (protocol.Included st) l h = absurd (cc h)
@@ -151,32 +144,14 @@ stay_called S T keeps a its = (let k = keeps a in k.end)
 pub none_called : (act : Acts) (code : Codes) (x : ℕ) (p : Page) (c : Coord) (S T : State) → IsOnPage act code x p c S → (unit : ℕ) → OnlyCalled unit S T → WritesNone S T → IsTiedToLines act code p.values x p.lines T
 none_called act code x p c S T on unit only none = none_tied act code x p c S T on (first_called unit S T only) (let t = on.tied in let k = t.now in let e = none.1 in omega (arith, k, e)) (none.0, includes_called unit S T only) (stay_called S T none.2)
 
-pub calls_are_tied : CallsAreTied
-calls_are_tied act code paths x y p c u b d o S reached work idle plain on whole =
-    goes_to (calls_are_made act code paths x y c u b d o S reached work idle plain whole) (λ T h. (h.0, (h.1.0, subst (λ (q : Page). IsTiedToLines act code p.values x q.lines T) (sym (behind_none p)) (none_called act code x p c S T on (root (act u)) h.1.0 h.1.1))))
-
 -- whose step it is
 module _ (act : Acts) (paths : Paths) (c : Coord) (u : Uid) (b : Branch) (d : Doing) (s : Steps) (work : IsAtWork act paths c u b d) (path : s.path ≡ b.path) where
   its_actor : actor s.path ≡ u
   its_actor = ap actor path ∙ work.steady.good.tree.lists.places u b work.there
 
-  pub its_work : doing_of (actor s.path) c ≡ Some d
-  its_work = ap (λ (v : Uid). doing_of v c) its_actor ∙ work.works
-
 -- what is given up says, and no call comes
 pub lost_said : (act : Acts) (code : Codes) (x : ℕ) (p : Page) (c : Coord) (S T : State) → IsOnPage act code x p c S → (unit : ℕ) → OnlyCalled unit S T → WritesNone S T → (s : Steps) (l : Label) → IsTiedToLines act code p.values x (p.lines ++ numbered p.event (call_says s (given_up s.at) l)) T
 lost_said act code x p c S T on unit only none s l = bare_tied act code x p c S T on s (given_up s.at) l (bare_given s.at) (first_called unit S T only) (none.0, includes_called unit S T only) (stay_called S T none.2) none.1
-
-pub lost_calls_are_tied : LostCallsAreTied
-lost_calls_are_tied act code paths x p c u b d s o S reached work calling on whole =
-    goes_to (calls_are_lost act code paths x c u b d s o S reached work calling whole) (λ T h. (
-      h.0,
-      (
-        h.1.0,
-        subst (λ bs. IsTiedToLines act code p.values x (p.lines ++ numbered p.event bs) T) (sym (step_call_says s (given_up s.at) (on_root (root_of s.path) (root_lost s (given_up s.at)) c) d (its_work act paths c u b d s work calling.path)))
-            (lost_said act code x p c S T on (root (act u)) h.1.0 h.1.1 s d.label),
-      ),
-    ))
 
 -- ---- an answer to a call on the object
 
@@ -224,17 +199,6 @@ answer_said act code paths x p c u b d s o r S T work calling on only heard = by
         (one_tied act code x p c S T on (body.Ok d.label s.x o (answer_text a)) (first_called (root (act u)) S T only) (omega (arith, now))
         (includes_called (root (act u)) S T only, stay_called S T keeps, (l.0, l.1, inr (calling.about, v, writer, ap answer_text fits, calls ∙ (λ i. record { act = act ((its_actor act paths c u b d s work calling.path ∙ sym l.2) i); write = writes o; line = length p.lines + 1; sees = code v writer; gives = code (value_after o v) (top (act ((its_actor act paths c u b d s work calling.path ∙ sym l.2) i))) } ∷ S.calls)))))
 
-pub call_answers_are_tied : CallAnswersAreTied
-call_answers_are_tied act code paths x p c u b d s o r S reached work calling shows on whole =
-    goes_to (call_answers_are_heard act code paths x (length p.lines + 1) c u b d s o r S reached work calling (let t = on.tied in t.now) shows whole) (λ T h. (
-      h.0,
-      (
-        h.1.0,
-        subst (λ bs. IsTiedToLines act code p.values x (p.lines ++ numbered p.event bs) T) (sym (step_call_says s (let m = moved_at s c r in m.step) (on_root (root_of s.path) (root_moved s r (moved_at s c r)) c) d (its_work act paths c u b d s work calling.path)))
-            (answer_said act code paths x p c u b d s o r S T work calling on h.1.0 h.1.1),
-      ),
-    ))
-
 -- ---- an answer about another object
 
 -- it says what is nothing to the machine
@@ -262,13 +226,6 @@ other_said act code paths x p c u b d s r S work other on = by (let m = moved_at
     by (Ended (protocol.Conflict h m n)) = bare_tied act code x p c S S on s (Ended (protocol.Conflict h m n)) d.label refl refl (refl, refl) (same_stay S) refl
     by (Ended (protocol.Changed n w)) = bare_tied act code x p c S S on s (Ended (protocol.Changed n w)) d.label refl refl (refl, refl) (same_stay S) refl
     by (Ended (protocol.Lost n sent)) = bare_tied act code x p c S S on s (Ended (protocol.Lost n sent)) d.label refl refl (refl, refl) (same_stay S) refl
-
-pub other_answers_are_tied : OtherAnswersAreTied
-other_answers_are_tied act code paths x p c u b d s r S reached work waiting other on whole = (
-  other_answers_are_heard act code paths x c u b d s r S reached work waiting other whole,
-  subst (λ bs. IsTiedToLines act code p.values x (p.lines ++ numbered p.event bs) S) (sym (step_call_says s (let m = moved_at s c r in m.step) (on_root (root_of s.path) (root_moved s r (moved_at s c r)) c) d (its_work act paths c u b d s work waiting.path)))
-      (other_said act code paths x p c u b d s r S work other on),
-)
 
 -- ---- an answer to an include on the object
 
@@ -313,14 +270,3 @@ include_said act code paths x store p c u b d s r S T work waiting about goal on
     by (inl (st, grant, is, includes, now)) = subst (λ bs. IsTiedToLines act code p.values x (p.lines ++ numbered p.event bs) T) (sym ((λ i. call_says s (is i) d.label)))
         (one_tied act code x p c S T on (body.Includes d.label s.x (store_of s.goal)) (ap (λ (v : State). v.initial) only) (omega (arith, now))
         (ap (λ (v : State). v.calls) only, stays, (l.0, l.1, inr (about, grant, includes ∙ (λ i. record { act = act ((its_actor act paths c u b d s work waiting.path ∙ sym l.2) i); line = length p.lines + 1; grant = grant } ∷ S.includes)))))
-
-pub include_answers_are_tied : IncludeAnswersAreTied
-include_answers_are_tied act code paths x store p c u b d s r S reached work waiting about goal shows on whole =
-    goes_to (include_answers_are_heard act code paths x (length p.lines + 1) store c u b d s r S reached work waiting about goal (let t = on.tied in t.now) shows whole) (λ T h. (
-      h.0,
-      (
-        h.1.0,
-        subst (λ bs. IsTiedToLines act code p.values x (p.lines ++ numbered p.event bs) T) (sym (step_call_says s (let m = moved_at s c r in m.step) (on_root (root_of s.path) (root_moved s r (moved_at s c r)) c) d (its_work act paths c u b d s work waiting.path)))
-            (include_said act code paths x store p c u b d s r S T work waiting about goal on whole h.1.0 h.1.1),
-      ),
-    ))

@@ -1,45 +1,33 @@
 -- A coordinator's lines about ends and commits.
-use Rattle.std.proofs.Common.{◌≡◌, ◌≢◌, ◌≤◌, ℕ, ◌+◌, List, [], ◌∷◌, ◌++◌, length, true, false, cond, Option, Some, refl, sym, ◌∙◌, ap, subst, ⊎_elim, arith, is_some}
+use Rattle.std.proofs.Common.{◌≡◌, ◌≢◌, ◌≤◌, ℕ, ◌+◌, List, [], ◌∷◌, ◌++◌, length, true, false, cond, Some, refl, sym, ◌∙◌, ap, subst, ⊎_elim, arith, is_some}
 use Rattle.arj_journal.specs.declared.body.Body.{Body}
 use Rattle.arj_journal.specs.declared.body.Body.TheVariants as body
 use Rattle.arj_journal.specs.declared.body.Line.{Line}
 use Rattle.arj_model.specs.Actions.{is_serial}
-use Rattle.arj_protocol.specs.Words.{Kind, Label, Uid}
+use Rattle.arj_protocol.specs.Words.{Uid}
 use Rattle.arj_protocol.specs.Words.cause
-use Rattle.arj_protocol.specs.Words.ending
 use Rattle.arj_protocol.specs.Words.kind
-use Rattle.arj_protocol.specs.Ask.{actor}
-use Rattle.arj_protocol.specs.Asking.{commit_action, commit_open, commit_top, mark_lines, moved_commit, step_commit}
-use Rattle.arj_protocol.specs.Commit as commit
-use Rattle.arj_protocol.specs.Commit.{Aborts, Asks, CommitStep, Decides, Machine, Marked, Plan, Stays, Used, begin_confirm, begin_prepare, begin_vote, servers_of, targets_of}
+use Rattle.arj_protocol.specs.Commit.{Aborts, Asks, CommitStep, Decides, Stays}
 use Rattle.arj_protocol.specs.Coord.{Committing, Coord, Doing, doing_of}
-use Rattle.arj_protocol.specs.Effect.{Intent}
-use Rattle.arj_protocol.specs.Ending.{aborts_with, says}
 use Rattle.arj_protocol.specs.Tree.{Branch, branch_of}
 use Rattle.arj_protocol.specs.World.{numbered}
 use Rattle.arj_law_lock.specs.machine.Actions.{Act, at_act, is_action, root, same}
 use Rattle.arj_law_lock.specs.machine.State.{Action, State}
 use Rattle.arj_law_lock.proofs.machine.Paths.{act_here, act_other, by_cases, differ, same_is}
 use Rattle.arj_law_parts.specs.parts.Copies.{Paths}
-use Rattle.arj_law_parts.specs.parts.Coords.{IsBusy, IsVoting}
-use Rattle.arj_law_parts.proofs.parts.GoodCoords.{IsStepOf, answer_step, giveup_step}
 use Rattle.arj_law_lock_view.specs.view.Acting.{IsFreeToEnd}
-use Rattle.arj_law_lock_view.specs.view.Actions.{IsPlaced, IsSteady, stage_of}
+use Rattle.arj_law_lock_view.specs.view.Actions.{IsPlaced, stage_of}
 use Rattle.arj_law_lock_view.specs.view.Acts.{Acts}
 use Rattle.arj_law_lock_view.specs.view.Copies.{Codes}
 use Rattle.arj_law_lock_view.specs.view.Ending.{ChangesOne, SameEnd, aborted, called_at, committed_at, moved_by, now_by}
-use Rattle.arj_law_lock_view.specs.view.Inputs.{OnlyEnded, SeesWhole, plan_now}
+use Rattle.arj_law_lock_view.specs.view.Inputs.{OnlyEnded, SeesWhole}
 use Rattle.arj_law_lock_view.proofs.view.ActingSteps.{low_stage, unended_none}
-use Rattle.arj_law_lock_view.proofs.view.HeardSteps.{commit_answers_are_heard, commits_are_lost}
-use Rattle.arj_law_lock_view.proofs.view.InputSteps.{doomed_commits_are_taken, nested_commits_are_taken}
-use Rattle.arj_law_lock_view.proofs.view.RunSteps.{goes_to}
-use Rattle.arj_law_lock_view.proofs.view.TopInputSteps.{top_commits_are_taken}
-use Rattle.arj_law_lock_view.specs.journal.Coordinators.{CommitAnswersAreTied, DoomedCommitsAreTied, IsLabelled, IsOnPage, LostCommitsAreTied, NestedCommitsAreTied, Page, TopCommitsAreTied, bodies_of}
+use Rattle.arj_law_lock_view.specs.journal.Coordinators.{IsLabelled, IsOnPage, Page}
 use Rattle.arj_law_lock_view.specs.journal.Lines.{IsTiedToLines}
-use Rattle.arj_law_lock_view.specs.journal.Steps.{CallsStay, EndsStay, ArePlain}
-use Rattle.arj_law_lock_view.proofs.journal.Pages.{behind, behind_none, none_tied, one_tied, page_still, pages_plain}
+use Rattle.arj_law_lock_view.specs.journal.Steps.{CallsStay, EndsStay}
+use Rattle.arj_law_lock_view.proofs.journal.Pages.{behind_none, none_tied, one_tied, page_still}
 use Rattle.arj_law_lock_view.proofs.journal.Reading.{length_more, more}
-use Rattle.arj_law_lock_view.proofs.journal.Saying.{IsDecidedBy, bodies_app, ends_say, marks_of, marks_say, said_by, say_one, step_says}
+use Rattle.arj_law_lock_view.proofs.journal.Saying.{said_by}
 
 -- ---- what stays where actions end
 
@@ -107,9 +95,6 @@ open_low act code x c u b d S found unended works whole its =
 
 -- ---- the commit of a nested action, and of one that is doomed
 
-open_says : (b : Branch) (intents : List (Uid × Intent)) (c : Coord) → b.doomed ≡ false → bodies_of (let e = commit_action b intents c in e.outs) ≡ bodies_of (let e = commit_open b intents c b.kind in e.outs)
-open_says b intents c un = λ i. bodies_of (let e = cond (un i) (aborts_with (actor b.path) cause.Doomed intents c) (commit_open b intents c b.kind) in e.outs)
-
 module _ (act : Acts) (code : Codes) (paths : Paths) (x : ℕ) (p : Page) (c : Coord) (u : Uid) (b : Branch) (d : Doing) (S T : State) (free : IsFreeToEnd act paths c u b d) (on : IsOnPage act code x p c S) (whole : SeesWhole act code x c S) (only : OnlyEnded (root (act u)) S T) where
   its_label : IsLabelled p.lines u b d
   its_label = on.labels u b d free.there free.works
@@ -132,132 +117,7 @@ module _ (act : Acts) (code : Codes) (paths : Paths) (x : ℕ) (p : Page) (c : C
   pub doomed_said : T.now ≡ S.now → ChangesOne (act u) (aborted (S.action (act u))) S T → IsTiedToLines act code p.values x (p.lines ++ numbered p.event (body.Aborted d.label cause.Doomed ∷ [])) T
   doomed_said now o = let l = its_label in one_tied act code x p c S T on (body.Aborted d.label cause.Doomed) (first_stays (root (act u)) S T only) (let t = on.tied in let m = t.now in omega (arith, now, m)) (calls_stay (root (act u)) S T only, (l.0, l.1, subst (λ (v : Uid). is_action (act v) ≡ true → (S.action (act v)).stage ≢ 3) (sym l.2) (λ its_one e. let k = open_low act code x c u b d S free.there free.unended free.works whole its_one in omega (arith, k, e)), subst (λ (v : Uid). ChangesOne (act v) (aborted (S.action (act v))) S T) (sym l.2) o))
 
-pub nested_commits_are_tied : NestedCommitsAreTied
-nested_commits_are_tied act code paths x p c u b d intents S reached free kinds undoomed childless on whole =
-    goes_to (nested_commits_are_taken act code paths x (length p.lines + 1) c u b d intents S reached free kinds undoomed childless (let t = on.tied in t.now) whole) (λ T h. (
-      h.0,
-      (
-        h.1.0,
-        ⊎_elim
-            (λ is. subst (λ bs. IsTiedToLines act code p.values x (p.lines ++ numbered p.event bs) T) (sym (nested_says is)) (nested_said act code paths x p c u b d S T free on whole h.1.0 h.1.1 h.1.2))
-            (λ is. subst (λ bs. IsTiedToLines act code p.values x (p.lines ++ numbered p.event bs) T) (sym (serial_says is)) (serial_said act code paths x p c u b d S T free on whole h.1.0 is h.1.1 h.1.2))
-            kinds,
-      ),
-    ))
-  where
-    works : doing_of (actor b.path) c ≡ Some d
-    works = ap (λ (v : Uid). doing_of v c) (free.steady.good.tree.lists.places u b free.there) ∙ free.works
-
-    nested_says : b.kind ≡ kind.Nested → bodies_of (let e = commit_action b intents c in e.outs) ≡ body.Committed d.label ∷ []
-    nested_says is = open_says b intents c undoomed ∙ (λ i. bodies_of (let e = commit_open b intents c (is i) in e.outs)) ∙ ends_say (actor b.path) ending.Commit body.Committed intents c d works
-
-    serial_says : b.kind ≡ kind.Serial → bodies_of (let e = commit_action b intents c in e.outs) ≡ body.Ended d.label ∷ []
-    serial_says is = open_says b intents c undoomed ∙ (λ i. bodies_of (let e = commit_open b intents c (is i) in e.outs)) ∙ ends_say (actor b.path) ending.Commit body.Ended intents c d works
-
-pub doomed_commits_are_tied : DoomedCommitsAreTied
-doomed_commits_are_tied act code paths x p c u b d intents S reached free doomed childless on whole =
-    goes_to (doomed_commits_are_taken act code paths x (length p.lines + 1) c u b d intents S reached free doomed childless (let t = on.tied in t.now) whole) (λ T h. (
-      h.0,
-      (h.1.0, subst (λ bs. IsTiedToLines act code p.values x (p.lines ++ numbered p.event bs) T) (sym says_it) (doomed_said act code paths x p c u b d S T free on whole h.1.0 h.1.1 h.1.2)),
-    ))
-  where
-    says_it : bodies_of (let e = commit_action b intents c in e.outs) ≡ body.Aborted d.label cause.Doomed ∷ []
-    says_it = (λ i. bodies_of (let e = cond (doomed i) (aborts_with (actor b.path) cause.Doomed intents c) (commit_open b intents c b.kind) in e.outs)) ∙ ends_say (actor b.path) ending.Abort (λ k. body.Aborted k cause.Doomed) intents c d (ap (λ (v : Uid). doing_of v c) (free.steady.good.tree.lists.places u b free.there) ∙ free.works)
-
--- ---- answers to a commit
-
-marks_plain : (l : Label) (marks : List (ℕ × ℕ)) → ArePlain (marks_of l marks)
-marks_plain l [] = tt
-marks_plain l (m ∷ marks) = (refl, marks_plain l marks)
-
--- a plan that is decided is of the action that waits
-step_by : (act : Acts) (paths : Paths) (c : Coord) (u : Uid) (b : Branch) (d : Doing) (k : Machine) (steady : IsSteady act paths c) → branch_of u c.tree ≡ Some b → doing_of u c ≡ Some d → d.now ≡ Committing k → (st : CommitStep) → IsStepOf steady.actions paths steady.whole (commit.plan_of k) st → IsDecidedBy st u
-step_by act paths c u b d k steady found works at (Stays m) step = tt
-step_by act paths c u b d k steady found works at (Asks m) step = tt
-step_by act paths c u b d k steady found works at (Aborts why q) step = tt
-step_by act paths c u b d k steady found works at (Decides q) step = ap actor step.0 ∙ its_path
-  where
-    voting : IsVoting c.tree u (commit.plan_of k)
-    voting = let g = steady.good in subst (IsBusy c.tree u) at (g.busy u d works)
-
-    its_branch : (let v = voting in let a = v.asking in a.branch) ≡ b
-    its_branch = let v = voting in let a = v.asking in let two : ◌≡◌ {A = Option Branch} (Some a.branch) (Some b) = sym a.found ∙ found in cc two
-
-    its_path : actor (let q = commit.plan_of k in q.path) ≡ u
-    its_path = let v = voting in let a = v.asking in ap actor (sym a.path) ∙ ap (λ (q : Branch). actor q.path) its_branch ∙ steady.good.tree.lists.places u b found
-
--- its lines: those of the exclusions, and then that of the step
-moved_says : (u : Uid) (m : Marked) (intents : List (Uid × Intent)) (c : Coord) (d : Doing) → doing_of u c ≡ Some d → IsDecidedBy m.step u → bodies_of (let e = moved_commit u m intents c in e.outs) ≡ marks_of d.label m.marks ++ said_by m.step d.label
-moved_says u m intents c d works is =
-    bodies_app (mark_lines u m.marks c) (let e = step_commit u m.step intents c in e.outs)
-    ∙ (λ i. marks_say u m.marks c d works i ++ step_says u m.step intents c d works is i)
-
-pub commit_answers_are_tied : CommitAnswersAreTied
-commit_answers_are_tied act code paths x from p c u b d k r intents S reached steady found unended works at number shows on whole =
-    goes_to (commit_answers_are_heard act code paths x (length q.lines + 1) from c u b d k r intents S reached steady found unended works at number (let t = on_q.tied in t.now) shows whole) (λ T h. (
-      h.0,
-      (
-        h.1.0,
-        subst (λ bs. IsTiedToLines act code p.values x (p.lines ++ numbered p.event bs) T) (sym (moved_says u m intents c d works by_it))
-            (subst (λ ls. IsTiedToLines act code p.values x ls T) (lines_behind p (marks_of d.label m.marks) (said_by m.step d.label)) (step_tied act code x q c u b d found works S T on_q m.step (first_stays (root (act u)) S T h.1.0) (calls_stay (root (act u)) S T h.1.0) h.1.1 h.1.2 (open_low act code x c u b d S found unended works whole))),
-      ),
-    ))
-  where
-    m : Marked
-    m = commit.answered from k r
-
-    by_it : IsDecidedBy m.step u
-    by_it = step_by act paths c u b d k steady found works at m.step (answer_step steady.actions paths steady.whole from k r)
-
-    q : Page
-    q = behind p (marks_of d.label m.marks)
-
-    on_q : IsOnPage act code x q c S
-    on_q = pages_plain act code x c S (marks_of d.label m.marks) p (marks_plain d.label m.marks) on
-
-pub lost_commits_are_tied : LostCommitsAreTied
-lost_commits_are_tied act code paths x p c u b d k intents S reached steady found unended works at number on whole =
-    goes_to (commits_are_lost act code paths x (length q.lines + 1) c u b d k intents S reached steady found unended works at number (let t = on_q.tied in t.now) whole) (λ T h. (
-      h.0,
-      (
-        h.1.0,
-        subst (λ bs. IsTiedToLines act code p.values x (p.lines ++ numbered p.event bs) T) (sym (moved_says u m intents c d works by_it))
-            (subst (λ ls. IsTiedToLines act code p.values x ls T) (lines_behind p (marks_of d.label m.marks) (said_by m.step d.label)) (step_tied act code x q c u b d found works S T on_q m.step (first_stays (root (act u)) S T h.1.0) (calls_stay (root (act u)) S T h.1.0) h.1.1 h.1.2 (open_low act code x c u b d S found unended works whole))),
-      ),
-    ))
-  where
-    m : Marked
-    m = commit.given_up k
-
-    by_it : IsDecidedBy m.step u
-    by_it = step_by act paths c u b d k steady found works at m.step (giveup_step steady.actions paths steady.whole k)
-
-    q : Page
-    q = behind p (marks_of d.label m.marks)
-
-    on_q : IsOnPage act code x q c S
-    on_q = pages_plain act code x c S (marks_of d.label m.marks) p (marks_plain d.label m.marks) on
-
 -- ---- the commit of a top is called
-
-confirm_by : (us : List Used) (q : Plan) (u : Uid) → actor q.path ≡ u → IsDecidedBy (begin_confirm us q) u
-confirm_by [] q u is = is
-confirm_by (k ∷ us) q u is = tt
-
-prepare_by : (ns : List ℕ) (q : Plan) (u : Uid) → actor q.path ≡ u → IsDecidedBy (begin_prepare ns q) u
-prepare_by [] q u is = confirm_by q.used q u is
-prepare_by (k ∷ ns) q u is = tt
-
-vote_by : (ns : List ℕ) (q : Plan) (u : Uid) → actor q.path ≡ u → IsDecidedBy (begin_vote ns q) u
-vote_by [] q u is = prepare_by (targets_of q) q u is
-vote_by (k ∷ ns) q u is = tt
-
-top_says : (b : Branch) (intents : List (Uid × Intent)) (c : Coord) (k : Kind) → k ≢ kind.Serial → k ≢ kind.Nested → bodies_of (let e = commit_open b intents c k in e.outs) ≡ bodies_of (let e = commit_top b.path intents c in e.outs)
-top_says b intents c kind.Serial s n = absurd (s refl)
-top_says b intents c kind.Nested s n = absurd (n refl)
-top_says b intents c kind.Top s n = refl
-top_says b intents c kind.Constituent s n = refl
-top_says b intents c kind.Independent s n = refl
 
 -- the page with the line of the call
 abbrev pub page_called : Page → Doing → Page
@@ -293,26 +153,3 @@ top_said act code paths x p c u b d st S T free on whole only now o =
     on1 : IsOnPage act code x (page_called p d) c behind_first
     on1 = page_still act code x p c S behind_first (body.Committing d.label) refl on (one_tied act code x p c S behind_first on (body.Committing d.label) refl (omega arith)
         ((refl, refl), (l.0, l.1, subst (λ (v : Uid). is_action (act v) ≡ true → (S.action (act v)).stage ≡ 0) (sym l.2) zero_now, subst (λ (v : Uid). ChangesOne (act v) (called_at (length p.lines + 1) (S.action (act v))) S behind_first) (sym l.2) (record { one = λ its_one. act_here S.action (act u) called; others = λ a its_one other. act_other S.action (act u) called a other }))))
-
-pub top_commits_are_tied : TopCommitsAreTied
-top_commits_are_tied act code paths x p c u b d intents S reached free begun topped unserial unnested undoomed childless first low keeps on whole =
-    goes_to (top_commits_are_taken act code paths x (length p.lines + 1) c u b d intents S reached free begun topped unserial unnested undoomed childless first (let t = on.tied in t.now) low keeps whole) (λ T h. (
-      h.0,
-      (h.1.0, subst (λ bs. IsTiedToLines act code p.values x (p.lines ++ numbered p.event bs) T) (sym says_it) (top_said act code paths x p c u b d st S T free on whole h.1.0 h.1.1 h.1.2)),
-    ))
-  where
-    pl : Plan
-    pl = plan_now b c
-
-    st : CommitStep
-    st = begin_vote (servers_of pl) pl
-
-    its : actor b.path ≡ u
-    its = free.steady.good.tree.lists.places u b free.there
-
-    says_it : bodies_of (let e = commit_action b intents c in e.outs) ≡ (body.Committing d.label ∷ []) ++ said_by st d.label
-    says_it =
-        open_says b intents c undoomed
-        ∙ top_says b intents c b.kind unserial unnested
-        ∙ bodies_app (says (actor b.path) body.Committing c) (let e = moved_commit (actor b.path) (commit.start pl) intents c in e.outs)
-        ∙ (λ i. say_one (actor b.path) body.Committing c d (ap (λ (v : Uid). doing_of v c) its ∙ free.works) i ++ moved_says (actor b.path) (commit.start pl) intents c d (ap (λ (v : Uid). doing_of v c) its ∙ free.works) (vote_by (servers_of pl) pl (actor b.path) refl) i)

@@ -7,7 +7,7 @@ use Rattle.arj_journal.specs.declared.body.Line.{Line}
 use Rattle.arj_text.specs.Label.{name}
 use Rattle.arj_model.specs.Actions as model
 use Rattle.arj_model.specs.Serial.{Values}
-use Rattle.arj_model.specs.Actions.{acts, act_in, begun_of, is_serial, numbered as numbered_acts}
+use Rattle.arj_model.specs.Actions.{acts, act_in, begun_of, numbered as numbered_acts}
 use Rattle.arj_protocol.specs.Coord.{Coord}
 use Rattle.arj_protocol.specs.Says.{is_naming_line, is_server_line}
 use Rattle.arj_protocol.specs.World.{numbered}

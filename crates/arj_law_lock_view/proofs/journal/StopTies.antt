@@ -1,5 +1,5 @@
 -- A node halts, a restart finds records, an action begins: the tie of the journal is kept.
-use Rattle.std.proofs.Common.{◌≡◌, ◌≢◌, ◌≤◌, ◌⊎◌, ◌∙◌, ◌+◌, ◌==◌, ℕ, List, length, true, false, Option, Some, refl, ap, inl, inr, ⊎_elim, arith, eqb-true, Contains}
+use Rattle.std.proofs.Common.{◌≡◌, ◌≢◌, ◌≤◌, ◌⊎◌, ◌∙◌, ◌+◌, ◌==◌, ℕ, List, true, false, Option, Some, refl, ap, inl, inr, ⊎_elim, arith, eqb-true, Contains}
 use Rattle.std.proofs.lemmas.Bool.{and_parts}
 use Rattle.arj_journal.specs.declared.body.Body.TheVariants as body
 use Rattle.arj_journal.specs.declared.body.Line.{Line}
@@ -14,10 +14,8 @@ use Rattle.arj_law_parts.proofs.parts.GoodTrees.{found_by}
 use Rattle.arj_law_lock_view.specs.view.Acts.{Acts}
 use Rattle.arj_law_lock_view.specs.view.Ending.{SameEnd}
 use Rattle.arj_law_lock_view.specs.view.Stops.{HasStopped, OnlyStopped}
-use Rattle.arj_law_lock_view.proofs.view.RunSteps.{goes_to}
-use Rattle.arj_law_lock_view.proofs.view.StopSteps.{records_are_found}
 use Rattle.arj_law_lock_view.specs.journal.Steps.{AreNamed, CallsStay, EndsStay, StopsSo}
-use Rattle.arj_law_lock_view.specs.journal.Stops.{AreHereOrGone, BeginsAreTied, HaltsAreTied, OldRecordsAreTied, RecordsAreTied}
+use Rattle.arj_law_lock_view.specs.journal.Stops.{AreHereOrGone, BeginsAreTied, HaltsAreTied, OldRecordsAreTied}
 use Rattle.arj_law_lock_view.proofs.journal.Ties.{ties_are_kept}
 
 same_end : (a b : machine.Action) → b ≡ a → SameEnd a b
@@ -75,18 +73,6 @@ halts_are_tied act code values x event n lines t last S T named node there stopp
     (calls_stay act n lines t last S T named node there stopped only, λ a i plain other. away act n lines t last S T named node there stopped only a i plain other, λ a i plain home. (stops_so act n lines t last S T named node there stopped only a i plain, far act n lines t last S T named node there stopped only a i plain home)) tied
 
 -- ---- records
-
-pub records_are_tied : RecordsAreTied
-records_are_tied act code values x event n lines t u S named stopped tied =
-    goes_to (records_are_found act t u (length lines + 1) S stopped tied.now) (λ T h. (
-      h.0,
-      h.1,
-      ties_are_kept act code values x event lines (body.Recovered n u) S T named (ap (λ (s : State). s.initial) (let o = h.1 in o.rest)) (let k = h.2 in omega (arith, k))
-          ((ap (λ (s : State). s.calls) (let o = h.1 in o.rest), ap (λ (s : State). s.includes) (let o = h.1 in o.rest)), inr (low, h.4)) tied,
-    ))
-  where
-    low : (S.action (act u)).stage ≤ 2
-    low = let z = stopped.top u refl in let e = z.3 in omega (arith, e)
 
 stays : (S : State) → EndsStay S S
 stays S a action = record { stage = refl; place = refl; done = refl }

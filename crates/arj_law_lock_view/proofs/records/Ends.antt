@@ -17,7 +17,7 @@ use Rattle.arj_protocol.specs.Confirm.{Grants, Marks, checked, confirm, confirm_
 use Rattle.arj_protocol.specs.Effect.{Already, Did, Do, Effect, InDoubt, Look, Old, Pair, Prep, Prepare, Ready, Say, Served, did_nothing, either, held_at, is_prepared, prepare_answer, reply, void}
 use Rattle.arj_protocol.specs.Named.{Made, Named, end_named, hello_named, locked}
 use Rattle.arj_protocol.specs.Naming as naming
-use Rattle.arj_protocol.specs.Naming.{Naming, end_entries, end_lines, end_orphans, is_over, own_entries, taken_end, told_new}
+use Rattle.arj_protocol.specs.Naming.{Naming, is_over, taken_end, told_new}
 use Rattle.arj_protocol.specs.Order.{at_number, at_uid, binding_number, drop_uid, each, with_uid, without_uid}
 use Rattle.arj_protocol.specs.Values.{state_entry}
 use Rattle.arj_law_parts.specs.parts.Actions.{Action}

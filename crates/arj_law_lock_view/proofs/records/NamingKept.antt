@@ -14,7 +14,7 @@ use Rattle.arj_protocol.specs.Named.{Named}
 use Rattle.arj_protocol.specs.Naming.{Naming}
 use Rattle.arj_protocol.specs.Node.{Handled, Parts, Took, handle, holders, prepared_actions, query_about, with_coord}
 use Rattle.arj_protocol.specs.Order.{binding_number, uid_set, without_number}
-use Rattle.arj_protocol.specs.Step.{Input, Node, acts as acts_of, begin_refusal, first_disk, first_node, hello_to, naming_at, naming_back, numbers_to, parent_of, parts_in, recovered_records, refusal_up, restart_outs, tolds_again}
+use Rattle.arj_protocol.specs.Step.{Input, Node, acts as acts_of, hello_to, naming_at, naming_back, numbers_to, parent_of, parts_in, recovered_records, refusal_up, restart_outs, tolds_again}
 use Rattle.arj_protocol.specs.Step as input
 use Rattle.arj_protocol.specs.World.{Labelled, format, is_serial_kind}
 use Rattle.arj_protocol.proofs.CoordSays.{acked_own, acts_own, again_own, heard_own, query_own, tolds_again_own}

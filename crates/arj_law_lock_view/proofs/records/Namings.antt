@@ -10,7 +10,7 @@ use Rattle.arj_protocol.specs.Ask.{top_of}
 use Rattle.arj_protocol.specs.Effect.{Pair, Served, reply, void}
 use Rattle.arj_protocol.specs.Named.{Counted, Live, Made, Named, bind_call, bind_made, bind_named, conflict_on, in_use, include_asked, is_binding, is_lowered, live_above, live_asked, lower_lines, lowered, made_above, make_asked, next_server, note_made, note_named, note_other}
 use Rattle.arj_protocol.specs.Naming as naming
-use Rattle.arj_protocol.specs.Naming.{Naming, is_over, listed_entry, on_counted, on_named, taken_end, told_new}
+use Rattle.arj_protocol.specs.Naming.{Naming, is_over, listed_entry, on_counted, on_named}
 use Rattle.arj_protocol.specs.Order.{at_number, at_uid, binding_eq, binding_less, binding_number, has, put_number}
 use Rattle.arj_protocol.proofs.Maps.{put_other, put_same}
 use Rattle.arj_protocol.proofs.RowSteps.{one_or_two}

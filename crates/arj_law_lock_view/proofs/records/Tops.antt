@@ -4,14 +4,14 @@ use Rattle.std.proofs.lemmas.Bool.{or_cases}
 use Rattle.std.proofs.Math.Seq.{take-append-le}
 use Rattle.arj_base.proofs.Uids.{uid_cases, uid_is, uid_same}
 use Rattle.arj_lock.proofs.Members.{In, in_from}
-use Rattle.arj_protocol.specs.Words.{Kind, Path, Uid, first_uid, is_on, last_uid, tops_of, uid_eq, uids_of}
+use Rattle.arj_protocol.specs.Words.{Kind, Path, Uid, is_on, last_uid, tops_of, uid_eq, uids_of}
 use Rattle.arj_protocol.specs.Words.kind
 use Rattle.arj_protocol.specs.Ask.{top_of, top_path}
-use Rattle.arj_protocol.specs.Tree.{Branch, Tree, branch_of, root_of}
+use Rattle.arj_protocol.specs.Tree.{Branch, Tree, branch_of}
 use Rattle.arj_law_parts.specs.parts.Actions.{Action, AreBegun, Stands, act_of, owners_of}
 use Rattle.arj_law_parts.specs.parts.Copies.{IsTree, Paths}
 use Rattle.arj_law_parts.specs.parts.Messages.{IsAsker}
-use Rattle.arj_law_parts.specs.parts.Tops.{Fits, IsHolder, Owners}
+use Rattle.arj_law_parts.specs.parts.Tops.{Fits, IsHolder}
 use Rattle.arj_law_parts.specs.parts.Trees.{HasLists}
 use Rattle.arj_law_parts.proofs.parts.Begun.{begun_fits, on_more, one_action, path_length, path_some, serial_alone}
 use Rattle.arj_law_parts.proofs.parts.GoodTrees.{above_of, shorter}
@@ -62,11 +62,6 @@ top_on acts begun c there unnested plain a also on = one_top (act_of c) acts beg
 
 -- ---- roots of paths
 
-first_taken : (n : ℕ) (us : List Uid) → 1 ≤ n → first_uid (take n us) ≡ first_uid us
-first_taken zero us some = absurd (omega (arith, some))
-first_taken (suc n) [] some = refl
-first_taken (suc n) (u ∷ us) some = refl
-
 on_taken : (n : ℕ) (us : List Uid) (u : Uid) → is_on (take n us) u ≡ true → is_on us u ≡ true
 on_taken zero us u on = absurd (cc on)
 on_taken (suc n) [] u on = on
@@ -78,17 +73,6 @@ on_taken (suc n) (v ∷ us) u on = by (uid_eq v u) on (on_taken n us u)
 
 asker_fits : (acts : List Action) → AreBegun acts → (p : Path) → IsAsker acts p → Fits (owners_of acts) p
 asker_fits acts begun p who = subst (Fits (owners_of acts)) who.2 (begun_fits acts begun who.0 who.1 who.3)
-
-root_owner : (owner : Owners) (p : Path) → Fits owner p → root_of p ≡ owner (top_of p)
-root_owner owner p fits = sym (first_taken (tops_of p) (uids_of p) p.one_top) ∙ by fits.holder
-  where
-    by : IsHolder owner (top_path p) → first_uid (top_path p) ≡ owner (top_of p)
-    by (inl alone) = ap first_uid alone ∙ alone_is (owner (top_of p)) (top_of p) (ap (λ us. is_on us (owner (top_of p))) (sym alone) ∙ fits.owned)
-    by (inr behind) = ap first_uid behind.0
-
--- paths of one top have one root
-pub one_root : (acts : List Action) → AreBegun acts → (p q : Path) → IsAsker acts p → IsAsker acts q → top_of p ≡ top_of q → root_of p ≡ root_of q
-one_root acts begun p q a b same = root_owner (owners_of acts) p (asker_fits acts begun p a) ∙ ap (owners_of acts) same ∙ sym (root_owner (owners_of acts) q (asker_fits acts begun q b))
 
 -- a path has its top
 last_taken : (n : ℕ) (us : List Uid) → 1 ≤ n → 1 ≤ length us → is_on us (last_uid (take n us)) ≡ true

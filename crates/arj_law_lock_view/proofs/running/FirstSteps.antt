@@ -13,7 +13,7 @@ use Rattle.arj_protocol.specs.Tree.{at_place, new_tree}
 use Rattle.arj_protocol.specs.World.{format}
 use Rattle.arj_law_lock.specs.machine.Actions.{Act}
 use Rattle.arj_law_lock.specs.machine.Machine as machine
-use Rattle.arj_law_lock.specs.machine.Machine.{Run, start}
+use Rattle.arj_law_lock.specs.machine.Machine.{start}
 use Rattle.arj_law_lock.specs.machine.State.{State}
 use Rattle.arj_law_runs.proofs.kept.Starts.{first_at}
 use Rattle.arj_law_parts.specs.moves.Seen.{Post, Seen, see, up}

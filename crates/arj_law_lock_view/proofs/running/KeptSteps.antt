@@ -27,19 +27,15 @@ use Rattle.arj_law_runs.proofs.journal.Paths.{IsPathedOf, act_pathed, begin_path
 use Rattle.arj_law_parts.specs.moves.Keeps.{MayGive, is_act, label_at}
 use Rattle.arj_law_parts.specs.moves.Seen.{AreQuiet, In, Post, Seen, Within, at, down, given, posted, said, see, up}
 use Rattle.arj_law_parts.specs.moves.Walks.{Up, Walks, halted}
-use Rattle.arj_law_parts.proofs.moves.Happens.{keeps_asked}
-use Rattle.arj_law_parts.proofs.moves.Moving.{moves_asked}
 use Rattle.arj_law_parts.proofs.moves.Together.{walks_both, walks_each, walks_to}
-use Rattle.arj_law_runs.proofs.calls.Given.{KeepsGiven, kept_both}
 use Rattle.arj_law_lock_view.specs.facts.Acts.{KeepsOf, begins_in}
 use Rattle.arj_law_lock_view.specs.running.Beside.{Case, IsSeenIn, Spot, world_at}
 use Rattle.arj_law_lock_view.specs.running.Coordinating.{coord_at}
-use Rattle.arj_model.specs.Serial.{Values}
-use Rattle.arj_law_lock_view.specs.running.Fixed.{Agrees, AgreesBy, BeginsAs, Fixed}
-use Rattle.arj_law_lock_view.specs.running.Kept.{AreCoordsNamed, AreLocksSeen, GivesLocks, HasCome, LocksAreKept, RunsKeepLocks, case_of}
+use Rattle.arj_law_lock_view.specs.running.Fixed.{Agrees, AgreesBy, Fixed}
+use Rattle.arj_law_lock_view.specs.running.Kept.{AreCoordsNamed, GivesLocks, HasCome, case_of}
 use Rattle.arj_law_lock_view.specs.running.Sees.{SeesLocks}
 use Rattle.arj_law_lock_view.specs.running.Tied.{AreTied}
-use Rattle.arj_law_lock_view.specs.running.Votes.{AreLocksVoted, AreVotedAt, RunsKeepVotes, VotesAreKept}
+use Rattle.arj_law_lock_view.specs.running.Votes.{AreVotedAt}
 use Rattle.arj_law_lock_view.specs.running.World.{IsSeenSo, is_for_parts}
 use Rattle.arj_law_lock_view.proofs.running.AckSteps.{acks_go}
 use Rattle.arj_law_lock_view.proofs.running.AnswerGoes.{answers_go}
@@ -457,91 +453,3 @@ module _ (hd : Header) (Apt : Fixed → Type 0) (x : ℕ) (G : Seen → Type 0) 
 
   pub first_kept : Kept (see [] (format hd))
   first_kept = let r = first_pathed hd in ([], r.1, keeps.first, (λ f agrees. let g = first_goes hd f x (gives f agrees.1).first in (g.0, g.1, g.2, (λ u. first_votes hd f x g.0))), r.0.1)
-
-  -- where the machines came from may be left out
-  kept_from : (begun : List Action) (sent : List Post) (from : (f : Fixed) → AgreesBy Apt f x begun sent → State) (N : Seen) → LocksFrom Apt V x R begun sent from N → Kept N
-  kept_from begun sent from N z = (begun, z.0, z.1, (λ f agrees. let g = z.2 f agrees in (g.0, g.1, g.2, g.3)), z.3)
-
-  walk_from : (begun : List Action) (sent : List Post) (from : (f : Fixed) → AgreesBy Apt f x begun sent → State) (e k : ℕ) (outs : List Effect) (v : Parts) (d : Disk) (N : Seen) → Walks (LocksFrom Apt V x R begun sent from) e k outs (Up (LocksFrom Apt V x R begun sent from) k v) d N → Walks Kept e k outs (Up Kept k v) d N
-  walk_from begun sent from e k outs v d N w = walks_to (LocksFrom Apt V x R begun sent from) Kept e k outs (Up (LocksFrom Apt V x R begun sent from) k v) (Up Kept k v) d N (kept_from begun sent from) (λ c Z h. kept_from begun sent from (up k c v Z) h) w
-
-  -- where no more is needed
-  pub so_given : ((f : Fixed) (begun : List Action) (S : State) (M : Seen) → Y f begun S M) → KeepsGiven hd G (LocksSo Apt V x R)
-  so_given always = record {
-    quiet = λ e bs M quiet more z. kept_from z.0 M.sent (λ f a. let g = z.3 f a in g.0) (said e bs M) (quiet_kept e bs M quiet more z);
-    stop = λ e k d live M more z. kept_from z.0 M.sent (λ f a. let g = z.3 f a in g.0) (halted e k d M) (stop_kept e k d live M more z (λ f a. always f z.0 (let g = z.3 f a in g.0) (at k d live M)));
-    message = λ e k d t v from m outs M more z there meant is. walk_from z.0 M.sent (λ f a. let g = z.3 f a in g.0) e k outs v d M (kept_message e k d t v from m outs M more z (λ f a. always f z.0 (let g = z.3 f a in g.0) (up k d t M)) there meant is);
-    act = λ e k d t i M is none more z. let D = acts i d.intents t.coord in walk_from z.0 M.sent (λ f a. let g = z.3 f a in g.0) e k D.outs (with_coord t D.part) d M (kept_act e k d t i M is none more z (λ f a. always f z.0 (let g = z.3 f a in g.0) (up k d t M)));
-    begin = λ e k d t l how parent M new may none more z.
-        let D = begin_action l how parent (parent_of parent t.coord) t.coord in
-        let a = begins_in how parent t in
-        walk_from (a ∷ z.0) M.sent (λ f w. let g = z.3 f (as_older Apt f x a z.0 M.sent w) in g.0) e k D.outs (with_coord t D.part) d (given l (record { node = k; serial = is_serial_kind how }) M) (kept_begin e k d t l how parent M new may none more z (λ f a. always f z.0 (let g = z.3 f a in g.0) (up k d t M)));
-    tick = λ e k d t M more z. walk_from z.0 M.sent (λ f a. let g = z.3 f a in g.0) e k (tick_outs (record { number = k; disk = d; live = Some t }) t) (with_coord t (let q = again_all t.coord.doings t.coord in q.part)) d M (kept_tick e k d t M more z (λ f a. always f z.0 (let g = z.3 f a in g.0) (up k d t M)));
-    restart = λ e k d M more z. walk_from z.0 M.sent (λ f a. let g = z.3 f a in g.0) e k (restart_outs hd k (d.inc + 1) d) (parts_in k (d.inc + 1) d) d M (kept_restart e k d M more z (λ f a. always f z.0 (let g = z.3 f a in g.0) (down k d M)));
-    first = first_kept;
-  }
-
--- ---- with votes or without
-
--- as much as another relation
-given_as : (hd : Header) (G P Q : Seen → Type 0) → ((M : Seen) → P M → Q M) → ((M : Seen) → Q M → P M) → KeepsGiven hd G P → KeepsGiven hd G Q
-given_as hd G P Q to back one = record {
-  quiet = λ e bs M quiet g q. to (said e bs M) (one.quiet e bs M quiet g (back M q));
-  stop = λ e k d live M g q. to (halted e k d M) (one.stop e k d live M g (back (at k d live M) q));
-  message = λ e k d t v from m outs M g q there meant is. likewise e k outs v d M (one.message e k d t v from m outs M g (back (up k d t M) q) there meant is);
-  act = λ e k d t i M is none g q. let D = acts i d.intents t.coord in likewise e k D.outs (with_coord t D.part) d M (one.act e k d t i M is none g (back (up k d t M) q));
-  begin = λ e k d t l how parent M new may none g q. let D = begin_action l how parent (parent_of parent t.coord) t.coord in
-      likewise e k D.outs (with_coord t D.part) d (given l (record { node = k; serial = is_serial_kind how }) M) (one.begin e k d t l how parent M new may none g (back (up k d t M) q));
-  tick = λ e k d t M g q. likewise e k (tick_outs (record { number = k; disk = d; live = Some t }) t) (with_coord t (let z = again_all t.coord.doings t.coord in z.part)) d M (one.tick e k d t M g (back (up k d t M) q));
-  restart = λ e k d M g q. likewise e k (restart_outs hd k (d.inc + 1) d) (parts_in k (d.inc + 1) d) d M (one.restart e k d M g (back (down k d M) q));
-  first = to (see [] (format hd)) one.first;
-}
-  where
-    likewise : (e k : ℕ) (outs : List Effect) (v : Parts) (d : Disk) (M : Seen) → Walks P e k outs (Up P k v) d M → Walks Q e k outs (Up Q k v) d M
-    likewise e k outs v d M w = walks_to P Q e k outs (Up P k v) (Up Q k v) d M to (λ c N p. to (up k c v N) p) w
-
--- what gives more from less
-pub gives_by : (hd : Header) (f : Fixed) (x : ℕ) (R Q : List Action → State → Seen → Type 0) → ((begun : List Action) (S : State) (M : Seen) → Q begun S M → R begun S M) → GivesLocks hd f x R → GivesLocks hd f x Q
-gives_by hd f x R Q to g = record {
-  holds = λ begun S s q. g.holds begun S s (to begun S (world_at s) q);
-  parts = λ begun S s from m v outs q. g.parts begun S s from m v outs (to begun S (world_at s) q);
-  asked = λ begun S s from u v outs q. g.asked begun S s from u v outs (to begun S (world_at s) q);
-  acked = λ begun S s from u v outs q. g.acked begun S s from u v outs (to begun S (world_at s) q);
-  heard = λ begun S s from m a v outs q. g.heard begun S s from m a v outs (to begun S (world_at s) q);
-  act = λ begun S s i q. g.act begun S s i (to begun S (world_at s) q);
-  begin = λ begun S s q. g.begin begun S s (to begun S (world_at s) q);
-  tick = λ begun S s q. g.tick begun S s (to begun S (world_at s) q);
-  restart = λ begun S k d M q. g.restart begun S k d M (to begun S (down k d M) q);
-  first = g.first;
-}
-
-module _ (hd : Header) (values : Values) (x : ℕ) (G : Seen → Type 0) (R : List Action → Seen → Type 0) (keeps : KeepsOf hd (λ begun M. G M) R) (gives : (f : Fixed) → BeginsAs values x f → GivesLocks hd f x (λ begun S M. G M × R begun M)) where
-  abbrev Nothing : Fixed → List Action → State → Seen → Type 0
-  Nothing f begun S M = ⊤
-
-  gives_all : (f : Fixed) → BeginsAs values x f → GivesLocks hd f x (λ begun S M. (G M × R begun M) × Nothing f begun S M)
-  gives_all f begins = gives_by hd f x (λ begun S M. G M × R begun M) (λ begun S M. (G M × R begun M) × Nothing f begun S M) (λ begun S M q. q.0) (gives f begins)
-
-  pub locks_given : KeepsGiven hd G (AreLocksSeen values x R)
-  locks_given = given_as hd G (LocksSo (BeginsAs values x) ⊥ x R) (AreLocksSeen values x R)
-      (λ M z. (z.0, z.1, z.2, (λ f agrees. let g = z.3 f agrees in (g.0, g.1, g.2)), z.4))
-      (λ M z. (z.0, z.1, z.2, (λ f agrees. let g = z.3 f agrees in (g.0, g.1, g.2, (λ never. absurd never))), z.4))
-      (so_given hd (BeginsAs values x) x G R Nothing keeps gives_all ⊥ (λ M g never. absurd never) (λ f begun S M. tt))
-
-  pub votes_given : ((M : Seen) → G M → AllVotesAreUsed M) → KeepsGiven hd G (AreLocksVoted values x R)
-  votes_given used = given_as hd G (LocksSo (BeginsAs values x) ⊤ x R) (AreLocksVoted values x R)
-      (λ M z. (z.0, z.1, z.2, (λ f agrees. let g = z.3 f agrees in (g.0, g.1, g.2, g.3 tt)), z.4))
-      (λ M z. (z.0, z.1, z.2, (λ f agrees. let g = z.3 f agrees in (g.0, g.1, g.2, (λ u. g.3))), z.4))
-      (so_given hd (BeginsAs values x) x G R Nothing keeps gives_all ⊤ (λ M g u. used M g) (λ f begun S M. tt))
-
-pub votes_are_kept : VotesAreKept
-votes_are_kept hd values x before test keeps gives used everywhere = kept_both hd (λ M. before M ≡ true) (AreLocksVoted values x (λ begun N. test begun N ≡ true)) everywhere (votes_given hd values x (λ M. before M ≡ true) (λ begun M. test begun M ≡ true) keeps gives used)
-
-pub runs_keep_votes : RunsKeepVotes
-runs_keep_votes hd values x before test keeps gives used everywhere ms = moves_asked hd (λ M. (before M ≡ true) × AreLocksVoted values x (λ begun N. test begun N ≡ true) M) (keeps_asked hd (λ M. (before M ≡ true) × AreLocksVoted values x (λ begun N. test begun N ≡ true) M) (votes_are_kept hd values x before test keeps gives used everywhere)) ms
-
-pub locks_are_kept : LocksAreKept
-locks_are_kept hd values x before test keeps gives everywhere = kept_both hd (λ M. before M ≡ true) (AreLocksSeen values x (λ begun N. test begun N ≡ true)) everywhere (locks_given hd values x (λ M. before M ≡ true) (λ begun M. test begun M ≡ true) keeps gives)
-
-pub runs_keep_locks : RunsKeepLocks
-runs_keep_locks hd values x before test keeps gives everywhere ms = moves_asked hd (λ M. (before M ≡ true) × AreLocksSeen values x (λ begun N. test begun N ≡ true) M) (keeps_asked hd (λ M. (before M ≡ true) × AreLocksSeen values x (λ begun N. test begun N ≡ true) M) (locks_are_kept hd values x before test keeps gives everywhere)) ms

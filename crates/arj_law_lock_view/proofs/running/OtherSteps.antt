@@ -11,7 +11,7 @@ use Rattle.arj_law_lock.specs.machine.Actions.{Act, Root, In, root}
 use Rattle.arj_law_lock.specs.machine.Machine.{Run, start}
 use Rattle.arj_law_lock.specs.machine.Machine as machine
 use Rattle.arj_law_lock.specs.machine.State as state
-use Rattle.arj_law_lock.specs.machine.State.{Call, Include, State}
+use Rattle.arj_law_lock.specs.machine.State.{State}
 use Rattle.arj_law_lock.proofs.machine.Order.{go_on}
 use Rattle.arj_law_parts.specs.parts.Actions.{Action, act_of}
 use Rattle.arj_law_runs.proofs.kept.Walked.{other_number, same_number}

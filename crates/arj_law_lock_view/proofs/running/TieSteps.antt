@@ -6,7 +6,7 @@ use Rattle.arj_base.specs.Uid.{nobody}
 use Rattle.arj_lock.proofs.Members as list
 use Rattle.arj_lock.proofs.Members.{in_from, in_to}
 use Rattle.arj_model.specs.Actions as model
-use Rattle.arj_model.specs.Actions.{Placed, acts, begun_of, is_serial, recovered}
+use Rattle.arj_model.specs.Actions.{Placed, acts, is_serial, recovered}
 use Rattle.arj_model.specs.Serial.{Values}
 use Rattle.arj_protocol.specs.Words.{Body, Kind, Label, Line, Message, Uid, name}
 use Rattle.arj_protocol.specs.Words.body

@@ -17,7 +17,7 @@ use Rattle.arj_law_parts.proofs.parts.GoodTrees.{all_over}
 use Rattle.arj_law_parts.proofs.parts.TrueSteps.{work_there}
 use Rattle.arj_law_parts.specs.parts.Copies.{Paths}
 use Rattle.arj_law_lock_view.specs.view.Acts.{Acts, AreOne}
-use Rattle.arj_law_lock_view.specs.view.Acting.{AbortionsAreSeen, CallersAreHere, DecisionsAreSeen, IsBacked, IsEndSeen, IsFirst, KeepsUnits, NestedCommitsAreSeen, OnlyActed, PlainUnitsEnd, TopsBegin, UnitsEnd}
+use Rattle.arj_law_lock_view.specs.view.Acting.{AbortionsAreSeen, CallersAreHere, DecisionsAreSeen, IsBacked, IsEndSeen, IsFirst, KeepsUnits, NestedCommitsAreSeen, OnlyActed, TopsBegin, UnitsEnd}
 use Rattle.arj_law_lock_view.specs.view.Actions.{AreAlike, IsHere, IsIdle, IsLone, IsPlaced, IsSteady, SeesAction, SeesActions, invokes, stage_of}
 use Rattle.arj_law_lock_view.specs.view.Ending.{ChangesOne, KeepsActions, aborted, called_at, committed_at}
 use Rattle.arj_law_lock_view.specs.view.Going.{Goes}
@@ -395,6 +395,3 @@ module _ (act : Acts) (paths : Paths) (x : ℕ) (c : Coord) (u : Uid) (b : Branc
               let st = ap (λ (v : Act). (S.action v).stage) is in
               ⊎_elim (λ (three : (S.action (act w)).stage ≡ 3). ((λ k. omega (arith, st, three, k)), (λ k. omega (arith, st, three, k)))) (λ (four : (S.action (act w)).stage ≡ 4). ((λ k. omega (arith, st, four, k)), (λ k. omega (arith, st, four, k))))
               (stage_over act paths x c S.action steady sees q s.0 (S.action (act w)) s.2 (all_ended w q there (ap root (sym is) ∙ own)))
-
-pub plain_units_end : PlainUnitsEnd
-plain_units_end act paths x c u b unit S steady found gone home all_ended zero_now sees = plain_goes act paths x c u b unit S steady sees found home all_ended zero_now

@@ -17,11 +17,11 @@ use Rattle.arj_protocol.specs.Order.{binding_eq, binding_less, binding_number}
 use Rattle.arj_protocol.specs.Tree.{Branch, root_of}
 use Rattle.arj_protocol.proofs.Maps.{put_same}
 use Rattle.arj_law_lock.specs.machine.Actions.{Act, In, root}
-use Rattle.arj_law_lock.specs.machine.Machine.{Guard, next, start, stay, step}
+use Rattle.arj_law_lock.specs.machine.Machine.{next, stay, step}
 use Rattle.arj_law_lock.specs.machine.Machine as machine_run
 use Rattle.arj_law_lock.specs.machine.State as machine
-use Rattle.arj_law_lock.specs.machine.State.{Action, Call, IsFree, State}
-use Rattle.arj_law_lock.specs.machine.Steps.{Load, LoadsTheLast, IsCurrent, KnowsRecorded, MayUse, TurnedDown}
+use Rattle.arj_law_lock.specs.machine.State.{IsFree, State}
+use Rattle.arj_law_lock.specs.machine.Steps.{Load, LoadsTheLast, IsCurrent, KnowsRecorded, MayUse}
 use Rattle.arj_law_lock.specs.machine.Steps as event
 use Rattle.arj_law_lock.proofs.machine.Order.{go_on}
 use Rattle.arj_law_lock.proofs.machine.Paths.{differ, number_self, same_number}

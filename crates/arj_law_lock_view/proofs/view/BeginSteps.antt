@@ -19,7 +19,7 @@ use Rattle.arj_protocol.proofs.Maps.{put_same}
 use Rattle.arj_law_lock.specs.machine.Actions.{Act, In, Root as Unit, is_action, is_top, on, root, top}
 use Rattle.arj_law_lock.specs.machine.Machine.{next, stay, step}
 use Rattle.arj_law_lock.specs.machine.State.{Alive, Call, State}
-use Rattle.arj_law_lock.specs.machine.Steps.{KnowsRecorded, MayUse}
+use Rattle.arj_law_lock.specs.machine.Steps.{MayUse}
 use Rattle.arj_law_lock.specs.machine.Steps as event
 use Rattle.arj_law_lock.proofs.machine.Paths.{by_cases, differ, number_self, on_root as same_unit, root_is, top_action, top_of as its_top}
 use Rattle.arj_law_parts.specs.parts.Copies.{Paths}

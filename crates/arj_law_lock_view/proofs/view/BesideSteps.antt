@@ -12,7 +12,7 @@ use Rattle.arj_law_lock.specs.machine.Actions.{Act, In, root}
 use Rattle.arj_law_lock.specs.machine.State as machine
 use Rattle.arj_law_lock.specs.machine.State.{Ballot, Call, Include, State}
 use Rattle.arj_law_lock_view.specs.view.Acts.{Acts}
-use Rattle.arj_law_lock_view.specs.view.Beside.{CoordsStaySeen, NamedStaysSeen, OtherServersStaySeen, ServersStaySeen, WholesStaySeen}
+use Rattle.arj_law_lock_view.specs.view.Beside.{NamedStaysSeen, OtherServersStaySeen, ServersStaySeen, WholesStaySeen}
 use Rattle.arj_law_lock_view.specs.view.Copies.{Codes, state_code}
 use Rattle.arj_law_lock_view.specs.view.Inputs.{SeesWhole}
 use Rattle.arj_law_lock_view.specs.view.Named.{Place, SeesNamed}
@@ -115,9 +115,6 @@ module _ (S : State) (servers : ℕ → machine.Server) (yes : Act → ℕ) (vot
     asked = s.asked;
     making = s.making;
   }
-
-pub coords_stay_seen : CoordsStaySeen
-coords_stay_seen v m act code x c S T only sees = subst (SeesCoord act code x c) (sym only.rest) (coord_beside S T.server T.yes T.vote T.net only.sent act code x c sees)
 
 pub wholes_stay_seen : WholesStaySeen
 wholes_stay_seen v m act code x c S T only sees = subst (SeesWhole act code x c) (sym only.rest) (whole_beside S T.server T.yes T.vote T.net only.sent only.raised act code x c sees)

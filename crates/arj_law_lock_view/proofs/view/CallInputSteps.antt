@@ -7,7 +7,7 @@ use Rattle.arj_protocol.specs.Words.loaded
 use Rattle.arj_protocol.specs.Words.recorded
 use Rattle.arj_protocol.specs.Ask.{Reply, actor, top_of}
 use Rattle.arj_protocol.specs.Asking.{again_all, again_now, call, call_steps, give_up_call, goes_on, heard_call, is_invoke_ask, kept_at, last_req, renewed, root_lost, root_moved, step_call}
-use Rattle.arj_protocol.specs.Call.{At, AtActivate, AtBind, AtInvoke, AtLoad, AtNote, CallEnd, CallStep, Ended, Goal, Include as IncludeStore, Included, Known, Moved, On, Run, Steps, answered, bound_by, given_up, named_again, next_ask, next_node, same_binding, two_bindings, two_incs, with_inc}
+use Rattle.arj_protocol.specs.Call.{At, AtActivate, AtBind, AtInvoke, AtLoad, AtNote, CallEnd, CallStep, Ended, Include as IncludeStore, Included, Known, Moved, On, Run, Steps, answered, bound_by, given_up, named_again, next_ask, next_node, same_binding, two_bindings, two_incs, with_inc}
 use Rattle.arj_protocol.specs.Call as protocol
 use Rattle.arj_protocol.specs.Commit.{Machine, plan_of, waiting}
 use Rattle.arj_protocol.specs.Coord.{Calling, Committing, Coord, Doing, Idle, Keeping, Now, Went, doing_of, is_free, keeping_of, new_coord, on_root, root_at, with_keeping, with_went}

@@ -8,14 +8,14 @@ use Rattle.arj_protocol.specs.Words.{Binding, End, Op, Uid, first_uid, is_on, la
 use Rattle.arj_protocol.specs.Words.ending
 use Rattle.arj_protocol.specs.Ask.{actor, top_of}
 use Rattle.arj_protocol.specs.Asking.{asks_step, doomed_by, ends_call, goes_on, is_invoke_ask, root_heard}
-use Rattle.arj_protocol.specs.Call.{At, AtActivate, AtBind, AtInvoke, AtLoad, AtNote, CallEnd, Goal, Known, Moved, Run, Steps, is_invoke, next_ask, next_node}
+use Rattle.arj_protocol.specs.Call.{At, AtActivate, AtBind, AtInvoke, AtLoad, AtNote, CallEnd, Goal, Known, Run, Steps, is_invoke, next_ask, next_node}
 use Rattle.arj_protocol.specs.Call as call
 use Rattle.arj_protocol.specs.Coord.{Calling, Committing, Coord, Doing, Grant, Idle, Keeping, Now, Root, Said, Went, change_doing, doing_of, is_call, is_free, keeping_of, kept_of, on_root, root_at, same_went, set_doing, with_went}
 use Rattle.arj_protocol.specs.Order.{binding_number}
 use Rattle.arj_protocol.specs.Tree.{Branch, Tree, branch_of, ended_so, ends_of, has_end, is_aborted, is_spent, root_of}
 use Rattle.arj_protocol.specs.Step.{is_committing_now, is_waiting_now}
 use Rattle.arj_law_lock.specs.machine.Actions.{Act, In, Root as Unit, at, at_act, is_action, on, root, same, top}
-use Rattle.arj_law_lock.specs.machine.Machine.{Guard, next, start, stay, step}
+use Rattle.arj_law_lock.specs.machine.Machine.{Guard, next, stay, step}
 use Rattle.arj_law_lock.specs.machine.Machine as machine_run
 use Rattle.arj_law_lock.specs.machine.State as machine
 use Rattle.arj_law_lock.specs.machine.State.{Action, Alive, Call, IsFree, Open, State}

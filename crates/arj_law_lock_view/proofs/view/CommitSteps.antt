@@ -22,14 +22,14 @@ use Rattle.arj_law_lock.proofs.machine.Paths.{at_here, on_above, on_self}
 use Rattle.arj_law_lock.proofs.machine.Rows.{pass_cases}
 use Rattle.arj_law_parts.specs.parts.Copies.{IsChain, IsTree, Paths}
 use Rattle.arj_law_lock_view.specs.view.Acts.{Acts}
-use Rattle.arj_law_lock_view.specs.view.Commits.{FoldingsAreSeen, IsAlone, IsCommitSeen, IsCommitting, IsRightBelow, ReadingsAreSeen, RetainingsAreSeen, SettlingsAreSeen, value_in, maker_in}
+use Rattle.arj_law_lock_view.specs.view.Commits.{FoldingsAreSeen, IsAlone, IsCommitSeen, IsCommitting, IsRightBelow, RetainingsAreSeen, SettlingsAreSeen, value_in, maker_in}
 use Rattle.arj_law_lock_view.specs.view.Copies.{AreHeld, Codes, IsOver, OnlyEnds, SeesCopy, SeesOvers, writer_of}
 use Rattle.arj_law_lock_view.specs.view.Going.{Goes}
 use Rattle.arj_law_lock_view.specs.view.Rows.{SeesRows, held_in}
 use Rattle.arj_law_lock_view.proofs.view.CopySteps.{put_seen}
 use Rattle.arj_law_lock_view.proofs.view.LeftSteps.{ends_both, ends_only, left_handed, left_kept}
 use Rattle.arj_law_lock_view.proofs.view.LogSteps.{all_handed, all_kept, folded_here, held_for, held_seen, lowest_over, none_undone, others_handed, over_deep, own_undone}
-use Rattle.arj_law_lock_view.proofs.view.PassSteps.{gone_seen, others_keep, passed_seen}
+use Rattle.arj_law_lock_view.proofs.view.PassSteps.{others_keep, passed_seen}
 use Rattle.arj_law_lock_view.proofs.view.RunSteps.{goes_then, goes_to}
 use Rattle.arj_law_lock_view.proofs.view.UndoSteps.{drop_goes, keeps, undone_seen, without}
 
@@ -56,20 +56,6 @@ module _ (act : Acts) (code : Codes) (paths : Paths) (n x : ℕ) (u : Uid) (c : 
 
   path_of : (o : Over) → over.In o c.stack → last_uid o.holder ≡ u → o.holder ≡ paths u
   path_of o i last = ends.good.overs o (in_to o c.stack i) ∙ ap paths last
-
-  -- ---- an action that wrote nothing here
-
-  readings_go : over_of u c.stack ≡ None → Guard (DropRows n (act u)) S → IsCommitSeen act code n x u c S
-  readings_go none may = goes_to (drop_goes n (act u) S may) (λ T h. (
-    subst (λ (o : Option Over). SeesCopy act code x (let d = overs_committed u o c in record d { rows = pass_rows u c.rows }) (T.server n)) (sym none)
-        (subst (SeesCopy act code x (record c { rows = pass_rows u c.rows })) (sym h.0) (record {
-          active = sees.active;
-          base = sees.base;
-          overs = subst (λ (os : List Over). SeesOvers act code os (filter (keeps (act u)) v.log)) (sym (own_undone act paths x u c ends c.stack (λ o i. i)) ∙ none_undone u c.stack none) (undone_seen act code u c.stack v.log ends.told.overs sees.overs);
-          rows = gone_seen act ends.one (object x) u c.rows v.rows sees.rows;
-        })),
-    h.1,
-  ))
 
   -- ---- the commit of a top
 
@@ -304,6 +290,3 @@ retainings_are_seen act code paths n x u h unit c S ends under serial sees = ret
 
 pub settlings_are_seen : SettlingsAreSeen
 settlings_are_seen act code paths n x u c S ends alone sees = settlings_go act code paths n x u c S ends sees alone
-
-pub readings_are_seen : ReadingsAreSeen
-readings_are_seen act code paths n x u c S ends none may sees = readings_go act code paths n x u c S ends sees none may

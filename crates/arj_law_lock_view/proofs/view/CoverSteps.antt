@@ -30,7 +30,7 @@ use Rattle.arj_law_lock_view.specs.view.Acts.{Acts}
 use Rattle.arj_law_lock_view.specs.view.Acting.{IsFreeToEnd}
 use Rattle.arj_law_lock_view.specs.view.Actions.{IsPlaced, IsSteady, SeesAction, stage_of}
 use Rattle.arj_law_lock_view.specs.view.Copies.{Codes}
-use Rattle.arj_law_lock_view.specs.view.Covers.{HasCalled, HasOfUnit, HasOwn, HasUsed, PlansCoverUnits, PlansHaveOwn, PlansSayLow}
+use Rattle.arj_law_lock_view.specs.view.Covers.{HasCalled, HasOfUnit, HasUsed, PlansCoverUnits, PlansSayLow}
 use Rattle.arj_law_lock_view.specs.view.Including.{HasGrant, IsJoined, IsNoted}
 use Rattle.arj_law_lock_view.specs.view.Inputs.{AreTopped, IsOfUnit, SeesWhole}
 use Rattle.arj_law_lock_view.specs.view.Roots.{SeesCoord}
@@ -356,15 +356,6 @@ module _ (act : Acts) (code : Codes) (paths : Paths) (x : ℕ) (c : Coord) (u : 
       subst (λ (m : ℕ). HasUsed m plan) n.about
       (has_joined b.path (last_req (doing_of (actor b.path) c)) (root_at rt c) c n.join n.there (subst (λ us. counts (actor b.path) us c ≡ true) (sym (good.lists.paths_are w y.branch y.found) ∙ y.path) (count w y.branch y.found n.by)))
 
-  own_home : (a : Act) → top a ≡ act u → root a ≡ root (act u)
-  own_home a home = sym (top_root a) ∙ ap root home
-
-  own_plan : HasOwn x (act u) plan S
-  own_plan = (
-    λ k there alive home. called k there (own_home k.act home) (λ w q at by. own_counts w q at (subst (Alive S) by alive) (ap top (sym by) ∙ home)),
-    λ k there alive home. used k there (own_home k.act home) (λ w q at by. own_counts w q at (subst (Alive S) by alive) (ap top (sym by) ∙ home)),
-  )
-
   -- ---- what its serializing action retains
 
   module _ (begun : AreBegun steady.actions) (unnested : b.kind ≢ kind.Nested) where
@@ -507,9 +498,6 @@ module _ (act : Acts) (code : Codes) (paths : Paths) (x : ℕ) (c : Coord) (u : 
 
                 who : (uid_eq (let g = grant.0 in g.top) (actor b.path) || (is_kept_top (let g = grant.0 in g.top) c && top_uses (let g = grant.0 in g.top) x rr c)) ≡ true
                 who = ⊎_elim own held of.1
-
-pub plans_have_own : PlansHaveOwn
-plans_have_own act code paths x c u b d S free unserial childless whole = own_plan act code paths x c u b d S free unserial childless whole
 
 pub plans_cover_units : PlansCoverUnits
 plans_cover_units act code paths x c u b d S free begun unserial unnested childless whole = unit_plan act code paths x c u b d S free unserial childless whole begun unnested

@@ -13,7 +13,7 @@ use Rattle.arj_law_parts.specs.parts.Actions.{Action, AreBegun, IsNew, Stands, a
 use Rattle.arj_law_parts.proofs.parts.Begun.{begun_tree, front_more, on_own, path_found, path_some}
 use Rattle.arj_law_lock_view.specs.view.Actions.{IsPlaced}
 use Rattle.arj_law_lock_view.specs.view.Acts.{Acts}
-use Rattle.arj_law_lock_view.specs.view.Families.{FamiliesAreTrees, OlderAreTrees, acts_of, place_of}
+use Rattle.arj_law_lock_view.specs.view.Families.{FamiliesAreTrees, acts_of, place_of}
 use Rattle.arj_law_lock_view.proofs.view.PlaceSteps.{acts_in}
 use Rattle.arj_law_lock_view.proofs.view.TreeSteps.{first_on}
 
@@ -275,12 +275,3 @@ families_are_trees acts begun =
       agree = path_found acts begun;
       placed = λ a k. p.kinds a (in_from a acts k);
     }
-
-pub older_are_trees : OlderAreTrees
-older_are_trees a acts ways places whole = record {
-  tree = whole.tree;
-  alike = whole.alike;
-  begun = whole.begun.1;
-  agree = λ b k. whole.agree b (in_to b (a ∷ acts) (inr (in_from b acts k)));
-  placed = λ b k. whole.placed b (in_to b (a ∷ acts) (inr (in_from b acts k)));
-}

@@ -3,7 +3,7 @@ use Rattle.std.proofs.Common.{◌≡◌, ◌≤◌, ◌⊎◌, ◌∙◌, ◌&&�
 use Rattle.std.specs.Prelude.{⊤, option_map}
 use Rattle.std.specs.List.{list_all}
 use Rattle.arj_lock.proofs.Members as list
-use Rattle.arj_lock.proofs.Members.{in_from, in_to}
+use Rattle.arj_lock.proofs.Members.{in_from}
 use Rattle.arj_protocol.specs.Words.{Ask, Asked, Binding, End, Head, InvokedReply, Message, ObjectState, Op, Row, Uid, VotedReply, What, asks, first_conflict, object, op_mode, uids_of}
 use Rattle.arj_protocol.specs.Words.ask
 use Rattle.arj_protocol.specs.Words.message

@@ -11,7 +11,7 @@ use Rattle.arj_protocol.specs.Words.loaded
 use Rattle.arj_protocol.specs.Words.mode
 use Rattle.arj_protocol.specs.Ask.{Reply, actor, top_of}
 use Rattle.arj_protocol.specs.Asking.{asks_step, is_invoke_ask, doomed_by, ends_call, goes_on, kept_at, root_heard, root_moved, step_call, store_of}
-use Rattle.arj_protocol.specs.Call.{At, AtActivate, AtBind, AtInvoke, AtLoad, AtNote, CallEnd, CallStep, Ended, Goal, Include as IncludeStore, Included, Known, Moved, On, Steps, answered, load_from, next_ask, next_node, or_lost, write_known}
+use Rattle.arj_protocol.specs.Call.{At, AtActivate, AtBind, AtInvoke, AtLoad, AtNote, CallEnd, Ended, Goal, Include as IncludeStore, Included, Known, Moved, On, Steps, answered, next_ask, next_node, write_known}
 use Rattle.arj_protocol.specs.Call as protocol
 use Rattle.arj_protocol.specs.Coord.{Calling, Coord, Doing, Grant, Idle, Joined, Root, Went, change_doing, doing_of, granted_with, is_free, joined_with, later_state, no_root, on_doing, on_root, root_at, same_join, set_doing, with_join, with_went}
 use Rattle.arj_protocol.specs.Order.{at_number}

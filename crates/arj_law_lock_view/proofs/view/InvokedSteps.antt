@@ -21,10 +21,10 @@ use Rattle.arj_protocol.specs.Order.{binding_number}
 use Rattle.arj_protocol.specs.Step.{is_committing_now}
 use Rattle.arj_protocol.specs.Tree.{Branch, root_of}
 use Rattle.arj_law_lock.specs.machine.Actions.{Act, In, at_act, on, root, top}
-use Rattle.arj_law_lock.specs.machine.Machine.{Guard, next, start, stay, step}
+use Rattle.arj_law_lock.specs.machine.Machine.{next, stay, step}
 use Rattle.arj_law_lock.specs.machine.Machine as machine_run
 use Rattle.arj_law_lock.specs.machine.State as machine
-use Rattle.arj_law_lock.specs.machine.State.{Action, Call, Open, State}
+use Rattle.arj_law_lock.specs.machine.State.{Action, Call, State}
 use Rattle.arj_law_lock.specs.machine.Steps as event
 use Rattle.arj_law_lock.proofs.machine.Paths.{number_self}
 use Rattle.arj_law_parts.specs.parts.Copies.{Paths}

@@ -4,7 +4,7 @@ use Rattle.std.specs.List.{AllByRecursion}
 use Rattle.std.proofs.lemmas.List.{map-append}
 use Rattle.arj_base.proofs.Uids.{uid_is, uid_same}
 use Rattle.arj_lock.proofs.Members as over
-use Rattle.arj_lock.proofs.Members.{in_from, in_to}
+use Rattle.arj_lock.proofs.Members.{in_to}
 use Rattle.arj_protocol.specs.Words.{Uid, is_on, last_uid, uid_eq}
 use Rattle.arj_protocol.specs.Copy.{Base, Copy, Over, is_of, over_of, undone}
 use Rattle.arj_law_lock.specs.machine.Actions.{Act, In, Sub, on, same}

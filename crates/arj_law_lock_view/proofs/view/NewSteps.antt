@@ -9,7 +9,7 @@ use Rattle.arj_protocol.specs.Words.ending
 use Rattle.arj_protocol.specs.Asking.{begin_action}
 use Rattle.arj_protocol.specs.Coord.{Calling, Committing, Coord, Doing, Idle, Root, doing_of, new_coord, root_at}
 use Rattle.arj_protocol.specs.Tree.{Branch, at_place, branch_of, ended_so, is_aborted, is_open, is_open_branch, is_own, is_spent, new_tree, next_uid, path_below, root_of}
-use Rattle.arj_law_lock.specs.machine.Actions.{Act, is_action, root}
+use Rattle.arj_law_lock.specs.machine.Actions.{Act, root}
 use Rattle.arj_law_lock.specs.machine.Actions as machine
 use Rattle.arj_law_lock.specs.machine.State.{Include, State}
 use Rattle.arj_law_lock.proofs.machine.Paths.{on_root as same_unit}
@@ -19,7 +19,7 @@ use Rattle.arj_law_parts.proofs.parts.GoodCoords.{doing_by}
 use Rattle.arj_law_parts.proofs.parts.GoodTrees.{found_by, get_more, grown_cases, grown_still, new, not_yet, place_in}
 use Rattle.arj_law_lock_view.specs.view.Acts.{Acts}
 use Rattle.arj_law_lock_view.specs.view.Actions.{IsHere, IsIdle, SeesAction, SeesActions}
-use Rattle.arj_law_lock_view.specs.view.Begins.{ActionsBegin, IsBeginning, NewCoordsAreSeen}
+use Rattle.arj_law_lock_view.specs.view.Begins.{IsBeginning, NewCoordsAreSeen}
 use Rattle.arj_law_lock_view.specs.view.Copies.{Codes}
 use Rattle.arj_law_lock_view.specs.view.Including.{IsNoted, SeesIncludes}
 use Rattle.arj_law_lock_view.specs.view.Inputs.{BeginsAreTaken, SeesWhole}
@@ -316,6 +316,3 @@ module _ (act : Acts) (code : Codes) (paths : Paths) (x : ℕ) (l : Label) (k : 
 
 pub begins_are_taken : BeginsAreTaken
 begins_are_taken act code paths x l k parent above c S begins whole = begins_whole act code paths x l k parent above c S begins whole.coord whole
-
-pub actions_begin : ActionsBegin
-actions_begin act code paths x l k parent above c S begins sees = action_begins act code paths x l k parent above c S begins sees

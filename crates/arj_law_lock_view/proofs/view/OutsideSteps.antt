@@ -9,7 +9,7 @@ use Rattle.arj_protocol.specs.Tree.{Branch, Tree, branch_of, root_of}
 use Rattle.arj_law_lock.specs.machine.Actions.{Act, In, Root as Unit, root}
 use Rattle.arj_law_lock.specs.machine.Machine.{Run}
 use Rattle.arj_law_lock.specs.machine.State as machine
-use Rattle.arj_law_lock.specs.machine.State.{Include, State}
+use Rattle.arj_law_lock.specs.machine.State.{State}
 use Rattle.arj_law_lock.proofs.machine.Claims.{Holds}
 use Rattle.arj_law_lock_view.specs.view.Acts.{Acts}
 use Rattle.arj_law_lock_view.specs.view.Actions.{IsHere, IsIdle, SeesAction, SeesActions}
@@ -17,11 +17,10 @@ use Rattle.arj_law_lock_view.specs.view.Calling.{IsReached, OnlyCalled}
 use Rattle.arj_law_lock_view.specs.view.Copies.{Codes, state_code}
 use Rattle.arj_law_lock_view.specs.view.Going.{OnlyNaming}
 use Rattle.arj_law_lock_view.specs.view.Inputs.{OnlyEnded, SeesWhole}
-use Rattle.arj_law_lock_view.specs.view.Outside.{CallsElsewhere, EndsElsewhere, IncludesElsewhere, IsAway, NamingElsewhere, ServersElsewhere, StopsElsewhere}
+use Rattle.arj_law_lock_view.specs.view.Outside.{CallsElsewhere, EndsElsewhere, IncludesElsewhere, IsAway, NamingElsewhere, StopsElsewhere}
 use Rattle.arj_law_lock_view.specs.view.Roots.{HasHeard, IsMadeFor, SeesCoord, SeesKeeping, SeesKept, SeesRoot, SeesStep, invoke_of}
 use Rattle.arj_law_lock_view.specs.view.Stops.{IsUnitOf}
 use Rattle.arj_law_lock_view.proofs.view.AskSteps.{named_stays, server_stays}
-use Rattle.arj_law_lock_view.proofs.view.BesideSteps.{coords_stay_seen}
 use Rattle.arj_law_lock_view.proofs.view.EverSteps.{ever, reached_kept}
 use Rattle.arj_law_lock_view.proofs.view.IncludeSteps.{nobody}
 use Rattle.arj_law_lock_view.proofs.view.InputSteps.{whole_stays}
@@ -164,11 +163,6 @@ module _ (act : Acts) (code : Codes) (x : ℕ) (c : Coord) (S T : State) (reache
 
 pub naming_elsewhere : NamingElsewhere
 naming_elsewhere act code x c S T reached run only whole = still_whole act code x c S T reached run whole (ap (λ (s : State). s.includes) only.rest) (coord_named act code x c S T reached run only whole.coord)
-
--- ---- a server
-
-pub servers_elsewhere : ServersElsewhere
-servers_elsewhere v m act code x c S T reached run only whole = still_whole act code x c S T reached run whole (ap (λ (s : State). s.includes) only.rest) (coords_stay_seen v m act code x c S T only whole.coord)
 
 -- ---- a coordinator that stops
 

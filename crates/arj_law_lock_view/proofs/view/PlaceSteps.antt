@@ -6,7 +6,7 @@ use Rattle.std.proofs.lemmas.List.{length-append, take-append-le}
 use Rattle.arj_base.specs.Path.{before_last}
 use Rattle.arj_base.proofs.Uids.{uid_is}
 use Rattle.arj_lock.proofs.Members as list
-use Rattle.arj_lock.proofs.Members.{in_find, in_from, in_to}
+use Rattle.arj_lock.proofs.Members.{in_from, in_to}
 use Rattle.arj_lock.proofs.PassLeaves.{which}
 use Rattle.arj_protocol.specs.Words.{Kind, Row, Uid, first_uid, is_on, tops_of, uid_eq, uids_of}
 use Rattle.arj_protocol.specs.Words.kind

@@ -13,7 +13,7 @@ use Rattle.arj_protocol.proofs.Maps.{put_other, put_same}
 use Rattle.arj_protocol.proofs.RowSteps.{one_or_two}
 use Rattle.arj_law_lock.specs.machine.Actions.{Act, In, root}
 use Rattle.arj_law_lock.specs.machine.State as machine
-use Rattle.arj_law_lock.specs.machine.State.{Action, Call, State}
+use Rattle.arj_law_lock.specs.machine.State.{Call, State}
 use Rattle.arj_law_lock.specs.machine.Steps.{KnowsRecorded}
 use Rattle.arj_law_parts.specs.parts.Copies.{Paths}
 use Rattle.arj_law_parts.specs.parts.Coords.{IsAsking, IsBusy}

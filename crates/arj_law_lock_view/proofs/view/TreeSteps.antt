@@ -212,10 +212,6 @@ module _ (act : Acts) (paths : Paths) (x : ℕ) (c : Coord) (f : Act → Action)
   OnlyOne u b d e = single.OnlyOne c u b d e
 
   module _ (u : Uid) (b0 b : Branch) (d : Doing) (e : Coord) (g : Act → Action) (found : branch_of u t ≡ Some b0) (only : OnlyOne u b d e) (path : b.path ≡ b0.path) (later : is_some b.ended ≡ false → is_some b0.ended ≡ false) where
-    -- a branch was there, by the same path
-    pub was : (w : Uid) (q : Branch) → branch_of w e.tree ≡ Some q → (r : Branch) × (branch_of w t ≡ Some r) × (r.path ≡ q.path) × (is_some q.ended ≡ false → is_some r.ended ≡ false)
-    was = single.was c u b0 b d e found only path later
-
     pub one_changed : (is_action (act u) ≡ true → SeesAction x b d (g (act u))) → ((a : Act) → same a (act u) ≡ false → is_action a ≡ true → g a ≡ f a)
         → ((w : Uid) (q r : Branch) → branch_of w e.tree ≡ Some q → branch_of (root_of q.path) e.tree ≡ Some r → is_some r.ended ≡ false → g (Root (root (act w))) ≡ f (Root (root (act w))))
         → ((n : ℕ) → (g (Root n)).waits ≡ (f (Root n)).waits) → SeesActions act x e g

@@ -11,17 +11,14 @@ use Rattle.arj_protocol.specs.Words.prepared
 use Rattle.arj_protocol.specs.Words.confirmed
 use Rattle.arj_protocol.specs.Ask.{Reply, actor}
 use Rattle.arj_protocol.specs.Commit.{Confirming, Plan, Preparing, Used, Voting, begin_confirm, begin_prepare, begin_vote, further, is_at_server, marks_store, marks_stores, servers_of, stores_left, targets_of, votes_left, with_state, with_states}
-use Rattle.arj_protocol.specs.Order.{binding_number, has, without_number, with_number}
+use Rattle.arj_protocol.specs.Order.{has, without_number, with_number}
 use Rattle.arj_law_lock.specs.machine.State.{State}
-use Rattle.arj_law_lock.proofs.machine.Order.{go_on, start_holds}
+use Rattle.arj_law_lock.proofs.machine.Order.{go_on}
 use Rattle.arj_law_lock_view.specs.view.Serving.{HaveOne, IsVotedSo, state_in}
-use Rattle.arj_law_lock_view.specs.view.Voted.{HasVotes, IsCalledIn, IsVoteFor, KnowsNext, PlansAreConfirmed, PlansAreGiven, Side, VotesAreHeard, VotesAreLost, VotesAreShown, VotesSetOut, VotesStay, side_of}
+use Rattle.arj_law_lock_view.specs.view.Voted.{HasVotes, IsCalledIn, IsVoteFor, KnowsNext, Side, VotesAreHeard, VotesAreLost, VotesAreShown, VotesSetOut, VotesStay, side_of}
 use Rattle.arj_law_lock_view.proofs.view.PlanSteps.{in_set_of}
 use Rattle.arj_law_lock_view.proofs.view.ReplySteps.{tied_in}
 use Rattle.arj_law_lock.proofs.machine.Paths.{number_self}
-use Rattle.arj_law_lock.proofs.machine.VoteRun.{run_all_votes, start_votes}
-use Rattle.arj_law_lock.proofs.machine.ValueRun.{start_values}
-use Rattle.arj_law_lock.proofs.machine.Given.{confirmed_stands, given_stands}
 
 -- ---- states put in
 
@@ -297,27 +294,3 @@ votes_are_shown v p left h from (voted.Yes states) T own shows = record {
         let here : is_at_server from q ≡ true = (λ j. i.called j && (at j == from)) ∙ number_self from in
         let t = tied_in from q p.used (in_from q p.used i.there) here in
         in_to {X = ℕ × Binding} (v.x, q.binding) (map {A = Used} {B = ℕ × Binding} (λ u. (u.x, u.binding)) (filter (is_at_server from) p.used)) (subst (λ (y : ℕ). list.In {X = ℕ × Binding} (y, q.binding) (map {A = Used} {B = ℕ × Binding} (λ u. (u.x, u.binding)) (filter (is_at_server from) p.used))) i.about t)
-
--- ---- what a decision has
-
-pub plans_are_given : PlansAreGiven
-plans_are_given w p q c S reached h i one latest kept first ci write tops alive =
-    let g = h.given q i refl in
-    let o = g.vote in
-    let k = run_all_votes (let r = o.reached in r.1) (start_holds (let r = o.reached in r.0)) (start_values (let r = o.reached in r.0)) (start_votes (let r = o.reached in r.0)) in
-    record {
-      copy = g.copy;
-      vote = given_stands k.0 k.1 k.2 o.node (w.act w.top) (binding_number q.binding) o.inc S c o.may o.run one latest kept first ci write tops alive ∙ o.gives;
-      state = g.state;
-    }
-
-pub plans_are_confirmed : PlansAreConfirmed
-plans_are_confirmed w p q c S T reached h off run i one latest kept on ci write tops alive =
-    let g = h.given q i refl in
-    let o = g.vote in
-    let k = run_all_votes (let r = o.reached in r.1) (start_holds (let r = o.reached in r.0)) (start_values (let r = o.reached in r.0)) (start_votes (let r = o.reached in r.0)) in
-    record {
-      copy = g.copy;
-      vote = confirmed_stands k.0 k.1 k.2 o.node (w.act w.top) (binding_number q.binding) o.inc S T c o.may o.run off run one latest kept on ci write tops alive ∙ o.gives;
-      state = g.state;
-    }

@@ -10,7 +10,7 @@ use Rattle.arj_protocol.specs.Words.ending
 use Rattle.arj_protocol.specs.Asking.{commits_in}
 use Rattle.arj_protocol.specs.Call.{At, AtActivate, AtBind, AtInvoke, AtLoad, AtNote, Known, Steps}
 use Rattle.arj_protocol.specs.Commit as commit
-use Rattle.arj_protocol.specs.Commit.{Machine, has_record, participants, plan_of}
+use Rattle.arj_protocol.specs.Commit.{has_record, participants, plan_of}
 use Rattle.arj_protocol.specs.Coord.{Calling, Committing, Coord, Doing, Idle, Keeping, Root, change_doing, doing_of, keeping_of, kept_of, no_keeping, no_root, on_doing, on_root, root_at, set_doing}
 use Rattle.arj_protocol.specs.Ending.{ended, kept_after, keeping_after, list_after, root_after}
 use Rattle.arj_protocol.specs.Order.{at_number, each, put_uid}

@@ -5,8 +5,7 @@ use Rattle.arj_protocol.specs.Confirm.{recovered_naming}
 use Rattle.arj_protocol.specs.Effect.{Pair, held_at}
 use Rattle.arj_protocol.specs.Order.{at_number}
 use Rattle.arj_protocol.specs.Step.{Node}
-use Rattle.arj_law_parts.specs.moves.Keeps.{Holds, Keeps}
-use Rattle.arj_law_parts.specs.moves.Moves.{Move, world_by}
+use Rattle.arj_law_parts.specs.moves.Keeps.{Keeps}
 use Rattle.arj_law_parts.specs.moves.Seen.{Seen}
 
 -- the header has the object
@@ -20,10 +19,6 @@ HoldsEntry x M = (n : Node) → M.nodes 1 ≡ Some n → is_some (held_at (entry
 -- each handler keeps it
 abbrev pub HandlersKeepEntries : Type 0
 HandlersKeepEntries = (hd : Header) (x : ℕ) → HasObject hd x → Keeps hd (HoldsEntry x)
-
--- and so it holds in every run, wherever disks stop
-abbrev pub RunsKeepEntries : Type 0
-RunsKeepEntries = (hd : Header) (x : ℕ) → HasObject hd x → (ms : List Move) → Holds hd (HoldsEntry x) (world_by hd ms)
 
 -- So naming finds the object as it starts.
 abbrev pub EntriesAreFound : Type 0

@@ -17,8 +17,7 @@ use Rattle.arj_law_parts.specs.parts.Copies.{Paths}
 use Rattle.arj_law_runs.specs.calls.Coords.{IsSpent}
 use Rattle.arj_law_runs.specs.addresses.Binds.{BindsAreKnown, KnowsBinds}
 use Rattle.arj_law_runs.specs.kept.Worlds.{IsGood}
-use Rattle.arj_law_parts.specs.moves.Keeps.{Holds, Keeps}
-use Rattle.arj_law_parts.specs.moves.Moves.{Move, world_by}
+use Rattle.arj_law_parts.specs.moves.Keeps.{Keeps}
 use Rattle.arj_law_parts.specs.moves.Seen.{Post, Seen}
 use Rattle.arj_law_lock.specs.machine.State.{State}
 use Rattle.arj_law_lock_view.specs.view.Acting.{IsFreeToEnd}
@@ -101,10 +100,6 @@ GrantsAreKnown M = (IsGood M × BindsAreKnown M) × worlds.Everywhere says_grant
 -- each handler keeps it
 abbrev pub HandlersKeepGrants : Type 0
 HandlersKeepGrants = (hd : Header) → Keeps hd GrantsAreKnown
-
--- and so it holds in every run, wherever disks stop
-abbrev pub RunsKeepGrants : Type 0
-RunsKeepGrants = (hd : Header) (ms : List Move) → Holds hd GrantsAreKnown (world_by hd ms)
 
 -- As a top's commit is called, the grant that its plan says of an object isn't above the binding that its unit keeps, where a call of the
 -- unit counts.

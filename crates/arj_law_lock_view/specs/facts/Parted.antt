@@ -4,18 +4,15 @@ use Rattle.std.specs.List.{list_any}
 use Rattle.arj_protocol.specs.Words.{Ask, Head, Header, Uid, asks}
 use Rattle.arj_protocol.specs.Words.ask
 use Rattle.arj_protocol.specs.Words.ending
-use Rattle.arj_protocol.specs.Ask.{actor, top_of}
+use Rattle.arj_protocol.specs.Ask.{actor}
 use Rattle.arj_protocol.specs.Commit.{Confirming, Machine, Voting, ask_of, confirm_ask, left_of, plan_of, servers_of}
-use Rattle.arj_protocol.specs.Confirm.{Grants, Marks}
+use Rattle.arj_protocol.specs.Confirm.{Grants}
 use Rattle.arj_protocol.specs.Coord.{Committing, Coord, Doing, Now, doing_of}
 use Rattle.arj_protocol.specs.Node.{Parts}
 use Rattle.arj_protocol.specs.Order.{has}
 use Rattle.arj_protocol.specs.Step.{Node}
 use Rattle.arj_protocol.specs.Tree.{Branch, branch_of, is_own}
 use Rattle.arj_law_parts.specs.parts.Actions.{Action}
-use Rattle.arj_law_runs.specs.kept.Worlds.{IsGoodOf}
-use Rattle.arj_law_parts.specs.moves.Keeps.{Holds}
-use Rattle.arj_law_parts.specs.moves.Moves.{Move, world_by}
 use Rattle.arj_law_parts.specs.moves.Seen.{In, Post, Seen}
 use Rattle.arj_law_lock_view.specs.facts.Acts.{KeepsOf}
 use Rattle.arj_law_lock_view.specs.facts.Uppers.{IsTopOf}
@@ -105,20 +102,8 @@ pub record KnowsParted (begun : List Action) (M : Seen) : Type 0 where
 abbrev pub HandlersKeepParted : Type 0
 HandlersKeepParted = (hd : Header) → KeepsOf hd (λ begun M. ⊤) KnowsParted
 
--- and so it holds in every run, wherever disks stop
-abbrev pub RunsKeepParted : Type 0
-RunsKeepParted = (hd : Header) (ms : List Move) → Holds hd (λ M. (begun : List Action) × IsGoodOf begun M × KnowsParted begun M) (world_by hd ms)
-
 -- ---- what Confirms name
 
 -- the grants have one of this object
 abbrev pub names_object : ℕ → Grants → Bool
 names_object x grants = list_any (λ (g : ℕ × ℕ). g.0 == x) grants
-
--- Whose Confirms name the object: so it is of each that was sent.
-abbrev pub SentConfirms : ℕ → List Post → (Uid → Bool) → Type 0
-SentConfirms x sent confirms = (p : Post) (h : Head) (grants : Grants) (excluded included : Marks) → In p sent → asks p.message ≡ Some (h, ask.Confirm grants excluded included) → names_object x grants ≡ confirms (top_of h.path)
-
--- Since all Confirms of a top are one, there is an answer for each top.
-abbrev pub ConfirmsNameOne : Type 0
-ConfirmsNameOne = (x : ℕ) (begun : List Action) (M : Seen) → IsGoodOf begun M → KnowsParted begun M → (confirms : Uid → Bool) × SentConfirms x M.sent confirms

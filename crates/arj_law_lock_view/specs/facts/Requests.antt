@@ -11,8 +11,7 @@ use Rattle.arj_protocol.specs.Tree.{is_own}
 use Rattle.arj_law_runs.specs.addresses.Binds.{BindsAreKnown}
 use Rattle.arj_law_runs.specs.calls.Coords.{IsOfStep}
 use Rattle.arj_law_runs.specs.kept.Worlds.{IsGood}
-use Rattle.arj_law_parts.specs.moves.Keeps.{Holds, Keeps}
-use Rattle.arj_law_parts.specs.moves.Moves.{Move, world_by}
+use Rattle.arj_law_parts.specs.moves.Keeps.{Keeps}
 use Rattle.arj_law_parts.specs.moves.Seen.{In, Post, Seen}
 
 -- A request that was sent is of no later number than its action's last one; and if it's that one, it is the request of the step that waits,
@@ -39,7 +38,3 @@ RequestsAreKnown M = (IsGood M × BindsAreKnown M) × AreAsked M
 -- each handler keeps it
 abbrev pub HandlersKeepRequests : Type 0
 HandlersKeepRequests = (hd : Header) → Keeps hd RequestsAreKnown
-
--- and so it holds in every run, wherever disks stop
-abbrev pub RunsKeepRequests : Type 0
-RunsKeepRequests = (hd : Header) (ms : List Move) → Holds hd RequestsAreKnown (world_by hd ms)

@@ -15,8 +15,7 @@ use Rattle.arj_law_parts.specs.parts.Messages.{IsTopAction}
 use Rattle.arj_law_parts.specs.parts.Objects.{IsGoodObject}
 use Rattle.arj_law_runs.specs.addresses.Addresses.{IsEntry}
 use Rattle.arj_law_runs.specs.kept.Worlds.{IsGoodOf}
-use Rattle.arj_law_parts.specs.moves.Keeps.{Holds, Keeps}
-use Rattle.arj_law_parts.specs.moves.Moves.{Move, world_by}
+use Rattle.arj_law_parts.specs.moves.Keeps.{Keeps}
 use Rattle.arj_law_parts.specs.moves.Seen.{Seen}
 use Rattle.arj_law_lock_view.specs.view.Namings.{HasNothingAt, IsGoodAt}
 use Rattle.arj_law_lock_view.specs.view.Telling.{View}
@@ -60,22 +59,10 @@ AreUppersOf N acts M = (k : ℕ) (n : Node) → M.nodes k ≡ Some n → IsUpper
 abbrev pub AreUppers : List Action → Seen → Type 0
 AreUppers acts M = AreUppersOf HoldsUppers acts M
 
--- So it is at each node, for the actions that were begun.
-abbrev pub UppersAreKnown : Seen → Type 0
-UppersAreKnown M = (acts : List Action) × IsGoodOf acts M × AreUppers acts M
-
 -- who prepares entries is a top
 abbrev pub PreparesUpper : List Action → Effect → Type 0
 PreparesUpper acts (Do (Prepare role.Names u states)) = IsTopOf acts u × AreOfEntries states
 PreparesUpper acts e = ⊤
-
--- each handler keeps it
-abbrev pub HandlersKeepUppers : Type 0
-HandlersKeepUppers = (hd : Header) → Keeps hd UppersAreKnown
-
--- and so it holds in every run, wherever disks stop
-abbrev pub RunsKeepUppers : Type 0
-RunsKeepUppers = (hd : Header) (ms : List Move) → Holds hd UppersAreKnown (world_by hd ms)
 
 -- At naming of a node that is up a nested action has nothing.
 abbrev pub NestedHaveNothing : Type 0
@@ -102,10 +89,6 @@ ObjectsAreHeld M = (acts : List Action) × IsGoodOf acts M × AreUppersOf HoldsO
 -- each handler keeps it
 abbrev pub HandlersKeepObjects : Type 0
 HandlersKeepObjects = (hd : Header) → Keeps hd ObjectsAreHeld
-
--- and so it holds in every run, wherever disks stop
-abbrev pub RunsKeepObjects : Type 0
-RunsKeepObjects = (hd : Header) (ms : List Move) → Holds hd ObjectsAreHeld (world_by hd ms)
 
 -- At naming of a node that is up each object is good, in the words of the machine's view.
 abbrev pub ObjectsAreGood : Type 0

@@ -9,8 +9,7 @@ use Rattle.arj_protocol.specs.Node.{Parts}
 use Rattle.arj_protocol.specs.Step.{Node}
 use Rattle.arj_law_runs.specs.addresses.Binds.{BindsAreKnown}
 use Rattle.arj_law_runs.specs.kept.Worlds.{IsGood}
-use Rattle.arj_law_parts.specs.moves.Keeps.{Holds, Keeps}
-use Rattle.arj_law_parts.specs.moves.Moves.{Move, world_by}
+use Rattle.arj_law_parts.specs.moves.Keeps.{Keeps}
 use Rattle.arj_law_parts.specs.moves.Seen.{In, Post, Seen}
 use Rattle.arj_law_lock_view.specs.facts.Works.{HasNoRoots, KnowsEnds, KnowsWaits}
 
@@ -47,7 +46,3 @@ WorksAreKnown M = (IsGood M × BindsAreKnown M) × Everywhere says_works KnowsWo
 -- each handler keeps it
 abbrev pub HandlersKeepWorks : Type 0
 HandlersKeepWorks = (hd : Header) → Keeps hd WorksAreKnown
-
--- and so it holds in every run, wherever disks stop
-abbrev pub RunsKeepWorks : Type 0
-RunsKeepWorks = (hd : Header) (ms : List Move) → Holds hd WorksAreKnown (world_by hd ms)

@@ -1,5 +1,5 @@
 -- Lines of nodes that stop and start again, and of actions that begin: the journal with each is tied to the machine.
-use Rattle.std.specs.Prelude.{◌≡◌, ◌≢◌, ◌⊎◌, ◌++◌, ℕ, false, List, [], ◌∷◌, Option, Some, None, Contains}
+use Rattle.std.specs.Prelude.{◌≡◌, ◌≢◌, ◌⊎◌, ◌++◌, ℕ, false, List, [], ◌∷◌, Option, Some, Contains}
 use Rattle.arj_journal.specs.declared.body.Body.TheVariants as body
 use Rattle.arj_journal.specs.declared.body.Line.{Line}
 use Rattle.arj_model.specs.Actions as model
@@ -7,13 +7,10 @@ use Rattle.arj_model.specs.Actions.{Placed, acts, is_serial, recovered}
 use Rattle.arj_model.specs.Serial.{Values}
 use Rattle.arj_protocol.specs.Words.{Kind, Label, Uid}
 use Rattle.arj_protocol.specs.Tree.{Branch, Tree, branch_of}
-use Rattle.arj_law_lock.specs.machine.Actions.{root}
 use Rattle.arj_law_lock.specs.machine.State.{State}
-use Rattle.arj_law_lock_view.specs.view.Acting.{OnlyActed}
 use Rattle.arj_law_lock_view.specs.view.Acts.{Acts}
 use Rattle.arj_law_lock_view.specs.view.Begins.{IsUntouched}
 use Rattle.arj_law_lock_view.specs.view.Copies.{Codes}
-use Rattle.arj_law_lock_view.specs.view.Going.{Goes}
 use Rattle.arj_law_lock_view.specs.view.Stops.{HasEnded, HasStopped, OnlyStopped}
 use Rattle.arj_law_lock_view.specs.journal.Lines.{IsTiedToLines}
 use Rattle.arj_law_lock_view.specs.journal.Steps.{AreNamed}
@@ -27,12 +24,6 @@ abbrev pub HaltsAreTied : Type 0
 HaltsAreTied = (act : Acts) (code : Codes) (values : Values) (x event n : ℕ) (lines : List Line) (t : Tree) (last : Option Uid) (S T : State)
     → AreNamed act lines → t.node ≡ n → AreHereOrGone act n t lines S → HasStopped act t last T → OnlyStopped act t S T
     → IsTiedToLines act code values x lines S → IsTiedToLines act code values x (lines ++ record { event = event; body = body.Halted n } ∷ []) T
-
--- A restart finds the record of the top that was decided: it is committed at the line of its recovery.
-abbrev pub RecordsAreTied : Type 0
-RecordsAreTied = (act : Acts) (code : Codes) (values : Values) (x event n : ℕ) (lines : List Line) (t : Tree) (u : Uid) (S : State)
-    → AreNamed act lines → HasStopped act t (Some u) S
-    → IsTiedToLines act code values x lines S → Goes S (λ T. HasStopped act t None T × OnlyActed (root (act u)) S T × IsTiedToLines act code values x (lines ++ record { event = event; body = body.Recovered n u } ∷ []) T)
 
 -- The line of the record of a top that is committed is nothing to the machine.
 abbrev pub OldRecordsAreTied : Type 0

@@ -8,24 +8,18 @@ use Rattle.arj_protocol.specs.Effect.{Disk, Effect}
 use Rattle.arj_protocol.specs.Node.{Parts, Took, handle, is_meant}
 use Rattle.arj_protocol.specs.Step.{Input, Node, acts, first_disk, refusal_up}
 use Rattle.arj_protocol.specs.Tree.{next_uid}
-use Rattle.arj_model.specs.Serial.{Values}
 use Rattle.arj_law_lock.specs.machine.State.{State}
 use Rattle.arj_law_parts.specs.parts.Actions.{Action}
 use Rattle.arj_law_parts.specs.steps.Named.{HasNames}
-use Rattle.arj_law_runs.specs.journal.Paths.{IsAlikeOf}
-use Rattle.arj_law_parts.specs.moves.Keeps.{Holds, Keeps, is_act}
-use Rattle.arj_law_parts.specs.moves.Moves.{Move, world_by}
+use Rattle.arj_law_parts.specs.moves.Keeps.{is_act}
 use Rattle.arj_law_parts.specs.moves.Seen.{In, Seen, down}
-use Rattle.arj_law_lock_view.specs.facts.Acts.{KeepsOf}
 use Rattle.arj_law_lock_view.specs.facts.Works.{KnowsEnds}
 use Rattle.arj_law_lock_view.specs.running.Answers.{KnowsAnswer}
 use Rattle.arj_law_lock_view.specs.running.Asking.{HasWholeRoots, IsAskedAbout, TellsRecords}
 use Rattle.arj_law_lock_view.specs.running.Beside.{Case, HoldsNamingIn, IsSeenIn, KnowsEntry, KnowsSpot, Spot, world_at}
 use Rattle.arj_law_lock_view.specs.running.Coordinating.{KnowsAsks, coord_at}
-use Rattle.arj_law_lock_view.specs.running.Fixed.{AgreesAs, BeginsAs, Fixed}
+use Rattle.arj_law_lock_view.specs.running.Fixed.{Fixed}
 use Rattle.arj_law_lock_view.specs.running.Inputs.{KnowsAfter, KnowsInput}
-use Rattle.arj_law_lock_view.specs.running.Sees.{SeesLocks}
-use Rattle.arj_law_lock_view.specs.running.Tied.{AreTied}
 use Rattle.arj_law_lock_view.specs.running.World.{is_for_parts}
 
 -- the case of a state
@@ -35,11 +29,6 @@ case_of f x begun S = record { fixed = f; x = x; begun = begun; state = S }
 -- each coordinator that is up knows its labels
 abbrev pub AreCoordsNamed : Seen → Type 0
 AreCoordsNamed M = (k : ℕ) (n : Node) (t : Parts) → M.nodes k ≡ Some n → n.live ≡ Some t → HasNames t.coord
-
--- Nodes are good, the actions that were begun are those of the journal, the relation holds for them, and the object is seen, in a state to
--- which the journal is tied, for all that may be fixed, agrees with them and begins with this value.
-abbrev pub AreLocksSeen : Values → ℕ → (List Action → Seen → Type 0) → Seen → Type 0
-AreLocksSeen values x R M = (begun : List Action) × IsAlikeOf begun M × R begun M × ((f : Fixed) → AgreesAs values f x begun M.sent → (S : State) × SeesLocks f x begun S M × AreTied f x M.lines S) × AreCoordsNamed M
 
 -- a message came
 pub record HasCome (s : Spot) (from : ℕ) (m : Message) (v : Parts) (outs : List Effect) : Type 0 where
@@ -63,16 +52,3 @@ pub record GivesLocks (hd : Header) (f : Fixed) (x : ℕ) (R : List Action → S
   pub tick : (begun : List Action) (S : State) (s : Spot) → R begun S (world_at s) → IsSeenIn (case_of f x begun S) (world_at s) → KnowsAsks (case_of f x begun S) (coord_at s) × KnowsEnds (coord_at s) × TellsRecords s
   pub restart : (begun : List Action) (S : State) (k : ℕ) (d : Disk) (M : Seen) → R begun S (down k d M) → IsSeenIn (case_of f x begun S) (down k d M) → KnowsEntry x k d
   pub first : KnowsEntry x 1 (first_disk hd 1)
-
--- Where such a relation is kept, of the actions that were begun, before whatever holds everywhere, it is kept with the object seen, for all
--- that may be fixed; and both hold in every run, wherever disks stop.
-abbrev pub LocksAreKept : Type 0
-LocksAreKept = (hd : Header) (values : Values) (x : ℕ) (before : Seen → Bool) (test : List Action → Seen → Bool)
-    → KeepsOf hd (λ begun M. before M ≡ true) (λ begun M. test begun M ≡ true) → ((f : Fixed) → BeginsAs values x f → GivesLocks hd f x (λ begun S M. (before M ≡ true) × (test begun M ≡ true)))
-    → Keeps hd (λ M. before M ≡ true) → Keeps hd (λ M. (before M ≡ true) × AreLocksSeen values x (λ begun N. test begun N ≡ true) M)
-
--- so it is in every run, wherever disks stop
-abbrev pub RunsKeepLocks : Type 0
-RunsKeepLocks = (hd : Header) (values : Values) (x : ℕ) (before : Seen → Bool) (test : List Action → Seen → Bool)
-    → KeepsOf hd (λ begun M. before M ≡ true) (λ begun M. test begun M ≡ true) → ((f : Fixed) → BeginsAs values x f → GivesLocks hd f x (λ begun S M. (before M ≡ true) × (test begun M ≡ true)))
-    → Keeps hd (λ M. before M ≡ true) → (ms : List Move) → Holds hd (λ M. (before M ≡ true) × AreLocksSeen values x (λ begun N. test begun N ≡ true) M) (world_by hd ms)

@@ -82,9 +82,3 @@ abbrev pub DecisionsAreSeen : Type 0
 DecisionsAreSeen = (act : Acts) (paths : Paths) (x p : ℕ) (c : Coord) (u : Uid) (b : Branch) (d : Doing) (m : Machine) (S : State)
     → IsSteady act paths c → branch_of u c.tree ≡ Some b → is_some b.ended ≡ false → doing_of u c ≡ Some d → d.now ≡ Committing m → b.kind ≢ kind.Serial → b.kind ≢ kind.Nested → IsBacked (act u) S → S.now ≤ p → SeesActions act x c S.action
     → IsEndSeen act x c u ending.Commit S (λ T. (T.now ≡ p + 1) × ((T.action (act u)).stage ≡ 3) × KeepsUnits S T × ChangesOne (act u) (committed_at p (S.action (act u))) S T)
-
--- An open unit whose root has ended alone is over: the unit of a plain top, after its end.
-abbrev pub PlainUnitsEnd : Type 0
-PlainUnitsEnd = (act : Acts) (paths : Paths) (x : ℕ) (c : Coord) (u : Uid) (b : Branch) (unit : ℕ) (S : State)
-    → IsSteady act paths c → branch_of u c.tree ≡ Some b → is_some b.ended ≡ true → root (act u) ≡ unit → ((w : Uid) (e : Branch) → branch_of w c.tree ≡ Some e → root (act w) ≡ unit → is_some e.ended ≡ true) → (S.action (Root unit)).stage ≡ 0 → SeesActions act x c S.action
-    → Goes S (λ T. SeesActions act x c T.action × OnlyActed unit S T × (T.now ≡ S.now) × ((T.action (Root unit)).stage ≡ 3) × KeepsActions S T)

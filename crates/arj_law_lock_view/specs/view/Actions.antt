@@ -9,7 +9,6 @@ use Rattle.arj_protocol.specs.Step.{is_waiting_now}
 use Rattle.arj_protocol.specs.Tree.{Branch, Tree, branch_of, has_end, root_of}
 use Rattle.arj_law_lock.specs.machine.Actions.{Act, Root, is_action, is_top, on, root}
 use Rattle.arj_law_lock.specs.machine.State as machine
-use Rattle.arj_law_lock.specs.machine.State.{State}
 use Rattle.arj_law_parts.specs.parts.Actions.{Action}
 use Rattle.arj_law_parts.specs.parts.Coords.{IsGoodCoord}
 use Rattle.arj_law_parts.specs.parts.Copies.{IsTree, Paths}
@@ -72,10 +71,6 @@ pub record SeesActions (act : Acts) (x : ℕ) (c : Coord) (f : Act → machine.A
   pub others : (u : Uid) (b : Branch) (a : Act) → branch_of u c.tree ≡ Some b → root a ≡ root (act u) → is_action a ≡ true → IsHere act c.tree a ⊎ IsIdle (f a)
 
 -- ---- what is known of a coordinator alone
-
--- Of two actions that wait none stands above the other: a call, and the commit of an action, are refused where that would be.
-abbrev pub AreApart : Paths → Coord → Type 0
-AreApart paths c = (u w : Uid) (d e : Doing) → doing_of u c ≡ Some d → doing_of w c ≡ Some e → is_waiting_now d.now ≡ true → is_waiting_now e.now ≡ true → is_on (paths u) w ≡ true → u ≡ w
 
 -- It is good, for the actions that were begun; each of its actions has its work and its place in the machine.
 pub record IsSteady (act : Acts) (paths : Paths) (c : Coord) : Type 0 where

@@ -1,7 +1,6 @@
 -- An action begins at its coordinator: nothing to the machine, where it has done nothing for the action yet.
 use Rattle.std.specs.Prelude.{◌≡◌, ◌≢◌, ℕ, true, false, Option}
-use Rattle.arj_protocol.specs.Words.{Kind, Label}
-use Rattle.arj_protocol.specs.Asking.{begin_action}
+use Rattle.arj_protocol.specs.Words.{Kind}
 use Rattle.arj_protocol.specs.Coord.{Coord, new_coord, no_root, root_at}
 use Rattle.arj_protocol.specs.Tree.{Branch, next_uid, path_below, root_of}
 use Rattle.arj_law_lock.specs.machine.Actions.{Act, In, Root, is_action, root}
@@ -36,11 +35,6 @@ pub record IsBeginning (act : Acts) (paths : Paths) (k : Kind) (above : Option B
   pub stands : MayStand paths k c.tree (path_below k above (next_uid c.tree))
   pub untouched : IsUntouched (S.action (act (next_uid c.tree)))
   pub unit : root_of (path_below k above (next_uid c.tree)) ≡ next_uid c.tree → IsNewUnit (root (act (next_uid c.tree))) S × (root_at (next_uid c.tree) c ≡ no_root)
-
--- An action begins: the coordinator is seen in the same state.
-abbrev pub ActionsBegin : Type 0
-ActionsBegin = (act : Acts) (code : Codes) (paths : Paths) (x : ℕ) (l : Label) (k : Kind) (parent : Option Label) (above : Option Branch) (c : Coord) (S : State)
-    → IsBeginning act paths k above c S → SeesCoord act code x c S → SeesCoord act code x (let e = begin_action l k parent above c in e.part) S
 
 -- A coordinator that has just started is seen in every state.
 abbrev pub NewCoordsAreSeen : Type 0

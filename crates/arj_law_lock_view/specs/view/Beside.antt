@@ -12,12 +12,7 @@ use Rattle.arj_law_lock_view.specs.view.Copies.{Codes}
 use Rattle.arj_law_lock_view.specs.view.Handling.{OnlyServing}
 use Rattle.arj_law_lock_view.specs.view.Inputs.{SeesWhole}
 use Rattle.arj_law_lock_view.specs.view.Named.{Place, SeesNamed}
-use Rattle.arj_law_lock_view.specs.view.Roots.{SeesCoord}
 use Rattle.arj_law_lock_view.specs.view.Telling.{Sees, View}
-
--- A message that a node's server takes leaves each coordinator seen,
-abbrev pub CoordsStaySeen : Type 0
-CoordsStaySeen = (v : View) (m : Message) (act : Acts) (code : Codes) (x : ℕ) (c : Coord) (S T : State) → OnlyServing v m S T → SeesCoord act code x c S → SeesCoord act code x c T
 
 -- also with its includes, its commits under way and the units that are over,
 abbrev pub WholesStaySeen : Type 0

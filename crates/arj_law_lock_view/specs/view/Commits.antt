@@ -8,7 +8,7 @@ use Rattle.arj_law_lock.specs.machine.Actions.{Act, In, Root, Sub, at_act, is_ac
 use Rattle.arj_law_lock.specs.machine.Machine.{Guard, Run, next}
 use Rattle.arj_law_lock.specs.machine.State as machine
 use Rattle.arj_law_lock.specs.machine.State.{Ballot, State}
-use Rattle.arj_law_lock.specs.machine.Steps.{DropRows, VoteTop}
+use Rattle.arj_law_lock.specs.machine.Steps.{VoteTop}
 use Rattle.arj_law_parts.specs.parts.Copies.{IsGoodCopy, IsLowest, IsTree, Paths}
 use Rattle.arj_law_lock_view.specs.view.Acts.{Acts, AreOne}
 use Rattle.arj_law_lock_view.specs.view.Copies.{Codes, IsTold, OnlyEnds, SeesCopy, base_code, writer_of}
@@ -57,11 +57,6 @@ pub record IsAlone (act : Acts) (u : Uid) (S : State) : Type 0 where
 abbrev pub SettlingsAreSeen : Type 0
 SettlingsAreSeen = (act : Acts) (code : Codes) (paths : Paths) (n x : ℕ) (u : Uid) (c : Copy) (S : State)
     → IsCommitting act paths x u c → IsAlone act u S → SeesCopy act code x c (S.server n) → IsCommitSeen act code n x u c S
-
--- A commit of an action that wrote nothing here, where the machine may drop rows. The protocol may keep more.
-abbrev pub ReadingsAreSeen : Type 0
-ReadingsAreSeen = (act : Acts) (code : Codes) (paths : Paths) (n x : ℕ) (u : Uid) (c : Copy) (S : State)
-    → IsCommitting act paths x u c → over_of u c.stack ≡ None → Guard (DropRows n (act u)) S → SeesCopy act code x c (S.server n) → IsCommitSeen act code n x u c S
 
 -- ---- votes
 

@@ -5,7 +5,7 @@ use Rattle.arj_protocol.specs.Words.kind
 use Rattle.arj_protocol.specs.Commit.{Plan, Used}
 use Rattle.arj_protocol.specs.Coord.{Coord, Doing}
 use Rattle.arj_protocol.specs.Tree.{Branch, has_open_child}
-use Rattle.arj_law_lock.specs.machine.Actions.{Act, In, top}
+use Rattle.arj_law_lock.specs.machine.Actions.{Act, In}
 use Rattle.arj_law_lock.specs.machine.State.{Alive, Call, Include, State}
 use Rattle.arj_law_parts.specs.parts.Actions.{AreBegun}
 use Rattle.arj_law_parts.specs.parts.Copies.{Paths}
@@ -21,15 +21,6 @@ HasCalled x p = (q : Used) × Contains p.used q × (q.x ≡ x) × (q.called ≡ 
 -- the plan has the object
 abbrev pub HasUsed : ℕ → Plan → Type 0
 HasUsed x p = (q : Used) × Contains p.used q × (q.x ≡ x)
-
--- The plan has the object as called where an action of this top called it, and has it where one included it, unless that was undone.
-abbrev pub HasOwn : ℕ → Act → Plan → State → Type 0
-HasOwn x m p S = ((k : Call) → In k S.calls → Alive S k.act → top k.act ≡ m → HasCalled x p) × ((k : Include) → In k S.includes → Alive S k.act → top k.act ≡ m → HasUsed x p)
-
--- The commit of a top is called in which nothing is open: its plan has what its own actions called and included.
-abbrev pub PlansHaveOwn : Type 0
-PlansHaveOwn = (act : Acts) (code : Codes) (paths : Paths) (x : ℕ) (c : Coord) (u : Uid) (b : Branch) (d : Doing) (S : State)
-    → IsFreeToEnd act paths c u b d → b.kind ≢ kind.Serial → has_open_child u c.tree ≡ false → SeesWhole act code x c S → HasOwn x (act u) (plan_now b c) S
 
 -- The plan has what was called and included in the top's whole unit, as far as it wasn't undone: by the top, or by committed tops.
 abbrev pub HasOfUnit : ℕ → Act → Plan → State → Type 0

@@ -5,7 +5,6 @@ use Rattle.arj_protocol.specs.Words.kind
 use Rattle.arj_protocol.specs.Order.{uid_number}
 use Rattle.arj_law_lock.specs.machine.Actions.{Act, Root, Sub}
 use Rattle.arj_law_parts.specs.parts.Actions.{Action, AreBegun, act_of, paths_of}
-use Rattle.arj_law_parts.specs.parts.Copies.{Paths}
 use Rattle.arj_law_lock_view.specs.view.Acts.{Acts}
 use Rattle.arj_law_lock_view.specs.view.Telling.{AreOneTree}
 
@@ -25,7 +24,3 @@ acts_of (a ∷ acts) u = if uid_eq (act_of a) u then place_of (acts_of acts) a a
 -- Actions that were begun are one tree with these places.
 abbrev pub FamiliesAreTrees : Type 0
 FamiliesAreTrees = (acts : List Action) → AreBegun acts → AreOneTree (record { begun = acts; paths = paths_of acts; act = acts_of acts })
-
--- With the places of later ones the earlier ones are one too.
-abbrev pub OlderAreTrees : Type 0
-OlderAreTrees = (a : Action) (acts : List Action) (paths : Paths) (act : Acts) → AreOneTree (record { begun = a ∷ acts; paths = paths; act = act }) → AreOneTree (record { begun = acts; paths = paths; act = act })

@@ -1,6 +1,6 @@
 -- What others do keeps a coordinator seen whole, in the machine of one object.
 use Rattle.std.specs.Prelude.{◌≡◌, ◌≢◌, ◌⊎◌, ℕ, Some}
-use Rattle.arj_protocol.specs.Words.{Message, Uid}
+use Rattle.arj_protocol.specs.Words.{Uid}
 use Rattle.arj_protocol.specs.Coord.{Coord}
 use Rattle.arj_protocol.specs.Tree.{Branch, Tree, branch_of}
 use Rattle.arj_law_lock.specs.machine.Actions.{In, root}
@@ -10,11 +10,9 @@ use Rattle.arj_law_lock_view.specs.view.Acts.{Acts}
 use Rattle.arj_law_lock_view.specs.view.Calling.{IsReached, OnlyCalled}
 use Rattle.arj_law_lock_view.specs.view.Copies.{Codes}
 use Rattle.arj_law_lock_view.specs.view.Going.{OnlyNaming}
-use Rattle.arj_law_lock_view.specs.view.Handling.{OnlyServing}
 use Rattle.arj_law_lock_view.specs.view.Including.{OnlyIncluded}
 use Rattle.arj_law_lock_view.specs.view.Inputs.{OnlyEnded, SeesWhole}
 use Rattle.arj_law_lock_view.specs.view.Stops.{IsUnitOf, OnlyStopped}
-use Rattle.arj_law_lock_view.specs.view.Telling.{View}
 
 -- none of the coordinator's actions is of the unit
 abbrev pub IsAway : Acts → ℕ → Coord → Type 0
@@ -36,10 +34,6 @@ IncludesElsewhere = (act : Acts) (code : Codes) (x unit : ℕ) (c : Coord) (S T 
 -- naming takes a Bind, a Record, an end, or starts again,
 abbrev pub NamingElsewhere : Type 0
 NamingElsewhere = (act : Acts) (code : Codes) (x : ℕ) (c : Coord) (S T : State) → IsReached S → Run S T → OnlyNaming S T → SeesWhole act code x c S → SeesWhole act code x c T
-
--- and a node's server takes a message.
-abbrev pub ServersElsewhere : Type 0
-ServersElsewhere = (v : View) (m : Message) (act : Acts) (code : Codes) (x : ℕ) (c : Coord) (S T : State) → IsReached S → Run S T → OnlyServing v m S T → SeesWhole act code x c S → SeesWhole act code x c T
 
 -- And so it is where another coordinator stops, of which it has no unit.
 abbrev pub StopsElsewhere : Type 0

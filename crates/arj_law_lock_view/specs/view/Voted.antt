@@ -4,14 +4,11 @@ use Rattle.arj_protocol.specs.Words.{Head, ObjectState, Uid, VotedReply, object}
 use Rattle.arj_protocol.specs.Words.voted
 use Rattle.arj_protocol.specs.Ask.{Reply, actor}
 use Rattle.arj_protocol.specs.Commit.{Aborts, Asks, CommitStep, Confirming, Decides, Machine, Plan, Preparing, Stays, Used, Voting, answered, begin_vote, given_up, left_of, plan_of, servers_of, vote_ask}
-use Rattle.arj_protocol.specs.Copy.{Copy, changed_state}
-use Rattle.arj_protocol.specs.Order.{binding_number, has}
-use Rattle.arj_law_lock.specs.machine.Actions.{In, root, top}
+use Rattle.arj_protocol.specs.Order.{has}
+use Rattle.arj_law_lock.specs.machine.Actions.{top}
 use Rattle.arj_law_lock.specs.machine.Machine.{Run}
-use Rattle.arj_law_lock.specs.machine.State.{Alive, Call, State}
+use Rattle.arj_law_lock.specs.machine.State.{State}
 use Rattle.arj_law_lock_view.specs.view.Acts.{Acts}
-use Rattle.arj_law_lock_view.specs.view.Calling.{IsReached}
-use Rattle.arj_law_lock_view.specs.view.Commits.{ballot_for}
 use Rattle.arj_law_lock_view.specs.view.Copies.{Codes}
 use Rattle.arj_law_lock_view.specs.view.Handling.{ShowsReply}
 use Rattle.arj_law_lock_view.specs.view.Serving.{HaveOne, IsVotedSo, state_in}
@@ -101,24 +98,3 @@ abbrev pub VotesAreShown : Type 0
 VotesAreShown = (v : View) (p : Plan) (left : List ℕ) (h : Head) (from : ℕ) (r : VotedReply) (T : State)
     → ((states : List ObjectState) (s : ObjectState) → r ≡ voted.Yes states → Contains states s → s.uid ≡ object v.x → (q : Used) × IsCalledIn (side_of v (actor h.path)) p q × (q.server ≡ from))
     → ShowsReply v h (vote_ask p from) T (Reply.Voted r) → ShowsVotes (side_of v (actor h.path)) (Voting p left) from (Reply.Voted r) T
-
--- ---- what a decision has
-
--- The changed state of the object, which is none where the top left nothing in a copy, is what the machine's vote gives.
-pub record IsGiven (w : Side) (p : Plan) (S : State) : Type 0 where
-  pub copy : Copy
-  pub vote : S.vote (w.act w.top) ≡ ballot_for w.act w.code w.top copy
-  pub state : state_in w.x p.changed ≡ changed_state w.top w.x copy
-
--- As all have voted, and before it is decided: where naming is of the incarnation of the binding that the unit keeps, under which the server
--- voted last, and a write of the top wasn't undone, the plan has what the machine's vote gives.
-abbrev pub PlansAreGiven : Type 0
-PlansAreGiven = (w : Side) (p : Plan) (q : Used) (c : Call) (S : State) → IsReached S → HasVotes w p [] S → IsCalledIn w p q → (let a = S.action (w.act w.top) in a.stage) ≡ 1
-    → S.yes (w.act w.top) ≡ binding_number q.binding → S.kept (root (w.act w.top)) ≡ binding_number q.binding → S.naming.first ≤ binding_number q.binding
-    → In c S.calls → c.write ≡ true → top c.act ≡ w.act w.top → Alive S c.act → IsGiven w p S
-
--- And where it is confirmed, which it wasn't as all had voted: whatever naming has forgotten since.
-abbrev pub PlansAreConfirmed : Type 0
-PlansAreConfirmed = (w : Side) (p : Plan) (q : Used) (c : Call) (S T : State) → IsReached S → HasVotes w p [] S → S.confirmed (w.act w.top) ≡ false → Run S T → IsCalledIn w p q → (let a = T.action (w.act w.top) in a.stage) ≡ 1
-    → T.yes (w.act w.top) ≡ binding_number q.binding → T.kept (root (w.act w.top)) ≡ binding_number q.binding → T.confirmed (w.act w.top) ≡ true
-    → In c T.calls → c.write ≡ true → top c.act ≡ w.act w.top → Alive T c.act → IsGiven w p T

@@ -25,7 +25,7 @@ use Rattle.arj_protocol.specs.World.{World, Frame, Arm, Giving, Labelled, Asked,
 use Rattle.arj_protocol.proofs.Maps.{place_other}
 use Rattle.arj_law_parts.specs.moves.Seen.{Post, Seen, In, Within, AreQuiet, see, at, with_node, with_sent}
 use Rattle.arj_law_parts.specs.moves.Walks.{halted}
-use Rattle.arj_law_parts.specs.moves.Keeps.{Keeps, KeepsAsked, KeepsFrom, KeepsOn, HasPlace, Holds, Stands, IsSent, MayGive, label_at}
+use Rattle.arj_law_parts.specs.moves.Keeps.{Keeps, KeepsAsked, KeepsFrom, HasPlace, Holds, Stands, IsSent, MayGive, label_at}
 use Rattle.arj_law_parts.proofs.moves.Cuts.{Besides, with_lines, flat_done, flat_cut}
 use Rattle.arj_law_parts.proofs.moves.Inputs.{Goes, IsSentTo, step_goes, begin_goes, unless_refused}
 
@@ -330,9 +330,6 @@ module _ (hd : Header) (P : Seen → Type 0) {F : Type 0} (keeps : KeepsFrom hd 
   mark : Giving → Labelled
   mark g = record { node = g.node; serial = is_serial_kind g.kind }
 
-  starts : Giving → Input
-  starts g = input.Begin g.label g.kind g.parent
-
   labels_stand : (g : Giving) (sent : List Post) (w : World) (r : Option ℕ) → is_some (at_place g.node w.nodes) ≡ true → Stands hd sent w → Stands hd sent (labels_unless g w r)
   labels_stand g sent w (Some c) there s = s
   labels_stand g sent w None there s = record {
@@ -580,10 +577,6 @@ module _ (hd : Header) where
 
   pub runs_asked : (P : Seen → Type 0) → KeepsAsked hd P → (es : List Asked) → Holds hd P (run_all es (format hd))
   runs_asked P keeps es = all_asked hd P keeps es (format hd) (first_asked P keeps)
-
--- from any world on in which it holds
-pub runs_go_on : (hd : Header) (P : Seen → Type 0) → KeepsOn hd P → (es : List Asked) (w : World) → Holds hd P w → Holds hd P (run_all es w)
-runs_go_on hd P keeps es w h = all_asked hd P keeps es w h
 
 -- ---- what is kept whatever an include asks for
 

@@ -10,7 +10,7 @@ use Rattle.arj_protocol.specs.Asking.{again_all, begin_action}
 use Rattle.arj_protocol.specs.Follow.{tick_outs}
 use Rattle.arj_protocol.specs.Node.{Parts, Handled, Void, Took, taken, whole, with_coord}
 use Rattle.arj_protocol.specs.Says.{AreAll}
-use Rattle.arj_protocol.specs.Step.{Node, Input, Step, step, step_up, step_down, step_of, step_unless, refusal, refusal_at, frame_step, handled_step, void_step, node_did, coord_did, tick_step, restart_step, restart_outs, parts_in, show_step, show_outs, show_entry, shown, entry_line, copy_line, only_says, does_nothing, crash_step, acts, parent_of}
+use Rattle.arj_protocol.specs.Step.{Node, Input, Step, step, step_up, step_down, step_unless, refusal_at, frame_step, handled_step, void_step, node_did, coord_did, restart_outs, parts_in, show_step, show_outs, show_entry, shown, entry_line, copy_line, only_says, does_nothing, crash_step, acts, parent_of}
 use Rattle.arj_protocol.specs.Step as input
 use Rattle.arj_protocol.specs.World.{Labelled, is_serial_kind}
 use Rattle.arj_protocol.proofs.PartSays.{all_both}

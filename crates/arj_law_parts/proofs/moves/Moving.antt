@@ -4,7 +4,7 @@ use Rattle.arj_protocol.specs.Words.{Header}
 use Rattle.arj_protocol.specs.World.{Asked, World, format, run_all, run_event}
 use Rattle.arj_law_parts.specs.moves.Keeps.{Holds, KeepsAsked}
 use Rattle.arj_law_parts.specs.moves.Seen.{Seen}
-use Rattle.arj_law_parts.specs.moves.Moves.{Move, AfterMoves, all_moved, as_moves, moved, moves_of, world_by}
+use Rattle.arj_law_parts.specs.moves.Moves.{Move, all_moved, as_moves, moved, moves_of, world_by}
 use Rattle.arj_law_parts.proofs.moves.Happens.{arms_hold, event_asked, first_asked}
 
 -- ---- what is kept
@@ -26,11 +26,6 @@ moves_asked hd P keeps ms = moves_go_on hd P keeps ms (format hd) (first_asked h
 pub more_moves : (ms ns : List Move) (w : World) → all_moved (ms ++ ns) w ≡ all_moved ns (all_moved ms w)
 more_moves [] ns w = refl
 more_moves (m ∷ ms) ns w = more_moves ms ns (moved m w)
-
--- what holds after each move holds after the last
-pub after_last : (P : World → Type 0) (ms : List Move) (w : World) → AfterMoves P w ms → P (all_moved ms w)
-after_last P [] w all = all
-after_last P (m ∷ ms) w all = after_last P ms (moved m w) all.1
 
 -- ---- scripts
 

@@ -78,9 +78,6 @@ module _ (actions : List Action) (paths : Paths) (tree : IsTree paths) (intents 
   pub asks_by : (b : Branch) → branch_of (actor b.path) c.tree ≡ Some b → is_some b.ended ≡ false → is_serial b.kind ≡ false → IsAsking c.tree (actor b.path) b.path
   asks_by b found opened other = record { branch = b; found = found; path = refl; unserial = unserial b.kind other; opened = opened }
 
-  refused : {P : Type 0} (reasons : Branch → Coord → List (ℕ × Bool)) → refused_by reasons c None ≡ None → P
-  refused reasons is = let no_way : ◌≡◌ {A = Option ℕ} (Some 6) None = is in cc
-
   pub good_acts : (hd : Header) (i : Input) → refusal_up hd i c ≡ None → ((l : Label) (k : Kind) (parent : Option Label) → i ≢ input.Begin l k parent) → IsGoodCoord actions paths (acts i intents c).part
   good_acts hd (input.Begin l k parent) none other = absurd (other l k parent refl)
   good_acts hd (input.Call l x o) none other = by (branch_named l c) refl none

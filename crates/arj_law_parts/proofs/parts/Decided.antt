@@ -16,7 +16,7 @@ use Rattle.arj_protocol.specs.Ask.{Reply, actor}
 use Rattle.arj_protocol.specs.Asking.{goes_on, call, call_steps, renewed, next_req, include, doomed_by, root_heard, step_call, root_moved, kept_at, heard_call, commits_in, step_commit, moved_commit, commit_top, commit_open, commit_action, last_req, heard_now, heard_doing, heard, heard_by, heard_none, waits_for_call, waits_for_commit, root_lost, gives_up, give_up_doing, give_up, again_now, again_all}
 use Rattle.arj_protocol.specs.Call.{Steps, CallStep, On, Ended, CallEnd, Answered, Included, Conflict, Changed, Lost, Moved, answered, given_up, start}
 use Rattle.arj_protocol.specs.Call as calls
-use Rattle.arj_protocol.specs.Commit.{Plan, Machine, CommitStep, Stays, Asks, Decides, Aborts, plan_of, servers_of, participants, has_record}
+use Rattle.arj_protocol.specs.Commit.{Plan, CommitStep, Stays, Asks, Decides, Aborts, plan_of, servers_of, participants, has_record}
 use Rattle.arj_protocol.specs.Commit as commit
 use Rattle.arj_protocol.specs.Coord.{Coord, Doing, Now, Idle, Calling, Committing, doing_of, on_doing, on_root, root_at, plan_for, keeping_of, with_keeping, is_free}
 use Rattle.arj_protocol.specs.Effect.{Did, Served, Intent}

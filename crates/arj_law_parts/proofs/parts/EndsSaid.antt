@@ -13,7 +13,7 @@ use Rattle.arj_protocol.specs.Words.body
 use Rattle.arj_protocol.specs.Words.cause
 use Rattle.arj_protocol.specs.Ask.{Reply, actor}
 use Rattle.arj_protocol.specs.Asking.{begin_action, asks_node, asks_all, asks_step, goes_on, call, call_steps, renewed, include, next_req, doomed_by, root_heard, root_moved, kept_at, step_call, heard_call, mark_lines, commits_in, asks_machine, step_commit, moved_commit, commit_top, commit_open, commit_action, last_req, heard_now, heard_doing, heard, heard_by, heard_none, waits_for_call, waits_for_commit, gaveup_lines, root_lost, gives_up, give_up_doing, give_up, again_now, again_all}
-use Rattle.arj_protocol.specs.Call.{Steps, At, AtBind, AtLoad, AtActivate, AtNote, AtInvoke, CallStep, On, Ended, CallEnd, Answered, Included, Conflict, Changed, Lost, Moved, Goal, answered, given_up, next_node, ask_at, start}
+use Rattle.arj_protocol.specs.Call.{Steps, At, AtBind, AtLoad, AtActivate, AtNote, AtInvoke, CallStep, On, Ended, CallEnd, Answered, Included, Conflict, Changed, Lost, Moved, answered, given_up, next_node, ask_at, start}
 use Rattle.arj_protocol.specs.Call as calls
 use Rattle.arj_protocol.specs.Commit.{Plan, Machine, Voting, Preparing, Confirming, CommitStep, Stays, Asks, Decides, Aborts, plan_of, participants, has_record, ask_of, servers_of, nodes_given_up}
 use Rattle.arj_protocol.specs.Commit as commit
@@ -80,13 +80,6 @@ sure_do u f c so sure = by (doing_of u c) refl
         its d m same is = so old m found (ap (λ (x : Doing). x.now) (some_is (f old) d same) ∙ is)
 
 -- ---- effects
-
-over_on : (t v : Tree) → Stand t v → (u : Uid) → IsOver u t → IsOver u v
-over_on t v s u o = by (let b = o.0 in b.ended) refl o.2
-  where
-    by : (x : Option End) → (let b = o.0 in b.ended) ≡ x → is_some x ≡ true → IsOver u v
-    by None is some = let no_way : false ≡ true = some in cc
-    by (Some e) is some = let d = s.ends u e (o.0, o.1, is) in (d.0, d.1, ap is_some d.2)
 
 decided_so : (u : Uid) (e : End) (t : Tree) → IsDecided u e t → IsToldSo u e t
 decided_so u ending.Commit t d = λ own. d

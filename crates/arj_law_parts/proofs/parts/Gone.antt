@@ -1,5 +1,5 @@
 -- Whose end was told has no lock and no overlay on a copy, then and later.
-use Rattle.std.proofs.Common.{◌≡◌, inl, inr, ℕ, List, [], ◌∷◌, Bool, true, false, cond, not, ◌&&◌, ◌||◌, Option, Some, None, refl, sym, ◌∙◌, ap, Contains}
+use Rattle.std.proofs.Common.{◌≡◌, inl, inr, ℕ, List, [], ◌∷◌, Bool, true, false, cond, not, ◌&&◌, ◌||◌, Option, Some, None, refl, sym, ◌∙◌, ap}
 use Rattle.std.specs.List.{list_any}
 use Rattle.std.proofs.lemmas.Bool.{or_parts, false_from_ne_true}
 use Rattle.arj_base.specs.Path.{before_last}
@@ -8,12 +8,11 @@ use Rattle.arj_base.specs.Uid.{uid_eq, object}
 use Rattle.arj_base.proofs.Uids.{uid_is, uid_same}
 use Rattle.arj_lock.specs.Passing.{CameBy, stayed, passed_on}
 use Rattle.arj_lock.proofs.Leaves.{grant_any, kept_any, gone_any}
-use Rattle.arj_lock.proofs.Members.{In, in_from}
-use Rattle.arj_lock.proofs.OneEach.{none_in}
+use Rattle.arj_lock.proofs.Members.{In}
 use Rattle.arj_lock.proofs.PassLeaves.{came_by, pass_fewer}
 use Rattle.arj_protocol.specs.Words.{Uid, Path, Op, End, uids_of, tops_of, op_mode}
 use Rattle.arj_protocol.specs.Words.ending
-use Rattle.arj_protocol.specs.Copy.{Copy, Over, end_copy, run_copy, row_for, is_granted}
+use Rattle.arj_protocol.specs.Copy.{Copy, end_copy, run_copy, row_for, is_granted}
 use Rattle.arj_law_parts.specs.parts.Copies.{Paths, IsTree, IsGoodCopy, IsLowest}
 
 never : {P : Type 0} (b : Bool) → b ≡ true → b ≡ false → P
@@ -62,8 +61,3 @@ gone_request u c n p x o off none = by (is_granted (object x) (last_uid (uids_of
 pub gone_later : (u w : Uid) (e : End) (c : Copy) → has_any u c.rows ≡ false → has_any u (end_copy w e c).rows ≡ false
 gone_later u w ending.Abort c none = kept_any (λ r. is_on r.holder u) (λ r. not (is_on r.holder w)) c.rows ∙ any_less (λ r. is_on r.holder u) (λ r. not (is_on r.holder w)) c.rows none
 gone_later u w ending.Commit c none = false_from_ne_true (has_any u (pass_rows w c.rows)) (λ some. never (has_any u c.rows) (pass_fewer w c.rows u some) none)
-
-pub gone_overs : (paths : Paths) (x : ℕ) (c : Copy) → IsGoodCopy paths x c → (u : Uid) → has_any u c.rows ≡ false → (e : Over) → Contains c.stack e → is_on e.holder u ≡ false
-gone_overs paths x c good u none e k =
-    let h = good.guard e k in
-    ap (λ us. is_on us u) (good.overs e k ∙ ap paths (sym h.2) ∙ sym (good.holders h.0 h.1)) ∙ none_in (λ r. is_on r.holder u) h.0 c.rows none (in_from h.0 c.rows h.1)

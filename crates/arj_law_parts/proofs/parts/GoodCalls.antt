@@ -150,9 +150,6 @@ module _ (x : ℕ) (p : Path) (d : Pair) where
 abbrev pub IsGoodServed : {R : Type 0} → Owners → Past → Pair → Served Naming R → Type 0
 IsGoodServed owner past d r = IsGoodNaming owner past r.part (names_after r.outs d)
 
-abbrev pub KeepsLocks : {R : Type 0} → Naming → Served Naming R → Type 0
-KeepsLocks n r = (u : Uid) (y : ℕ) → HasLockOn u 0 y n → HasLockOn u 0 y r.part
-
 pub bind_good : (owner : Owners) (past : Past) (p : Path) (x : ℕ) (include : Bool) (avoid : Binding) (n : Naming) (d : Pair) → Fits owner p → IsGoodNaming owner past n d → IsGoodServed owner past d (bind p x include avoid d n)
 bind_good owner past p x include avoid n d fits good = by (is_over p n) refl
   where
@@ -170,24 +167,6 @@ bind_good owner past p x include avoid n d fits good = by (is_over p n) refl
     by : (b : Bool) → is_over p n ≡ b → IsGoodServed owner past d (cond {A = Served Naming BoundReply} b (void n) (on_counted x call n (at_number x n.objects)))
     by true is = good
     by false is = there (untold_path p n is) (at_number x n.objects) refl
-
-pub bind_locks : (p : Path) (x : ℕ) (include : Bool) (avoid : Binding) (n : Naming) (d : Pair) → KeepsLocks n (bind p x include avoid d n)
-bind_locks p x include avoid n d u y h = by (is_over p n)
-  where
-    call : Counted → Served Counted BoundReply
-    call = bind_named n.inc x p include avoid (listed_entry x d)
-
-    there : (o : Option Named) → at_number x n.objects ≡ o → HasLockOn u 0 y (on_counted x call n o).part
-    there None found = h
-    there (Some o) found =
-        let c : Counted = record { named = o; count = n.count } in
-        let g = grown_bind x p d n.inc include avoid (listed_entry x d) c in
-        let r = call c in
-        lock_put x o r.part.named r.part.count n found u 0 0 y (λ same k. g.locks u 0 k) (omega arith) h
-
-    by : (b : Bool) → HasLockOn u 0 y (cond {A = Served Naming BoundReply} b (void n) (on_counted x call n (at_number x n.objects))).part
-    by true = h
-    by false = there (at_number x n.objects) refl
 
 -- ---- record
 
@@ -259,21 +238,6 @@ note_good owner past p x b i g n d fits noted good = by (is_over p n) (is_some (
     by false false ours is = good
     by false true true is = there (untold_path p n is) (at_number x n.objects) refl
     by false true false is = good
-
-pub note_locks : (p : Path) (x : ℕ) (b : Binding) (i g : ℕ) (n : Naming) (d : Pair) → KeepsLocks n (note p x b i g n)
-note_locks p x b i g n d u y h = by (is_over p n || not (is_some (at_number x n.objects))) (g == n.inc)
-  where
-    there : (o : Option Named) → at_number x n.objects ≡ o → HasLockOn u 0 y (on_named x (note_named x (top_of p) b i) n o).part
-    there None found = h
-    there (Some o) found =
-        let r = note_named x (top_of p) b i o in
-        let rows = (noted_named x (top_of p) d b i o).0 in
-        lock_put x o r.part n.count n found u 0 0 y (λ same k. rows.any u k) (omega arith) h
-
-    by : (void_now ours : Bool) → HasLockOn u 0 y (cond {A = Served Naming RecordedReply} void_now (void n) (cond ours (on_named x (note_named x (top_of p) b i) n (at_number x n.objects)) (reply n (recorded.Changed (what.Inc g n.inc))))).part
-    by true ours = h
-    by false true = there (at_number x n.objects) refl
-    by false false = h
 
 -- ---- hello
 

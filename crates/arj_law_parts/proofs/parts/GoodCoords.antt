@@ -16,9 +16,9 @@ use Rattle.arj_protocol.specs.Words.confirmed
 use Rattle.arj_protocol.specs.Words.cause
 use Rattle.arj_protocol.specs.Ask.{Reply, actor}
 use Rattle.arj_protocol.specs.Asking.{asks_node, asks_all, goes_on, call, call_steps, renewed, include, next_req, ends_call, doomed_by, root_heard, step_call, root_moved, kept_at, heard_call, commits_in, step_commit, moved_commit, commit_top, commit_open, commit_action, last_req, heard_now, heard_doing, heard, heard_by, heard_none, waits_for_call, waits_for_commit, root_lost, gives_up, give_up_doing, give_up, again_now, again_all}
-use Rattle.arj_protocol.specs.Call.{Steps, CallStep, On, Ended, CallEnd, Answered, Included, Conflict, Changed, Lost, Moved, answered, given_up, start}
+use Rattle.arj_protocol.specs.Call.{Steps, CallStep, On, Ended, CallEnd, Answered, Included, Conflict, Changed, Lost, answered, given_up, start}
 use Rattle.arj_protocol.specs.Call as calls
-use Rattle.arj_protocol.specs.Commit.{Plan, Machine, Voting, Preparing, Confirming, CommitStep, Stays, Asks, Decides, Aborts, Marked, plan_of, left_of, further, begin_vote, begin_prepare, begin_confirm, servers_of, targets_of, votes_left, voted_by, stores_left, prepared_by, confirmed_by, marks_store, marks_stores, with_states, participants, has_record, Used}
+use Rattle.arj_protocol.specs.Commit.{Plan, Machine, Voting, Preparing, Confirming, CommitStep, Stays, Asks, Decides, Aborts, plan_of, begin_vote, begin_prepare, begin_confirm, servers_of, targets_of, votes_left, stores_left, marks_store, marks_stores, with_states, participants, has_record, Used}
 use Rattle.arj_protocol.specs.Commit as commit
 use Rattle.arj_protocol.specs.Coord.{Coord, new_coord, Doing, Now, Idle, Calling, Committing, doing_of, set_doing, change_doing, on_doing, on_root, root_at, plan_for, keeping_of, is_free, with_keeping}
 use Rattle.arj_protocol.specs.Effect.{Did, Served, Intent}
@@ -33,9 +33,6 @@ use Rattle.arj_law_parts.specs.parts.Servers.{has_end_of}
 use Rattle.arj_law_parts.specs.parts.Trees.{HasAllIn, AreWhole, HasLists, IsClosed, IsGoodTree, AreAtHome}
 use Rattle.arj_law_parts.proofs.parts.GoodTrees.{good_new, place_in, place_same, in_set, found_by, own_is, whole_in, ends_there, ends_elsewhere, ends_by_number, same_or_not, good_ended, good_aborted, aborted_tree, all_over, all_listed, ended_b, after_cases, was_there, still_there, at_others}
 use Rattle.arj_law_parts.proofs.parts.ToldInOrder.{home_ended, home_new}
-
-never : {P : Type 0} (b : Bool) → b ≡ true → b ≡ false → P
-never b holds fails = let no_way : true ≡ false = sym holds ∙ fails in cc
 
 -- ---- trees that differ in nothing that matters
 

@@ -2,15 +2,14 @@
 use Rattle.std.proofs.Common.{arith, ◌==◌, ◌≡◌, ◌≢◌, ◌⊎◌, ℕ, List, [], ◌∷◌, ◌++◌, Bool, true, false, cond, not, ◌&&◌, Option, Some, None, refl, sym, ◌∙◌, ap, subst, inl, inr, ⊎_elim, map, filter}
 use Rattle.std.specs.Prelude.{is_some, unwrap_or}
 use Rattle.std.specs.List.{list_any}
-use Rattle.std.proofs.lemmas.Bool.{eqb-true, or_left, or_right, or_cases, false_from_ne_true}
+use Rattle.std.proofs.lemmas.Bool.{false_from_ne_true}
 use Rattle.arj_base.proofs.Uids.{uid_same, uid_other}
 use Rattle.arj_lock.proofs.Members.{In, in_from, in_to}
 use Rattle.arj_lock.proofs.OneEach.{none_in}
 use Rattle.arj_lock.proofs.Leaves.{kept_from}
-use Rattle.arj_protocol.specs.Words.{is_listed, Uid, ObjectState, End, entry, is_on, is_held_by, uid_eq, drop_rows, mode_code}
+use Rattle.arj_protocol.specs.Words.{Uid, ObjectState, End, entry, is_on, is_held_by, uid_eq, drop_rows, mode_code}
 use Rattle.arj_protocol.specs.Words.ending
-use Rattle.arj_protocol.specs.Words.mode
-use Rattle.arj_protocol.specs.Confirm.{adds_store, mode_back}
+use Rattle.arj_protocol.specs.Confirm.{mode_back}
 use Rattle.arj_protocol.specs.Effect.{Effect, Pair, Did, did_nothing, is_prepared, moved, new_states, pair_committed, pair_aborted}
 use Rattle.arj_protocol.specs.Named.{Named, end_named}
 use Rattle.arj_protocol.specs.Naming.{Naming, told, told_new, taken_end, end_locks, end_entries, own_entries, orphans, end_lines, loses, loses_row, has_locks, entry_of, listed_entry}
@@ -19,21 +18,17 @@ use Rattle.arj_protocol.specs.Values.{state_entry}
 use Rattle.arj_law_parts.specs.parts.Rows.{HasLock}
 use Rattle.arj_law_parts.specs.parts.Tops.{Owners, IsTop}
 use Rattle.arj_law_parts.specs.parts.Objects.{AreSorted, IsGoodObject, IsToldOf}
-use Rattle.arj_law_parts.specs.parts.Entries.{IsKeptGrant, names_after, HasPrepared, IsOwnState, IsGoodPair, HasLockOn, Past, IsGoodNaming, guard_of}
+use Rattle.arj_law_parts.specs.parts.Entries.{names_after, HasPrepared, IsOwnState, IsGoodPair, HasLockOn, Past, IsGoodNaming, guard_of}
 use Rattle.arj_law_parts.proofs.parts.GoodObjects.{good_ended}
 use Rattle.arj_law_parts.proofs.parts.Keys.{on_with, with_on, on_drop, drop_on, at_in, without_cases, sorted_without}
 use Rattle.arj_law_parts.proofs.parts.Pairs.{names_both, names_line, aborts, aborts_held, aborts_sorted, aborts_left, moved_cases, moved_other, committed_good, fewer_good, at_each, each_at, number_in}
-use Rattle.arj_law_parts.proofs.parts.Stands.{stands_drop, one_top, stands_pass}
+use Rattle.arj_law_parts.proofs.parts.Stands.{stands_pass}
 
 never : {P : Type 0} (b : Bool) → b ≡ true → b ≡ false → P
 never b holds fails = let no_way : true ≡ false = sym holds ∙ fails in cc
 
 told_of : (u : Uid) (n : Naming) → IsToldOf (is_on n.told) (is_on (with_uid u n.told)) u
 told_of u n = record { itself = with_on u u n.told (inl refl); before = λ w t. with_on w u n.told (inr t); only = λ w e. ⊎_elim (λ same. inr same) (λ old. inl old) (on_with w u n.told e) }
-
--- who isn't told later wasn't told, and is another one
-pub not_later : (u w : Uid) (n : Naming) → is_on (with_uid u n.told) w ≡ false → (is_on n.told w ≡ false) × (w ≢ u)
-not_later u w n e = (false_from_ne_true (is_on n.told w) (λ t. never (is_on (with_uid u n.told) w) (with_on w u n.told (inr t)) e), λ same. never (is_on (with_uid u n.told) w) (with_on w u n.told (inl same)) e)
 
 -- what an end leaves of the pair
 record IsLeft (u : Uid) (n : Naming) (d e : Pair) (end : End) : Type 0 where
@@ -246,55 +241,3 @@ module _ (owner : Owners) (past : Past) (u : Uid) (n : Naming) (d : Pair) (good 
       by : (b : Bool) → is_on n.told u ≡ b → IsGoodNaming owner past (cond {A = Did Naming} b (did_nothing n) (told_new u (taken_end u e n) d n)).part (names_after (own_entries u e d ++ (cond {A = Did Naming} b (did_nothing n) (told_new u (taken_end u e n) d n)).outs) d)
       by true is = subst (λ b. IsGoodNaming owner past n (names_after (cond b (end_entries u e) [] ++ []) d)) (sym (told_before is)) good
       by false is = let r = ends e in ended_good (taken_end u e n) (names_after (own_entries u e d ++ (told_new u (taken_end u e n) d n).outs) d) r.top r.left r.pair
-
-  -- ---- what was granted to another
-
-  -- a store that is new in a state of this action was put in under its write lock
-  no_new_store : (x s : ℕ) (w : ObjectState) (t : Uid) → IsTop owner t → t ≢ u → HasLockOn t 0 x n → HasPrepared u x w d → is_listed s (state_entry w).stores ≡ true → (b : Bool) → is_listed s (listed_entry x d).stores ≡ b → is_listed s (listed_entry x d).stores ≡ true
-  no_new_store x s w t top other h has on true is = is
-  no_new_store x s w t top other h has on false is = absurd (other (sym (one_top owner (is_on n.told) x u t 2 0 g.named.rows (object.rows) (good.pair.tops u has.states has.prepared) top (omega arith) lock (subst (λ (q : Named). HasLock t 0 q.rows) same h.lock))))
-    where
-      any_by : (q : ℕ → Bool) (ns : List ℕ) → is_listed s ns ≡ true → q s ≡ true → list_any q ns ≡ true
-      any_by q [] e f = cc
-      any_by q (k ∷ ks) e f = ⊎_elim (λ it. or_left (q k) (list_any q ks) (ap q (eqb-true k s it) ∙ f)) (λ rest. or_right (q k) (list_any q ks) (any_by q ks rest f)) (or_cases (k == s) (is_listed s ks) e)
-
-      adds : adds_store (state_entry w).stores (listed_entry x d).stores ≡ true
-      adds = any_by (λ k. not (is_listed k (listed_entry x d).stores)) (state_entry w).stores on (ap not is)
-
-      g : HasLockOn u (guard_of x w d) x n
-      g = good.guarded u x w has
-
-      lock : HasLock u 2 g.named.rows
-      lock = subst (λ b. HasLock u (mode_code (cond b mode.Write mode.Exclude)) g.named.rows) adds g.lock
-
-      object : IsGoodObject owner (is_on n.told) n.inc n.count x g.named
-      object = good.objects x g.named g.there
-
-      same : h.named ≡ g.named
-      same = let e : ◌≡◌ {A = Option Named} (Some h.named) (Some g.named) = sym h.there ∙ g.there in cc
-
-  kept_ended : (e : End) (f : Pair) → IsLeft u n d f e → (t : Uid) (x : ℕ) (stores : List ℕ) → IsKeptGrant owner t x stores n d → IsKeptGrant owner t x stores (end_locks u e n) f
-  kept_ended e f left t x stores kept = record { top_is = kept.top_is; holds = λ own owned. by (not_later u t n own) (not_later u (owner t) n owned) }
-    where
-      stands : (e : End) (o : Named) → at_number x n.objects ≡ Some o → t ≢ u → owner t ≢ u → HasLock t 0 o.rows → HasLock t 0 (end_named u e o).rows
-      stands ending.Abort o found other free h = let object = good.objects x o found in stands_drop owner (is_on n.told) x u t 0 o.rows object.rows other free h
-      stands ending.Commit o found other free h = stands_pass u t 0 o.rows other h
-
-      by : (is_on n.told t ≡ false) × (t ≢ u) → (is_on n.told (owner t) ≡ false) × (owner t ≢ u) → HasLockOn t 0 x (end_locks u e n) × ((s : ℕ) → is_listed s (listed_entry x f).stores ≡ true → is_listed s stores ≡ true)
-      by own owned = (lock_ended e t 0 x (λ o found h. stands e o found own.1 owned.1 h) k.0, λ s on. k.1 s (listed s (at_uid (entry x) f.held) refl on))
-        where
-          k : HasLockOn t 0 x n × ((s : ℕ) → is_listed s (listed_entry x d).stores ≡ true → is_listed s stores ≡ true)
-          k = kept.holds own.0 owned.0
-
-          listed : (s : ℕ) (o : Option ObjectState) → at_uid (entry x) f.held ≡ o → is_listed s (listed_entry x f).stores ≡ true → is_listed s (listed_entry x d).stores ≡ true
-          listed s None is on = let no_way : false ≡ true = sym (ap (λ q. let l = entry_of q in is_listed s l.stores) is) ∙ on in cc
-          listed s (Some w) is on =
-              let new : is_listed s (state_entry w).stores ≡ true = sym (ap (λ q. let l = entry_of q in is_listed s l.stores) is) ∙ on in
-              ⊎_elim (λ old. ap (λ q. let l = entry_of q in is_listed s l.stores) old ∙ new) (λ g. no_new_store x s w t kept.top_is own.1 k.0 (g.1 x refl) new (is_listed s (listed_entry x d).stores) refl) (left.held (entry x) w is)
-
-  pub told_kept : (e : End) (t : Uid) (x : ℕ) (stores : List ℕ) → IsKeptGrant owner t x stores n d → IsKeptGrant owner t x stores (told u e d n).part (names_after (told u e d n).outs d)
-  told_kept e t x stores kept = by (is_on n.told u) refl
-    where
-      by : (b : Bool) → is_on n.told u ≡ b → IsKeptGrant owner t x stores (cond {A = Did Naming} b (did_nothing n) (told_new u (taken_end u e n) d n)).part (names_after (own_entries u e d ++ (cond {A = Did Naming} b (did_nothing n) (told_new u (taken_end u e n) d n)).outs) d)
-      by true is = subst (λ b. IsKeptGrant owner t x stores n (names_after (cond b (end_entries u e) [] ++ []) d)) (sym (told_before is)) kept
-      by false is = let r = ends e in kept_ended (taken_end u e n) (names_after (own_entries u e d ++ (told_new u (taken_end u e n) d n).outs) d) r.left t x stores kept

@@ -229,10 +229,6 @@ module _ (paths : Paths) (tree : IsTree paths) where
     unanswered = λ u k t is. ⊎_elim (λ new. never (is_told u s) t (ap (λ w. is_told w s) new.0 ∙ fresh)) (λ old. good.unanswered u k t old.1) (put_cases u act (record { req = req; answer = a }) k s.kept is);
   }
 
-  objects_kept : (act : Uid) (req : ℕ) (a : Option InvokedReply) (s : Server) (u : Uid) → is_told u (keeps act req a s) ≡ is_told u s
-  objects_kept act req None s u = refl
-  objects_kept act req (Some a) s u = refl
-
   pub told_on_copy : (x : ℕ) (f : Copy → Served Copy InvokedReply) (s : Server) (o : Option Copy) (u : Uid) → is_told u (on_copy x f s o).part ≡ is_told u s
   told_on_copy x f s None u = refl
   told_on_copy x f s (Some c) u = refl

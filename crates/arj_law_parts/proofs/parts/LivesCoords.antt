@@ -15,15 +15,15 @@ use Rattle.arj_protocol.specs.Words.prepared
 use Rattle.arj_protocol.specs.Words.confirmed
 use Rattle.arj_protocol.specs.Ask.{Reply, actor, ask_kind, reply_kind, top_of}
 use Rattle.arj_protocol.specs.Asking.{asks_node, asks_all, asks_step, goes_on, call, call_steps, known_at_start, renewed, given_away, include, next_req, doomed_by, root_heard, root_moved, kept_at, keeps_after, notes_grant, granted_by, was_named, step_call, heard_call, mark_lines, commits_in, asks_machine, step_commit, moved_commit, commit_top, commit_open, commit_action, last_req, heard_now, heard_doing, heard, heard_by, heard_none, waits_for_call, waits_for_commit, gaveup_lines, root_lost, is_ended, gives_up, give_up_doing, give_up, again_now, again_all, is_invoke_ask, end_line}
-use Rattle.arj_protocol.specs.Call.{Known, Steps, At, CallStep, On, Ended, CallEnd, Answered, Included, Conflict, Changed, Lost, Moved, Goal, answered, given_up, next_node, next_ask, ask_at, start, spoils, has_changed}
+use Rattle.arj_protocol.specs.Call.{Known, Steps, CallStep, On, Ended, CallEnd, Answered, Included, Conflict, Changed, Lost, Moved, Goal, answered, given_up, next_node, next_ask, start, spoils, has_changed}
 use Rattle.arj_protocol.specs.Call as calls
-use Rattle.arj_protocol.specs.Commit.{Used, Plan, Machine, Voting, Preparing, Confirming, CommitStep, Stays, Asks, Decides, Aborts, plan_of, participants, has_record, ask_of, servers_of, nodes_given_up, begin_confirm, begin_prepare, begin_vote, stores_left, votes_left, marks_store, marks_stores, targets_of, with_states, is_at_server, least_of, vote_ask}
+use Rattle.arj_protocol.specs.Commit.{Used, Plan, Machine, Voting, Preparing, Confirming, CommitStep, Stays, Asks, Decides, Aborts, plan_of, participants, has_record, ask_of, servers_of, nodes_given_up, begin_confirm, begin_prepare, begin_vote, stores_left, votes_left, marks_store, marks_stores, targets_of, with_states, is_at_server, least_of}
 use Rattle.arj_protocol.specs.Commit as commit
 use Rattle.arj_protocol.specs.Coord.{Coord, new_coord, Doing, Now, Idle, Calling, Committing, Root, Keeping, Went, Said, Grant, doing_of, set_doing, change_doing, on_doing, on_root, root_at, no_root, no_keeping, keeping_of, kept_of, is_free, known_for, nodes_sent, servers_told, nothing_known, objects_in, plan_for, retains, used_of, used_with, is_called, with_keeping, with_went, with_said, same_went, same_said}
 use Rattle.arj_protocol.specs.Effect.{Effect, Do, PutIntent, Did, Intent, Served}
 use Rattle.arj_protocol.specs.Ending.{says, say_for, tell, tell_all, up_to, is_deferred, tolds_by, tolds_of_branch, tolds_of, ended, ends_with, aborts_with, all_aborted, abort_action, decided_told, decide, root_after, keeping_after, kept_after, acked, acked_by, acked_left, tolds_let_go, let_go, is_over}
 use Rattle.arj_protocol.specs.Order.{at_uid, binding_number, each, has, put_uid, unbound, without_number, with_number, without_uid}
-use Rattle.arj_protocol.specs.Step.{Input, acts, branch_named, on_branch, parent_of, tolds_again}
+use Rattle.arj_protocol.specs.Step.{Input, acts, branch_named, on_branch}
 use Rattle.arj_protocol.specs.Step as input
 use Rattle.arj_protocol.specs.Tree.{Tree, Branch, branch_of, is_own, at_place, ends_of, root_of, open_below, uses_object, doomed_at, ended_at}
 use Rattle.arj_law_parts.specs.parts.Lives.{Homes, Reach, AllName, FitsCall, HasReachedSome, IsAtSo, IsKeptSo, IsKnownSo, IsMovedSo, IsNowSo, IsOfObject, IsPastZero, IsReached, IsRootSo, IsStepSo, IsUsedSo, KnowsServers, NamesAsk, NamesEffect, NamesReply}

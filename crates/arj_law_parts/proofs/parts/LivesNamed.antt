@@ -6,7 +6,6 @@ use Rattle.std.specs.Ordering.{is_eq, match_ordering, nat_cmp}
 use Rattle.std.specs.declared.cmp.Ordering.{Ordering}
 use Rattle.std.specs.declared.cmp.Ordering.TheVariants.{Less, Equal, Greater}
 use Rattle.std.proofs.lemmas.Bool.{eqb-true}
-use Rattle.std.proofs.lemmas.Bool.Decides.{nat_tests}
 use Rattle.arj_base.specs.Order.{uid_order}
 use Rattle.arj_base.specs.Rows.{is_on}
 use Rattle.arj_protocol.specs.Words.{Uid, Binding, End, Entry, ObjectState, Path, Row, BoundReply, ConfirmedReply, RecordedReply, entry, lower_row}
@@ -293,22 +292,3 @@ module _ (home : Homes) (reach : Reach) where
       by : (held : List (Uid × ObjectState)) → AllByRecursion (λ (e : ℕ × Named). IsNamedSo home reach e.0 e.1) (map (named_back d) held)
       by [] = tt
       by (e ∷ es) = (record { live = tt; made = tt }, by es)
-
--- after a Hello no live binding to its node is of an earlier incarnation
-pub hello_drops : (node inc : ℕ) (o : Named) (l : Live) → (hello_named node inc o).live ≡ Some l → l.server ≡ node → inc ≤ l.inc
-hello_drops node inc o l is its = by o.live is
-  where
-    by : (q : Option Live) → live_after node inc q ≡ Some l → inc ≤ l.inc
-    by None s = let no_way : ◌≡◌ {A = Option Live} None (Some l) = s in cc
-    by (Some k) s = one (k.server == node) (nat_le inc k.inc) refl refl s
-      where
-        one : (a b : Bool) → (k.server == node) ≡ a → nat_le inc k.inc ≡ b → cond {A = Option Live} (a && not b) None (Some k) ≡ Some l → inc ≤ l.inc
-        one true true h g f = let r : ◌≡◌ {A = Option Live} (Some k) (Some l) = f in let same : k ≡ l = cc in subst (λ (y : Live). inc ≤ y.inc) same (less inc k.inc g)
-          where
-            less : (m n : ℕ) → nat_le m n ≡ true → m ≤ n
-            less m n le = grind (arith, nat_tests)
-        one true false h g f = let no_way : ◌≡◌ {A = Option Live} None (Some l) = f in cc
-        one false b h g f = let r : ◌≡◌ {A = Option Live} (Some k) (Some l) = f in let same : k ≡ l = cc in let no_way : true ≡ false = sym (itself node) ∙ ap (λ z. z == node) (sym its ∙ sym (ap (λ (y : Live). y.server) same)) ∙ h in cc
-          where
-            itself : (z : ℕ) → (z == z) ≡ true
-            itself z = grind arith

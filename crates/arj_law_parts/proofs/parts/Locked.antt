@@ -34,9 +34,6 @@ module _ (owner : Owners) (past : Past) (p : Path) (d : Pair) (fits : Fits owner
     pub there : (y : ℕ) (o : Named) → at_number y n.objects ≡ Some o → (q : Named) × (at_number y t.part.objects ≡ Some q)
     pub quiet : names_after t.outs d ≡ d
 
-  abbrev nothing : Naming → Did Naming
-  nothing n = record { part = n; outs = [] }
-
   still_clear : (x : ℕ) (o : Named) → conflict_on x p mode.Exclude o ≡ None → conflict_on x p mode.Exclude (locked x p mode.Exclude o) ≡ None
   still_clear x o free = by (is_granted (entry x) (top_of p) mode.Exclude o.rows)
     where

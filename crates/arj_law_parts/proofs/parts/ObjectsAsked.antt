@@ -18,7 +18,7 @@ use Rattle.arj_protocol.specs.Words.prepared
 use Rattle.arj_protocol.specs.Words.confirmed
 use Rattle.arj_protocol.specs.Ask.{Reply, actor, top_of}
 use Rattle.arj_protocol.specs.Asking.{begin_action, asks_node, asks_all, asks_step, goes_on, call, call_steps, renewed, include, next_req, doomed_by, root_heard, root_moved, kept_at, notes_grant, granted_by, step_call, heard_call, mark_lines, commits_in, asks_machine, step_commit, moved_commit, commit_top, commit_open, commit_action, last_req, heard_now, heard_doing, heard, heard_by, heard_none, waits_for_call, waits_for_commit, gaveup_lines, root_lost, gives_up, give_up_doing, give_up, again_now, again_all, is_invoke_ask, end_line, store_of}
-use Rattle.arj_protocol.specs.Call.{Known, Steps, At, AtBind, AtLoad, AtActivate, AtNote, AtInvoke, CallStep, On, Ended, CallEnd, Answered, Included, Conflict, Changed, Lost, Moved, Goal, answered, given_up, next_node, next_ask, ask_at, start}
+use Rattle.arj_protocol.specs.Call.{Steps, At, AtBind, AtLoad, AtActivate, AtNote, AtInvoke, CallStep, On, Ended, CallEnd, Answered, Included, Conflict, Changed, Lost, Moved, Goal, answered, given_up, next_node, next_ask, ask_at, start}
 use Rattle.arj_protocol.specs.Call as calls
 use Rattle.arj_protocol.specs.Commit.{Used, Plan, Machine, Voting, Preparing, Confirming, CommitStep, Stays, Asks, Decides, Aborts, plan_of, participants, has_record, ask_of, servers_of, nodes_given_up, begin_confirm, begin_prepare, begin_vote, stores_left, votes_left, marks_store, marks_stores, targets_of, with_states, is_at_server}
 use Rattle.arj_protocol.specs.Commit as commit

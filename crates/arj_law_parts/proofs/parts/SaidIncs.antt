@@ -26,14 +26,12 @@ use Rattle.arj_protocol.specs.Says.{AreAll, is_server_effect, is_naming_effect, 
 use Rattle.arj_protocol.specs.Server as server
 use Rattle.arj_protocol.specs.Server.{Server, active_binding, has_ended, took_copy}
 use Rattle.arj_protocol.specs.Step.{tolds_again, recovered_records, hello_to, numbers_to, naming_at, naming_back, restart_outs}
-use Rattle.arj_protocol.specs.World.{cut}
 use Rattle.arj_protocol.proofs.PartSays.{ends_own, activate_own, invoke_own, vote_own, bind_own, note_own, confirm_own, told_own}
 use Rattle.arj_law_parts.specs.parts.Actions.{Action}
 use Rattle.arj_law_parts.specs.parts.Claims.{AreTrue, GoesOn, is_of_coord, IsHomeWork, IsOwnRecord, AreOfNode}
 use Rattle.arj_law_parts.specs.parts.Coords.{IsGoodCoord}
 use Rattle.arj_law_parts.specs.parts.Copies.{Paths, IsTree}
-use Rattle.arj_law_parts.specs.parts.Cuts.{disk_after}
-use Rattle.arj_law_parts.specs.parts.Incs.{SaysInc, KeepsInc, IsOfInc, AreOfInc, SayInc, IsClaimsOf, IsTrulyHandled}
+use Rattle.arj_law_parts.specs.parts.Incs.{SaysInc, KeepsInc, IsOfInc, AreOfInc, IsClaimsOf, IsTrulyHandled}
 use Rattle.arj_law_parts.specs.parts.Messages.{AreOfTops}
 use Rattle.arj_law_parts.proofs.parts.ServerRuns.{activate_follows, invoke_follows, vote_follows, told_follows}
 use Rattle.arj_law_parts.proofs.parts.Settled.{same_on}
@@ -57,10 +55,6 @@ all_flat P f (x ∷ xs) each = all_both P (f x) (flat_map f xs) (each x) (all_fl
 pub all_quiet : (P : Effect → Type 0) (test : Effect → Bool) → ((to : ℕ) (m : Message) → test (Send to m) ≡ false) → ((e : Effect) → test e ≡ true → P e) → (outs : List Effect) → AreAll test outs → AllByRecursion P outs
 all_quiet P test silent each [] all = tt
 all_quiet P test silent each (e ∷ es) all = let q = and_parts (test e) (list_all test es) all in (each e q.0, all_quiet P test silent each es q.1)
-
-abbrev behind : List Effect → List Effect
-behind [] = []
-behind (e ∷ es) = es
 
 -- ---- work
 
@@ -87,21 +81,6 @@ stopped_inc i (InPart which) (Commit role.Names u) d k is = is
 stopped_inc i (InPart which) (Abort r u) d k is = is
 stopped_inc i (InPart which) (PutIntent u e) d k is = is
 stopped_inc i (InPart which) (RemoveIntent u) d k is = is
-
--- a stop anywhere in a node's effects
-pub cut_inc : (n i k : ℕ) (how : Stop) (outs : List Effect) (d : Disk) → AreOfInc n i outs → d.inc ≡ i → (let c = cut k how outs d in let e = c.disk in (e.inc ≡ i) × SayInc n i c.outs)
-cut_inc n i k how [] d all is = (is, tt)
-cut_inc n i zero how (Do w ∷ es) d all is = (stopped_inc i how w d all.0 is, tt)
-cut_inc n i (suc k) how (Do w ∷ es) d all is = let r = cut_inc n i k how es (worked w d) all.1 (worked_inc i w d all.0 is) in (r.0, (tt, r.1))
-cut_inc n i k how (Say b ∷ es) d all is = let r = cut_inc n i k how es d all.1 is in (r.0, (tt, r.1))
-cut_inc n i k how (Send to m ∷ es) d all is = let r = cut_inc n i k how es d all.1 is in (r.0, (all.0, r.1))
-
--- and all of them
-pub after_inc : (n i : ℕ) (outs : List Effect) (d : Disk) → AreOfInc n i outs → d.inc ≡ i → ((disk_after outs d).inc ≡ i) × SayInc n i outs
-after_inc n i [] d all is = (is, tt)
-after_inc n i (Do w ∷ es) d all is = let r = after_inc n i es (worked w d) all.1 (worked_inc i w d all.0 is) in (r.0, (tt, r.1))
-after_inc n i (Say b ∷ es) d all is = let r = after_inc n i es d all.1 is in (r.0, (tt, r.1))
-after_inc n i (Send to m ∷ es) d all is = let r = after_inc n i es d all.1 is in (r.0, (all.0, r.1))
 
 -- ---- a restart
 
@@ -146,28 +125,6 @@ module _ (hd : Header) (n : ℕ) (d : Disk) where
 
       hellos : List Effect
       hellos = map (hello_to n (d.inc + 1)) (without_number n (numbers_to hd.nodes))
-
-  -- behind the new incarnation
-  abbrev rest : List Effect
-  rest = behind (behind (restart_outs hd n (d.inc + 1) d))
-
-  -- a front of a restart says no later incarnation than is on disk then
-  pub restart_cut : (k : ℕ) (how : Stop) → (let c = cut k how (restart_outs hd n (d.inc + 1) d) d in let e = c.disk in (d.inc ≤ e.inc) × SayInc n e.inc c.outs)
-  restart_cut zero Before = (omega arith, tt)
-  restart_cut zero After = (omega arith, tt)
-  restart_cut zero (InPart which) = (omega arith, tt)
-  restart_cut (suc zero) Before = (omega arith, (tt, tt))
-  restart_cut (suc zero) After = (omega arith, (tt, tt))
-  restart_cut (suc zero) (InPart which) = (omega arith, (tt, tt))
-  restart_cut (suc (suc k)) how = from k how
-    where
-      from : (k : ℕ) (how : Stop) → (let c = cut (suc (suc k)) how (restart_outs hd n (d.inc + 1) d) d in let e = c.disk in (d.inc ≤ e.inc) × SayInc n e.inc c.outs)
-      from k how =
-          let r = cut_inc n (d.inc + 1) k how rest (record d { inc = d.inc + 1 }) restart_of.1.1 refl in
-          (omega (arith, r.0), subst (λ i. SayInc n i (let c = cut (suc (suc k)) how (restart_outs hd n (d.inc + 1) d) d in c.outs)) (sym r.0) (tt, (tt, r.1)))
-
-  pub restart_after : ((disk_after (restart_outs hd n (d.inc + 1) d) d).inc ≡ d.inc + 1) × SayInc n (d.inc + 1) (restart_outs hd n (d.inc + 1) d)
-  restart_after = let r = after_inc n (d.inc + 1) rest (record d { inc = d.inc + 1 }) restart_of.1.1 refl in (r.0, (tt, (tt, r.1)))
 
 -- ---- a message
 
@@ -289,9 +246,6 @@ activate_inc n p b st s j = by (has_ended p s || binding_less b (active_binding 
 module _ (n : ℕ) (t : Parts) where
   abbrev Well : Handled → Type 0
   Well h = IsTrulyHandled n t h
-
-  stays : GoesOn t.coord t.coord
-  stays = same_on t.coord t.coord refl refl refl refl
 
   -- the coordinator is as it was
   took : (v : Parts) (outs : List Effect) → v.coord ≡ t.coord → v.server.inc ≡ t.server.inc → Fit n t.server.inc t.coord outs → Well (Took v outs)
@@ -450,6 +404,3 @@ later_inc n i j (message.Prepare m) le s = tt
 later_inc n i j (message.Prepared m) le s = tt
 later_inc n i j (message.Confirm m) le s = tt
 later_inc n i j (message.Confirmed m) le s = tt
-
-pub coord_inc : (n i : ℕ) (c : Coord) (outs : List Effect) → AreTrue c outs → AreOfInc n i outs
-coord_inc n i c outs all = (true_inc n i c outs all).1

@@ -20,7 +20,7 @@ use Rattle.arj_protocol.specs.Coord.{Coord, Doing, Now, Idle, Calling, Committin
 use Rattle.arj_protocol.specs.Effect.{Effect, Do, PutIntent, Did, Served, Intent}
 use Rattle.arj_protocol.specs.Ending.{says, say_for, tell, tell_all, up_to, is_deferred, tolds_by, tolds_of_branch, tolds_of, ended, ends_with, aborts_with, all_aborted, abort_action, decided_told, record_work, decide, is_over, let_go, tolds_let_go, acked_left, acked_by, acked, root_or_self, took_part, is_kept_commit, answer_decided, answer_recorded, answer_query}
 use Rattle.arj_protocol.specs.Order.{at_uid, has, without_uid, without_number, unbound}
-use Rattle.arj_protocol.specs.Step.{Input, acts, branch_named, on_branch, refusal_up, refused_by, call_reasons, include_reasons, commit_reasons, tolds_again, parent_of}
+use Rattle.arj_protocol.specs.Step.{Input, acts, branch_named, on_branch, refusal_up, refused_by, call_reasons, include_reasons, commit_reasons, tolds_again}
 use Rattle.arj_protocol.specs.Step as input
 use Rattle.arj_protocol.specs.Tree.{Tree, Branch, branch_of, ends_of, root_of, is_open, is_open_branch, at_place, is_committed, open_below, has_open_child, is_serial, is_constituent, uses_object}
 use Rattle.arj_law_parts.specs.parts.Actions.{Action, action_of, AreBegun}

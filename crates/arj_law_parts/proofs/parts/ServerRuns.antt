@@ -1,18 +1,14 @@
 -- A server's bindings, ends and requests under each call.
 use Rattle.std.proofs.Common.{◌≡◌, ◌≢◌, ◌≤◌, ◌==◌, ℕ, List, [], ◌∷◌, Bool, true, false, cond, ◌||◌, nat_lt, Option, Some, None, refl, sym, ◌∙◌, ap, subst, inl, inr, ⊎_elim, arith}
 use Rattle.std.specs.Prelude.{is_some}
-use Rattle.std.specs.List.{list_any}
-use Rattle.std.proofs.lemmas.Bool.{eqb-true}
-use Rattle.arj_base.proofs.Uids.{uid_cases, uid_is}
-use Rattle.arj_protocol.specs.Words.{Uid, Binding, Path, Head, End, Op, Answer, ObjectState, Row, What, InvokedReply, VotedReply, uids_of, is_on, uid_eq, first_conflict, object, op_mode}
+use Rattle.arj_base.proofs.Uids.{uid_cases}
+use Rattle.arj_protocol.specs.Words.{Uid, Binding, Path, Head, End, Op, ObjectState, Row, What, InvokedReply, VotedReply, uids_of, first_conflict, object, op_mode}
 use Rattle.arj_protocol.specs.Words.ending
-use Rattle.arj_protocol.specs.Words.what
-use Rattle.arj_protocol.specs.Words.invoked
 use Rattle.arj_protocol.specs.Ask.{actor}
 use Rattle.arj_protocol.specs.Copy.{Copy, taken_copy, end_copy, overs_committed, over_of, is_top_over, Over, settled, folded, ask_copy, invoke_copy}
 use Rattle.arj_protocol.specs.Effect.{Served, Did, either, reply, void, did_nothing}
-use Rattle.arj_protocol.specs.Order.{at_number, put_number, each, at_uid, put_uid, binding_number, binding_less, binding_eq, unbound}
-use Rattle.arj_protocol.specs.Server.{Server, Kept, is_told, has_ended, binding_of, active_binding, took_copy, activate, other_inc, changed_by, taken_end, end_new, end_one, apply_ends, told, keeps, on_copy, kept_after, invoke_new, invoke_kept, invoke_now, is_below, invoke, first_unbound, vote_now, vote}
+use Rattle.arj_protocol.specs.Order.{at_number, put_number, each, at_uid, put_uid, binding_number, binding_less, binding_eq}
+use Rattle.arj_protocol.specs.Server.{Server, Kept, is_told, has_ended, binding_of, active_binding, took_copy, activate, other_inc, changed_by, taken_end, end_new, end_one, apply_ends, told, keeps, on_copy, invoke_new, invoke_kept, invoke_now, is_below, invoke, first_unbound, vote_now, vote}
 use Rattle.arj_protocol.proofs.Maps.{put_same as put_number_same, put_other as put_number_other}
 use Rattle.arj_protocol.proofs.RowSteps.{one_or_two}
 use Rattle.arj_law_parts.specs.parts.Servers.{HasRun, Follows}
@@ -41,15 +37,6 @@ both s t v a b = record {
   where
     number : (i j k : ℕ) → nat_lt j i ≡ false → nat_lt k j ≡ false → nat_lt k i ≡ false
     number i j k p q = grind (arith, p, q)
-
--- a server whose objects, ends and answers are the same
-same_server : (s t : Server) → t.inc ≡ s.inc → t.objects ≡ s.objects → t.ends ≡ s.ends → t.kept ≡ s.kept → Follows s t
-same_server s t inc objects ends kept = record {
-  same = inc;
-  bindings = λ x. (λ i. binding_less (binding_of (at_number x (objects i))) (active_binding x s)) ∙ not_less (active_binding x s);
-  ends = λ u e is. ap (at_uid u) ends ∙ is;
-  run = λ u req h. ⊎_elim (λ over. inl (ap (λ m. is_some (at_uid u m)) ends ∙ over)) (λ k. inr (k.0, ap (at_uid u) kept ∙ k.1, k.2)) h;
-}
 
 -- an object put back: its binding doesn't fall
 put_follows : (s : Server) (x : ℕ) (c : Copy) → binding_less c.binding (active_binding x s) ≡ false → Follows s (record s { objects = put_number x c s.objects })
@@ -192,73 +179,3 @@ vote_follows n p i ties ends s = by (has_ended p s)
     by : (b : Bool) → Follows s (cond {A = Served Server VotedReply} b (void s) (vote_now n (actor p) ends s (either (other_inc i s.inc) (first_unbound ties s)))).part
     by true = itself s
     by false = yes (either (other_inc i s.inc) (first_unbound ties s))
-
--- ---- once
-
--- a request that was run, or a lower one, changes nothing any more
-pub runs_once : (n : ℕ) (h : Head) (x : ℕ) (b : Binding) (i : ℕ) (ends : List (Uid × End)) (op : Op) (s : Server) (req : ℕ) → is_on (uids_of h.path) (actor h.path) ≡ true → HasRun (actor h.path) req s → h.req ≤ req → (invoke n h x b i ends op s).part ≡ s
-runs_once n h x b i ends op s req on run within = by (has_ended h.path s) (is_below h.req (at_uid (actor h.path) s.kept)) refl refl
-  where
-    over : (us : List Uid) → is_on us (actor h.path) ≡ true → is_told (actor h.path) s ≡ true → list_any (λ u. is_told u s) us ≡ true
-    over [] e t = cc
-    over (u ∷ us) e t = one (uid_eq u (actor h.path)) refl e (λ rest. over us rest t)
-      where
-        one : (c : Bool) → uid_eq u (actor h.path) ≡ c → (c || is_on us (actor h.path)) ≡ true → (is_on us (actor h.path) ≡ true → list_any (λ w. is_told w s) us ≡ true) → (is_told u s || list_any (λ w. is_told w s) us) ≡ true
-        one true same f ih = ap (λ c. c || list_any (λ w. is_told w s) us) (ap (λ w. is_told w s) (uid_is u (actor h.path) same) ∙ t)
-        one false same f ih = ap (λ c. is_told u s || c) (ih f) ∙ last (is_told u s)
-          where
-            last : (c : Bool) → (c || true) ≡ true
-            last true = refl
-            last false = refl
-
-    again : (k : Kept) → at_uid (actor h.path) s.kept ≡ Some k → h.req ≤ k.req → is_below h.req (at_uid (actor h.path) s.kept) ≡ false → (w : Option What) → (invoke_now n h x ends op s w).part ≡ s
-    again k found low above (Some w) = refl
-    again k found low above None = ap (λ o. (invoke_kept n h x ends op s o).part) found ∙ (λ j. (cond {A = Served Server InvokedReply} (same j) (reply s k.answer) (invoke_new n h x ends op s)).part)
-      where
-        number : (a c : ℕ) → a ≤ c → nat_lt a c ≡ false → (c == a) ≡ true
-        number a c p q = grind (arith, p, q)
-
-        same : (k.req == h.req) ≡ true
-        same = number h.req k.req low (ap (is_below h.req) (sym found) ∙ above)
-
-    by : (ended below : Bool) → has_ended h.path s ≡ ended → is_below h.req (at_uid (actor h.path) s.kept) ≡ below → (cond {A = Served Server InvokedReply} (ended || below) (void s) (invoke_now n h x ends op s (changed_by i x b s))).part ≡ s
-    by true below e f = refl
-    by false true e f = refl
-    by false false e f = ⊎_elim (λ t. absurd (never (has_ended h.path s) (over (uids_of h.path) on t) e)) (λ k. again k.0 k.1 (omega (arith, within, k.2)) f (changed_by i x b s)) run
-
--- an answered request was run
-pub answered_ran : (n : ℕ) (h : Head) (x : ℕ) (b : Binding) (i : ℕ) (ends : List (Uid × End)) (op : Op) (s : Server) (a : Answer) → (invoke n h x b i ends op s).reply ≡ Some (invoked.Answered a) → HasRun (actor h.path) h.req (invoke n h x b i ends op s).part
-answered_ran n h x b i ends op s a = by (has_ended h.path s || is_below h.req (at_uid (actor h.path) s.kept)) (changed_by i x b s) (at_uid (actor h.path) s.kept) refl
-  where
-    HasIt : Served Server InvokedReply → Type 0
-    HasIt r = r.reply ≡ Some (invoked.Answered a) → HasRun (actor h.path) h.req r.part
-
-    new : HasIt (invoke_new n h x ends op s)
-    new is =
-        let d = apply_ends n ends s in
-        let t = d.part in
-        copied (at_number x t.objects) is
-      where
-        copied : (o : Option Copy) → HasIt (kept_after h (on_copy x (invoke_copy n h.path x op) (apply_ends n ends s).part o))
-        copied None e = let no_way : ◌≡◌ {A = Option InvokedReply} (Some (invoked.Changed (what.Bind unbound unbound))) (Some (invoked.Answered a)) = e in cc
-        copied (Some c) e = one (invoke_copy n h.path x op c).reply e
-          where
-            t : Server
-            t = (apply_ends n ends s).part
-
-            one : (q : Option InvokedReply) → q ≡ Some (invoked.Answered a) → HasRun (actor h.path) h.req (keeps (actor h.path) h.req q (record t { objects = put_number x (invoke_copy n h.path x op c).part t.objects }))
-            one None f = let no_way : ◌≡◌ {A = Option InvokedReply} None (Some (invoked.Answered a)) = f in cc
-            one (Some q) f = inr (record { req = h.req; answer = q }, put_same (actor h.path) (record { req = h.req; answer = q }) t.kept, omega arith)
-
-    kept : (o : Option Kept) → at_uid (actor h.path) s.kept ≡ o → HasIt (invoke_kept n h x ends op s o)
-    kept None found = new
-    kept (Some k) found = one (k.req == h.req) refl
-      where
-        one : (c : Bool) → (k.req == h.req) ≡ c → HasIt (cond c (reply s k.answer) (invoke_new n h x ends op s))
-        one true same e = inr (k, found, omega (arith, eqb-true k.req h.req same))
-        one false same e = new e
-
-    by : (v : Bool) (w : Option What) (o : Option Kept) → at_uid (actor h.path) s.kept ≡ o → HasIt (cond v (void s) (invoke_now n h x ends op s w))
-    by true w o found e = let no_way : ◌≡◌ {A = Option InvokedReply} None (Some (invoked.Answered a)) = e in cc
-    by false (Some w) o found e = let no_way : ◌≡◌ {A = Option InvokedReply} (Some (invoked.Changed w)) (Some (invoked.Answered a)) = e in cc
-    by false None o found e = kept (at_uid (actor h.path) s.kept) refl e

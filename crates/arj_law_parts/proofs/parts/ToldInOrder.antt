@@ -12,13 +12,13 @@ use Rattle.arj_protocol.specs.Words.ending
 use Rattle.arj_protocol.specs.Words.kind
 use Rattle.arj_protocol.specs.Ask.{actor, top_path}
 use Rattle.arj_protocol.specs.Ending.{up_to}
-use Rattle.arj_protocol.specs.Tree.{Tree, Branch, new_tree, branch_of, is_open, is_open_branch, is_own, ends_of, root_of, family_of, with_family, next_uid, begun_by, ended_branch, ended_at, has_open_child}
+use Rattle.arj_protocol.specs.Tree.{Tree, Branch, new_tree, branch_of, is_open, is_open_branch, is_own, ends_of, root_of, family_of, with_family, next_uid, begun_by, ended_branch, ended_at}
 use Rattle.arj_law_parts.specs.parts.Actions.{Action, act_of, Stands, AreBegun, AreCounted}
 use Rattle.arj_law_parts.specs.parts.Copies.{Paths, IsTree}
 use Rattle.arj_law_parts.specs.parts.Servers.{has_end_of, HasAllBelow, AreOrdered, AreOfOthers}
 use Rattle.arj_law_parts.specs.parts.Trees.{HasAllIn, AreWhole, IsGoodTree, AreAtHome}
 use Rattle.arj_law_parts.proofs.parts.Begun.{path_length, one_action, serial_alone, whole_top, on_more}
-use Rattle.arj_law_parts.proofs.parts.GoodTrees.{has_here, has_later, found_by, over_below, all_over, all_listed, new, new_there, grown_still, marked, at_u, at_others}
+use Rattle.arj_law_parts.proofs.parts.GoodTrees.{has_here, has_later, found_by, over_below, new, new_there, grown_still, marked, at_u, at_others}
 
 never : {P : Type 0} (b : Bool) → b ≡ true → b ≡ false → P
 never b holds fails = let no_way : true ≡ false = sym holds ∙ fails in cc
@@ -43,10 +43,6 @@ front_ordered acts u before (e ∷ es) ordered = by (uid_eq e.0 u) (front_ordere
     by : (b : Bool) → AreOrdered acts (before ++ e ∷ []) (up_to u es) → AreOrdered acts before (cond b (e ∷ []) (e ∷ up_to u es))
     by true ih = (ordered.0, tt)
     by false ih = (ordered.0, ih)
-
--- who commits finds the ends of all below it
-pub voting_all : (paths : Paths) → IsTree paths → (acts : List Action) (t : Tree) → IsGoodTree paths t → AreAtHome acts t → (u : Uid) (b : Branch) → branch_of u t ≡ Some b → has_open_child u t ≡ false → HasAllBelow acts u (ends_of (root_of b.path) t)
-voting_all paths tree acts t good home u b found none = below_all acts t u (ends_of (root_of b.path) t) home (found_by u t b found).0 (all_listed paths tree t good.lists u b found (all_over paths tree t good.lists u good.closed none))
 
 -- who is open finds no end of its path
 pub asking_others : (paths : Paths) → IsTree paths → (t : Tree) → IsGoodTree paths t → (root u : Uid) (b : Branch) → branch_of u t ≡ Some b → is_open u t ≡ true → AreOfOthers b.path (ends_of root t)

@@ -19,7 +19,7 @@ use Rattle.arj_protocol.specs.Words.cause
 use Rattle.arj_protocol.specs.Ask.{Reply, actor}
 use Rattle.arj_protocol.specs.Asking.{begin_action, asks_node, asks_all, call, include, step_call, root_moved, kept_at, heard_call, commit_top, commit_open, commit_action, last_req, moved_commit, heard_now, heard_doing, heard, heard_by, heard_none, waits_for_call, waits_for_commit, gaveup_lines, root_lost, gives_up, give_up_doing, give_up, again_now, again_all}
 use Rattle.arj_protocol.specs.Call.{Steps, Moved, answered, given_up, next_node}
-use Rattle.arj_protocol.specs.Commit.{Plan, Machine, plan_of, servers_of, nodes_given_up}
+use Rattle.arj_protocol.specs.Commit.{Plan, plan_of, servers_of, nodes_given_up}
 use Rattle.arj_protocol.specs.Commit as commit
 use Rattle.arj_protocol.specs.Coord.{Coord, new_coord, Doing, Now, Idle, Calling, Committing, doing_of, on_root, root_at, plan_for, is_free, is_kept_top, is_constituent_branch}
 use Rattle.arj_protocol.specs.Effect.{Did, Served, Intent, Work, Look, PutInc, Prepare, Commit, Abort, PutIntent, RemoveIntent, Disk, Stop, Before, After, InPart, worked, stopped}
@@ -30,7 +30,7 @@ use Rattle.arj_protocol.specs.Step.{Input, acts, branch_named, on_branch, is_wai
 use Rattle.arj_protocol.specs.Step as input
 use Rattle.arj_protocol.specs.Tree.{Tree, Branch, branch_of, is_own, at_place, ends_of, is_open, is_open_branch, is_committed, ended_so, has_end, root_of, has_open_child, path_below, next_uid}
 use Rattle.arj_law_parts.specs.parts.Actions.{Action, AreBegun, AreCounted, MayBegin}
-use Rattle.arj_law_parts.specs.parts.Claims.{IsClaimed, IsTrue, AreTrue, GoesOn, IsFaithful, IsOfNode, AreOfNode, IsOwnRecord, IsSettled}
+use Rattle.arj_law_parts.specs.parts.Claims.{IsClaimed, AreTrue, GoesOn, IsFaithful, IsOfNode, AreOfNode, IsOwnRecord, IsSettled}
 use Rattle.arj_law_parts.specs.parts.Coords.{IsBusy, IsVoting, IsOver, IsGoodCoord}
 use Rattle.arj_law_parts.specs.parts.Copies.{Paths, IsTree}
 use Rattle.arj_law_parts.specs.parts.Messages.{IsTopAction, AreOfTops, FitsMessage, Seals, has_commit_of}
@@ -409,12 +409,6 @@ module _ (l : Label) (k : Kind) (parent : Option Label) (c : Coord) where
 
   pub faithful_begins : IsFaithful c → IsFaithful begun_c
   faithful_begins f = record { works = length-append c.doings _ ∙ ap (λ n. n + 1) f.works ∙ sym (length-append c.tree.branches _); told = λ u i j. claim_begins u (f.told u i j) }
-
-  pub true_begins : (m : Message) → IsTrue c m → IsTrue begun_c m
-  true_begins m t = record { claims = λ u s. claim_begins u (t.claims u s); plain = t.plain }
-
-pub true_later : (c e : Coord) (m : Message) → GoesOn c e → IsTrue c m → IsTrue e m
-true_later c e m g t = record { claims = λ u s. claim_on c e g u (t.claims u s); plain = t.plain }
 
 -- ---- messages and an action that begins
 

@@ -100,9 +100,6 @@ same_ended u e t = by (branch_of u t)
 
 -- ---- calls
 
-idle : Doing → Doing
-idle d = record d { now = Idle }
-
 same_goes : (s : Steps) (c : Coord) → SameNames c (goes_on s c).part
 same_goes s c = let o = same_on (actor s.path) (λ (d : Doing). record d { req = s.req; now = Calling s }) c (λ d. refl) in record { labels = o.labels; names = o.names; count = o.count }
 

@@ -18,7 +18,7 @@ use Rattle.arj_protocol.specs.Ending.{abort_action, aborts_with, all_aborted, en
 use Rattle.arj_protocol.specs.Laws.{effects_of}
 use Rattle.arj_protocol.specs.Node.{Parts, Ran, first_done, first_queued, ran, with_coord}
 use Rattle.arj_protocol.specs.Step as input
-use Rattle.arj_protocol.specs.Step.{Input, Node, Step, abort_reasons, acts, branch_named, branch_numbered, commit_reasons, first_reason, giveup_reasons, is_waiting, is_waiting_now, on_branch, refusal, refusal_at, refusal_up, refused_by, step, step_of, step_unless, waits}
+use Rattle.arj_protocol.specs.Step.{Input, Node, Step, abort_reasons, branch_named, branch_numbered, commit_reasons, first_reason, giveup_reasons, is_waiting, is_waiting_now, on_branch, refusal, refusal_at, refusal_up, refused_by, step, step_of, step_unless, waits}
 use Rattle.arj_protocol.specs.Tree.{Branch, Tree, at_place, branch_of, ended_at, ended_branch, family_of, is_own, open_below, root_of, set_place, with_family}
 use Rattle.arj_protocol.specs.Words.{Body, End, Event, Header, Kind, Label, Line, Uid, name, uids_of}
 use Rattle.arj_protocol.specs.Words.body

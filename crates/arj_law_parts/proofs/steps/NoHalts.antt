@@ -18,9 +18,8 @@ use Rattle.arj_protocol.specs.Node.{Handled, Void, Took, Here, Parts, Ran, prepa
 use Rattle.arj_protocol.specs.Order.{uid_set, without_number}
 use Rattle.arj_protocol.specs.Says.{AreAll, is_coord_effect, is_coord_line, is_naming_effect, is_naming_line, is_server_effect, is_server_line}
 use Rattle.arj_protocol.specs.Server as server
-use Rattle.arj_protocol.specs.Server.{Server}
 use Rattle.arj_protocol.specs.Step as step
-use Rattle.arj_protocol.specs.Step.{Node, Input, Step, Begin, Call, Include, Commit, Abort, GiveUp, Frame, Tick, Restart, Crash, Show, acts, class_at, copy_line, entry_line, frame_step, handled_step, hello_to, naming_at, naming_back, node_did, numbers_to, parts_in, recovered_records, refusal, restart_outs, restart_step, show_entry, show_outs, shown, step_down, step_of, step_unless, step_up, tick_step, tolds_again, void_step}
+use Rattle.arj_protocol.specs.Step.{Node, Input, Step, Begin, Call, Include, Commit, Abort, GiveUp, Frame, Tick, Restart, Crash, Show, acts, copy_line, entry_line, frame_step, handled_step, hello_to, naming_at, naming_back, node_did, numbers_to, parts_in, recovered_records, refusal, restart_outs, show_entry, show_outs, shown, step_down, step_of, step_unless, step_up, tick_step, tolds_again, void_step}
 use Rattle.arj_protocol.specs.Words.{Uid, End, Head, Asked, ObjectState, Body, Message, Header, object, entry, Ask, asks}
 use Rattle.arj_protocol.specs.Words.ask
 use Rattle.arj_protocol.specs.Words.body

@@ -14,7 +14,7 @@ use Rattle.arj_law_parts.proofs.steps.Spoken.{first_not, given_node, not_not}
 use Rattle.arj_protocol.specs.Node.{Handled, Void, Took, Parts, taken}
 use Rattle.arj_protocol.specs.Order.{at_number}
 use Rattle.arj_protocol.specs.Step as input
-use Rattle.arj_protocol.specs.Step.{Node, Step, Input, first_reason, frame_step, handled_step, numbers_to, first_node, refusal, step, step_down, step_of, step_unless, step_up}
+use Rattle.arj_protocol.specs.Step.{Node, Input, first_reason, frame_step, handled_step, numbers_to, first_node, refusal, step, step_down, step_of, step_unless, step_up}
 use Rattle.arj_protocol.specs.Tree.{at_place, set_place}
 use Rattle.arj_protocol.specs.Words.{Event, Header, Label, Message, label_cmp}
 use Rattle.arj_protocol.specs.Words.body

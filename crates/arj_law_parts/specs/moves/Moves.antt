@@ -2,8 +2,6 @@
 use Rattle.std.specs.Prelude.{◌≡◌, ℕ, Bool, true, List, [], ◌∷◌}
 use Rattle.arj_protocol.specs.Words.{Header, Line}
 use Rattle.arj_protocol.specs.World.{Arm, Asked, World, format, run_event}
-use Rattle.arj_law_parts.specs.moves.Seen.{Seen}
-use Rattle.arj_law_parts.specs.moves.Keeps.{Holds, KeepsAsked}
 
 -- An event with the stops that may fall into it: whose disk stops, at which work of its node, counted from the event's first, and how it
 -- leaves that work.
@@ -32,10 +30,6 @@ journal_by hd ms = let w = world_by hd ms in w.lines
 abbrev pub AfterMoves : (World → Type 0) → World → List Move → Type 0
 AfterMoves P w [] = P w
 AfterMoves P w (m ∷ ms) = P w × AfterMoves P (moved m w) ms
-
--- a test that each handler keeps, wherever a stop falls into it, holds after all moves
-abbrev pub MovesKeep : Type 0
-MovesKeep = (hd : Header) (test : Seen → Bool) → KeepsAsked hd (λ M. test M ≡ true) → (ms : List Move) → Holds hd (λ M. test M ≡ true) (world_by hd ms)
 
 -- ---- scripts
 

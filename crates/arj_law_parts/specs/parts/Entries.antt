@@ -1,8 +1,7 @@
 -- Naming with its pair of entries, as both stay whatever comes.
 use Rattle.std.specs.Prelude.{◌≡◌, ◌⊎◌, ◌<◌, ℕ, List, [], ◌∷◌, Bool, true, false, Option, Some, None, Contains, not, ◌||◌, if◌then◌else◌, unwrap_or}
-use Rattle.arj_protocol.specs.Words.{Uid, Path, ObjectState, entry, is_on, mode_code, is_listed, ConfirmedReply, BoundReply, uid_eq}
+use Rattle.arj_protocol.specs.Words.{Uid, Path, ObjectState, entry, is_on, mode_code, ConfirmedReply, uid_eq}
 use Rattle.std.specs.List.{list_any}
-use Rattle.arj_protocol.specs.Words.bound
 use Rattle.arj_protocol.specs.Words.confirmed
 use Rattle.arj_protocol.specs.Ask.{top_of}
 use Rattle.arj_protocol.specs.Confirm.{Grants, Marks, mode_back, has_all, checked}
@@ -111,19 +110,3 @@ confirm_answer p grants excluded included d n =
 -- the actions that wrote the committed entries
 abbrev pub wrote_of : Pair → Past
 wrote_of d u = list_any (λ (e : Uid × ObjectState). uid_eq e.1.writer u) d.held
-
--- ---- what an answer to a Bind means from then on
-
--- the stores of an answer that grants a lock
-abbrev pub granted_stores : Option BoundReply → Option (List ℕ)
-granted_stores (Some (bound.Live b server i g stores)) = Some stores
-granted_stores (Some (bound.Make b server g stores)) = Some stores
-granted_stores (Some (bound.Write g stores)) = Some stores
-granted_stores (Some (bound.Conflict holder m)) = None
-granted_stores None = None
-
--- A grant to a top, with the stores that the answer listed, until the top or its owner is told: the top has a lock on the
--- entry, and each store that the committed entry lists was in the list.
-pub record IsKeptGrant (owner : Owners) (top : Uid) (x : ℕ) (stores : List ℕ) (n : Naming) (d : Pair) : Type 0 where
-  pub top_is : IsTop owner top
-  pub holds : is_on n.told top ≡ false → is_on n.told (owner top) ≡ false → HasLockOn top 0 x n × ((s : ℕ) → is_listed s (listed_entry x d).stores ≡ true → is_listed s stores ≡ true)

@@ -30,16 +30,6 @@ IsOfInc n i (Do w) = KeepsInc i w
 abbrev pub AreOfInc : ℕ → ℕ → List Effect → Type 0
 AreOfInc n i outs = AllByRecursion (IsOfInc n i) outs
 
--- the messages among effects name no later incarnation
-abbrev pub SaysIncIn : ℕ → ℕ → Effect → Type 0
-SaysIncIn n i (Say b) = ⊤
-SaysIncIn n i (Send to m) = SaysInc n i m
-SaysIncIn n i (Do w) = ⊤
-
--- so it is of all effects
-abbrev pub SayInc : ℕ → ℕ → List Effect → Type 0
-SayInc n i outs = AllByRecursion (SaysIncIn n i) outs
-
 -- what the message says of actions is true at this coordinator
 abbrev pub AreClaims : Coord → Message → Type 0
 AreClaims c m = (u : Uid) → Seals m u → IsClaimed u c

@@ -34,10 +34,6 @@ abbrev pub says_no_arm : Effect → Bool
 says_no_arm (Say b) = is_no_arm b
 says_no_arm _ = true
 
--- neither what a step does nor what a stop cuts says that a disk was armed
-abbrev pub NoStepSaysArmed : Type 0
-NoStepSaysArmed = (hd : Header) (n : Node) (i : Input) → AreAll says_no_arm (step hd n i).outs × AreAll says_no_arm (step hd n i).halting
-
 -- a crash
 abbrev pub is_crash : Input → Bool
 is_crash Crash = true

@@ -1,15 +1,11 @@
 -- What a settle leaves.
 use Rattle.std.specs.Prelude.{◌≡◌, ◌≤◌, ◌⊎◌, true, false, length, None}
 use Rattle.arj_protocol.specs.Words.event
-use Rattle.arj_protocol.specs.World.{Asked, World, lowest_from, most_frames, run_event, settle}
+use Rattle.arj_protocol.specs.World.{Asked, World, lowest_from, most_frames, run_event}
 
 -- no frame is open, each was delivered or lost; or one didn't fit
 abbrev pub IsSettled : World → Type 0
 IsSettled w = (w.full ≡ true) ⊎ (lowest_from 1 w.frames ≡ None)
-
--- of any world with no more frames than a run may have
-abbrev pub SettlesLeaveNothing : Type 0
-SettlesLeaveNothing = (w : World) → length w.frames ≤ most_frames → IsSettled (settle w)
 
 -- after a settle or a quiesce no frame is open, unless the run is over
 abbrev pub EventsLeaveNothing : Type 0

@@ -19,13 +19,13 @@ use Rattle.arj_protocol.specs.Asking.{again_all, again_now, asks_all, asks_node,
 use Rattle.arj_protocol.specs.Call as calls
 use Rattle.arj_protocol.specs.Call.{Answered, At, AtActivate, AtBind, AtInvoke, AtLoad, AtNote, CallEnd, CallStep, Changed, Conflict, Ended, Goal, Included, Lost, Moved, On, Steps, answered, ask_at, given_up, next_ask, next_node, start}
 use Rattle.arj_protocol.specs.Commit as commit
-use Rattle.arj_protocol.specs.Commit.{Aborts, Asks, CommitStep, Confirming, Decides, Machine, Marked, Plan, Preparing, Stays, Used, Voting, ask_of, begin_confirm, begin_prepare, begin_vote, left_of, nodes_given_up, participants, plan_of, servers_of, states_for, targets_of, waiting}
+use Rattle.arj_protocol.specs.Commit.{Aborts, Asks, CommitStep, Confirming, Decides, Machine, Marked, Plan, Preparing, Stays, Used, Voting, ask_of, begin_confirm, begin_prepare, begin_vote, left_of, nodes_given_up, participants, plan_of, servers_of, targets_of, waiting}
 use Rattle.arj_protocol.specs.Coord.{Calling, Committing, Coord, Doing, Idle, Now, doing_of, is_free, keeping_of, nodes_sent, on_root, plan_for, root_at, servers_told, with_keeping}
 use Rattle.arj_protocol.specs.Effect.{Did, Do, Effect, Intent, Say, Send, Served}
 use Rattle.arj_protocol.specs.Ending.{abort_action, aborts_with, all_aborted, decide, decided_told, ended, ends_with, is_deferred, say_for, says, tell, tell_all, tolds_by, tolds_of, tolds_of_branch, up_to}
 use Rattle.arj_protocol.specs.Order.{has, number_set, unbound, with_number, without_number}
 use Rattle.arj_protocol.specs.Step as input
-use Rattle.arj_protocol.specs.Step.{Input, acts, branch_named, on_branch, tolds_again}
+use Rattle.arj_protocol.specs.Step.{Input, acts, branch_named, on_branch}
 use Rattle.arj_protocol.specs.Tree.{Branch, at_place, branch_of, ended_at, ended_branch, ends_of, open_below, root_of, uses_object}
 use Rattle.arj_protocol.proofs.Messages.{request_reads_back}
 use Rattle.arj_law_parts.specs.parts.Actions.{Action}

@@ -21,7 +21,7 @@ use Rattle.arj_protocol.specs.Confirm.{Grants, Marks, checked, confirm, conflict
 use Rattle.arj_protocol.specs.Effect.{Abort, Already, Commit, Disk, Do, Effect, InDoubt, Look, Old, Pair, Prep, Prepare, PutInc, PutIntent, Ready, RemoveIntent, Say, Send, Served, Work, either, held_at, holder_of, is_prepared, prepare_answer, reply, void}
 use Rattle.arj_protocol.specs.Ending.{acked, answer_query}
 use Rattle.arj_protocol.specs.Naming as naming
-use Rattle.arj_protocol.specs.Naming.{Naming, is_over, listed_entry, on_counted, on_named}
+use Rattle.arj_protocol.specs.Naming.{Naming, is_over, listed_entry}
 use Rattle.arj_protocol.specs.Node.{Handled, Parts, Took, Void, ack_told, handle, handle_ends, handle_other, holders, if_naming, is_earlier, load_by, load_held, naming_hello, naming_told, prepare_by, query_about, sends_answer, serve, store_told, with_coord, with_naming, with_server}
 use Rattle.arj_protocol.specs.Order.{at_number}
 use Rattle.arj_protocol.specs.Says.{AreAll, is_server_effect}

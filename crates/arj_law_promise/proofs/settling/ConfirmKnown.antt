@@ -4,7 +4,6 @@ use Rattle.std.proofs.Common.{◌≡◌, ◌≢◌, ◌∙◌, ◌==◌, ℕ, tr
 use Rattle.std.specs.Prelude.{is_some}
 use Rattle.std.specs.List.{AllByRecursion}
 use Rattle.arj_lock.proofs.Members as list
-use Rattle.arj_lock.proofs.Members.{in_from, in_to}
 use Rattle.arj_protocol.specs.Words.{End, Head, ObjectState, Uid, asks}
 use Rattle.arj_protocol.specs.Words.ask
 use Rattle.arj_protocol.specs.Words.ending

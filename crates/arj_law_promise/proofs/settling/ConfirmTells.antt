@@ -13,7 +13,7 @@ use Rattle.arj_protocol.specs.Words.role
 use Rattle.arj_protocol.specs.Ask.{Reply, answers, last_end}
 use Rattle.arj_protocol.specs.Effect.{Abort, Commit, Did, Disk, Do, Effect, Intent, Look, Pair, Prepare, PutInc, PutIntent, RemoveIntent, Say, Send, Work, did_nothing, is_prepared, worked}
 use Rattle.arj_protocol.specs.Naming as naming
-use Rattle.arj_protocol.specs.Naming.{Naming, end_entries, end_lines, end_locks, end_orphans, has_locks, loses, loses_row, orphans, own_entries, taken_end, told_new}
+use Rattle.arj_protocol.specs.Naming.{Naming, end_entries, end_lines, end_orphans, has_locks, orphans, own_entries, taken_end, told_new}
 use Rattle.arj_protocol.specs.Node.{Parts, ack_told, end_states, store_told}
 use Rattle.arj_protocol.specs.Order.{at_uid}
 use Rattle.arj_protocol.specs.Says.{AreAll, is_server_effect}

@@ -102,9 +102,6 @@ late_on inc sent more on u c = (asks_on sent more on u c.0, c.1)
 pub fixed_late : (inc next : ℕ) (sent : List Post) (u : Uid) → inc < next → IsFixed inc sent u → IsLate next sent u
 fixed_late inc next sent u up c = (c.0, λ g i. let low = c.1 g i in omega (arith, low, up))
 
-pub acked_on : (sent more : List Post) → ((p : Post) → In p sent → In p more) → (u : Uid) (k : ℕ) → HasAcked sent u k → HasAcked more u k
-acked_on sent more on u k a = record { post = a.post; posted = on a.post a.posted; from = a.from; acks = a.acks }
-
 pub demanded_on : (sent more : List Post) → ((p : Post) → In p sent → In p more) → (u : Uid) → IsDemanded sent u → IsDemanded more u
 demanded_on sent more on u a = record { post = a.post; posted = on a.post a.posted; demands = a.demands }
 

@@ -11,7 +11,7 @@ use Rattle.arj_protocol.specs.Words.recorded
 use Rattle.arj_protocol.specs.Ask.{Reply, actor}
 use Rattle.arj_protocol.specs.Asking.{again_all, begin_action, doomed_by, heard, heard_by, heard_call, heard_doing, heard_none, heard_now, kept_at, root_heard, root_moved, step_call, waits_for_call}
 use Rattle.arj_protocol.specs.Call as calls
-use Rattle.arj_protocol.specs.Call.{At, AtActivate, AtBind, AtInvoke, AtLoad, AtNote, CallEnd, CallStep, Ended, Goal, Include, Known, On, Run, Steps, activated_by, answered, bound_by, given_up, live_known, load_from, made_by, made_known, or_lost, other_binding, same_binding, start, with_inc, write_known}
+use Rattle.arj_protocol.specs.Call.{At, AtActivate, AtBind, AtInvoke, AtLoad, AtNote, CallEnd, CallStep, Ended, Goal, Include, Known, On, Run, Steps, activated_by, answered, given_up, live_known, load_from, made_by, made_known, or_lost, start, with_inc, write_known}
 use Rattle.arj_protocol.specs.Coord.{Calling, Committing, Coord, Doing, Idle, Now, doing_of, is_free, new_coord, on_doing, on_root}
 use Rattle.arj_protocol.specs.Effect.{Intent, Pair, Served}
 use Rattle.arj_protocol.specs.Ending.{acked}

@@ -14,7 +14,7 @@ use Rattle.arj_protocol.specs.Words.confirmed
 use Rattle.arj_protocol.specs.Ask.{Reply}
 use Rattle.arj_protocol.specs.Asking.{mark_lines}
 use Rattle.arj_protocol.specs.Commit as commit
-use Rattle.arj_protocol.specs.Commit.{Asks, CommitStep, Confirming, Machine, Plan, Preparing, Stays, Used, Voting, begin_confirm, begin_prepare, begin_vote, marks_store, marks_stores, servers_of, targets_of}
+use Rattle.arj_protocol.specs.Commit.{CommitStep, Confirming, Machine, Plan, Preparing, Used, Voting, begin_confirm, begin_prepare, begin_vote, marks_store, marks_stores, servers_of, targets_of}
 use Rattle.arj_protocol.specs.Coord.{Coord, Doing, Root, doing_of, plan_for}
 use Rattle.arj_protocol.specs.Ending.{say_for, says}
 use Rattle.arj_protocol.specs.Order.{without_number}

@@ -19,7 +19,7 @@ use Rattle.arj_protocol.specs.Follow.{tick_outs}
 use Rattle.arj_protocol.specs.Node.{Parts, holders, query_about, with_coord}
 use Rattle.arj_protocol.specs.Order.{has}
 use Rattle.arj_protocol.specs.Step as input
-use Rattle.arj_protocol.specs.Step.{Input, acts, branch_named, commit_reasons, is_waiting, is_waiting_now, on_branch, refusal_up, refused_by, tolds_again, waits, waits_above, waits_below}
+use Rattle.arj_protocol.specs.Step.{Input, acts, branch_named, commit_reasons, on_branch, refusal_up, refused_by, tolds_again, waits_above, waits_below}
 use Rattle.arj_protocol.specs.Tree.{Branch, root_of}
 use Rattle.arj_law_parts.specs.parts.Actions.{Action, paths_of}
 use Rattle.arj_law_parts.specs.parts.Claims.{AreTrue, GoesOn}

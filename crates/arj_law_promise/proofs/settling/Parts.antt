@@ -85,9 +85,6 @@ beside_part Listed Ack k (Do w ∷ es) all = (all.0, beside_part Listed Ack k es
 beside_part Listed Ack k (Send to m ∷ es) all = let z = all.0 in let x = z.0 in let y = z.1 in ((((λ h states q. x.0 h (ask.Prepare states) q), (λ u last l. x.1 u last)), (y.0, (λ u is. absurd (y.1 u is)))), beside_part Listed Ack k es all.1)
 
 module _ (k : ℕ) (d : Disk) (t : Parts) (M : Seen) (core : IsCore (up k d t M)) where
-  abbrev Start : Seen
-  Start = up k d t M
-
   abbrev Listed : ℕ → Uid → Type 0
   Listed n u = Lists (up k d t M) u n
 

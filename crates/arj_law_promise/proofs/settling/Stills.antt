@@ -23,7 +23,7 @@ use Rattle.arj_law_parts.specs.parts.Claims.{is_of_coord}
 use Rattle.arj_law_parts.specs.parts.Coords.{IsCommitting}
 use Rattle.arj_law_parts.specs.parts.Ends.{told_by}
 use Rattle.arj_law_parts.specs.parts.Messages.{IsDecided}
-use Rattle.arj_law_parts.specs.moves.Seen.{In, Post, Seen, at, posted, said, up}
+use Rattle.arj_law_parts.specs.moves.Seen.{Post, Seen, at, posted, said, up}
 use Rattle.arj_law_parts.specs.moves.Walks.{Up, Walks}
 use Rattle.arj_law_parts.proofs.moves.Together.{walks_both}
 use Rattle.arj_law_runs.proofs.calls.WorldSteps.{no_answer}
@@ -115,9 +115,6 @@ module _ (k : ℕ) (d : Disk) (t : Parts) (M : Seen) (right : IsRight (up k d t 
   abbrev pub Unasked : Uid → Type 0
   Unasked u = (n : ℕ) → IsAsked (up k d t M) u n → ⊥
 
-  abbrev acts : List Act
-  acts = (let B = book M.lines in B.acts)
-
   -- this node's disk stays as it is
   abbrev pub Same : Disk → Type 0
   Same c = c ≡ d
@@ -171,9 +168,6 @@ module _ (k : ℕ) (d : Disk) (t : Parts) (M : Seen) (right : IsRight (up k d t 
             let r = record_committed Late known k (the_node k c (Some v)) v end_here refl u i (ap (at_uid u) records_same ∙ subst (λ (z : Node). at_uid u (let q = z.disk in q.intents) ≡ Some i) same at) (let f = found_by u v.coord.tree b found in f.0) in
             let one : r.0 ≡ b = some_is (sym r.1 ∙ found) in
             absurd (cc (sym r.2 ∙ ap (λ (z : Branch). z.ended) one ∙ aborted))
-
-        sent_on : (p : Post) → In p M.sent → In p N.sent
-        sent_on = w.on
 
         asked_on : (u : Uid) (n : ℕ) → IsAsked Start u n → IsAsked Late u n
         asked_on u n (p, i, from, to, h, states, is, act) = (p, w.on p i, from, to, h, states, is, act)

@@ -74,14 +74,6 @@ turned_mild U B b mild = record { acts = refl; decided = λ x on. inl on }
 abbrev AllMild : (Uid → Type 0) → List Act → List Line → Type 0
 AllMild U acts lines = AllByRecursion (λ (l : Line). LineMild U acts l.body) lines
 
-mild_both : (U : Uid → Type 0) (acts : List Act) (xs ys : List Line) → AllMild U acts xs → AllMild U acts ys → AllMild U acts (xs ++ ys)
-mild_both U acts [] ys a b = b
-mild_both U acts (x ∷ xs) ys a b = (a.0, mild_both U acts xs ys a.1 b)
-
-quiet_all_mild : (U : Uid → Type 0) (acts : List Act) (e : ℕ) (bs : List Body) → AreQuiet bs → AllMild U acts (numbered e bs)
-quiet_all_mild U acts e [] q = tt
-quiet_all_mild U acts e (b ∷ bs) q = let p = and_parts (is_quiet_line b) (list_all is_quiet_line bs) q in (quiet_mild U acts b p.0, quiet_all_mild U acts e bs p.1)
-
 mild_from : (U : Uid → Type 0) (B : Book) (ls : List Line) → AllMild U B.acts ls → Turns U B (book_from B ls)
 mild_from U B [] all = record { acts = refl; decided = λ x on. inl on }
 mild_from U B (l ∷ ls) all =

@@ -693,9 +693,6 @@ first_asked hd = record { replies = λ p a r i. absurd i; activates = λ p h b s
 
 -- a restart
 module _ (hd : Header) (e k : ℕ) (d : Disk) (M : Seen) (p : WereAsked (down k d M)) where
-  old_lines : Body → Type 0
-  old_lines = IsSaid M.lines
-
   -- where the node is still down, on a later disk
   halts : (c : Disk) → d.inc ≤ c.inc → WereAsked (halted e k c M)
   halts c low = quiet_asked e (body.Halted k ∷ []) (down k c M) (back k c None M (so_more k None M (IsSaid M.lines) (IsSaid M.lines) (λ z s. s) (WasMade (down k d M)) (WasMade (down k c M)) (λ q x b s g w. (w.0, stays q x b g w.1)) (record { its = λ t is. absurd (cc is); others = others_of k d None M p; replies = p.replies; activates = p.activates })) (λ t is. absurd (cc is)))

@@ -3,7 +3,7 @@ use Rattle.std.proofs.Common.{Bool, List, None, Option, Some, [], ap, cond, fals
 use Rattle.arj_law_runs.specs.addresses.Binds.{AnswersAt, AnswersWaiting}
 use Rattle.arj_protocol.specs.Words.{Ask, Asked, Binding, BoundReply, Head, Header, Kind, Label, Message, ObjectState, Path, Uid, asks}
 use Rattle.arj_protocol.specs.Call as calls
-use Rattle.arj_protocol.specs.Call.{At, AtActivate, AtBind, AtInvoke, AtLoad, AtNote, CallEnd, CallStep, Ended, Goal, Include, Known, On, Run, Steps, activated_by, answered, ask_at, bound_by, given_up, live_known, load_from, made_by, made_known, or_lost, other_binding, same_binding, start, with_inc, write_known}
+use Rattle.arj_protocol.specs.Call.{At, AtActivate, AtBind, AtInvoke, AtLoad, AtNote, CallEnd, CallStep, Ended, Goal, Include, Known, On, Run, Steps, activated_by, answered, ask_at, given_up, live_known, load_from, made_by, made_known, or_lost, start, with_inc, write_known}
 use Rattle.arj_protocol.specs.Coord.{Calling, Committing, Coord, Doing, Idle, Now, doing_of, is_free, new_coord, on_doing, on_root}
 use Rattle.arj_protocol.specs.Commit.{Confirming, Machine, Preparing, Voting, ask_of}
 use Rattle.arj_lock.proofs.Members.{In}

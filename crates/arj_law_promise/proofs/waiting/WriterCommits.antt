@@ -13,7 +13,7 @@ use Rattle.arj_protocol.specs.Words.loaded
 use Rattle.arj_protocol.specs.Words.prepared
 use Rattle.arj_protocol.specs.Words.voted
 use Rattle.arj_protocol.specs.Ask.{Reply, actor}
-use Rattle.arj_protocol.specs.Asking.{again_all, asks_machine, begin_action, call, commit_action, commit_open, commit_top, commits_in, gaveup_lines, give_up, give_up_doing, gives_up, heard, heard_by, heard_call, heard_doing, heard_none, heard_now, include, last_req, mark_lines, moved_commit, step_commit, waits_for_call, waits_for_commit}
+use Rattle.arj_protocol.specs.Asking.{asks_machine, begin_action, call, commit_action, commit_open, commit_top, commits_in, gaveup_lines, give_up, give_up_doing, gives_up, heard, heard_by, heard_call, heard_doing, heard_none, heard_now, include, last_req, mark_lines, moved_commit, step_commit, waits_for_call, waits_for_commit}
 use Rattle.arj_protocol.specs.Commit.{Aborts, Asks, CommitStep, Confirming, Decides, Machine, Marked, Plan, Preparing, Stays, Used, Voting, begin_confirm, begin_prepare, begin_vote, has_record, is_empty, marks_store, marks_stores, nodes_given_up, participants, plan_of, servers_of, stores_left, targets_of, votes_left, waiting, with_state, with_states}
 use Rattle.arj_protocol.specs.Commit as commit
 use Rattle.arj_protocol.specs.Coord.{Calling, Committing, Coord, Doing, Idle, Joined, Now, Root, doing_of, on_doing, on_root, plan_for, root_at}
@@ -28,7 +28,7 @@ use Rattle.arj_law_parts.proofs.parts.LivesNamed.{all_put, keyed_put}
 use Rattle.arj_law_disk_view.proofs.running.Lists.{all_each}
 use Rattle.arj_law_disk_view.proofs.view.Planned.{has_set}
 use Rattle.arj_law_promise.specs.waiting.Writers.{CoordIsBy, IsBy, NowIsBy, PlanIsBy, RootIsBy}
-use Rattle.arj_law_promise.proofs.waiting.WriterCoords.{So, again_so, all_so, asked_so, begins_so, call_so, commits_so, ended_so, given_up_so, heard_call_so, include_so, on_do_so, plan_so, root_so}
+use Rattle.arj_law_promise.proofs.waiting.WriterCoords.{So, all_so, asked_so, begins_so, call_so, commits_so, ended_so, given_up_so, heard_call_so, include_so, on_do_so, plan_so, root_so}
 
 -- ---- who is told
 
@@ -336,6 +336,3 @@ module _ (G : Uid → Type 0) where
   acts_so input.Restart intents c so = plainly (record { part = c; outs = [] }) so
   acts_so input.Crash intents c so = plainly (record { part = c; outs = [] }) so
   acts_so (input.Show x) intents c so = plainly (record { part = c; outs = [] }) so
-
-  pub ticks_so : (c : Coord) → So G c → IsTold (again_all c.doings c)
-  ticks_so c so = plainly (again_all c.doings c) (again_so G c.doings c so)

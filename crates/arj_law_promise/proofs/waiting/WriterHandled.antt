@@ -81,9 +81,6 @@ module _ (sent : List Post) (k : ℕ) (d : Disk) (t : Parts) (from : ℕ) (disk 
   both : (es fs : List Effect) → FineBy es → FineBy fs → FineBy (es ++ fs)
   both es fs a b = fine_both P es fs a b
 
-  IsFor : Head → Option Reply → Type 0
-  IsFor h o = IfSome o (ReplyIsBy P (asked_by h))
-
   answered : (h : Head) (v : Parts) (outs : List Effect) (o : Option Reply) → v.coord ≡ t.coord → FineBy outs → IfSome o (ReplyIsBy (IsPastWriter sent) (asked_by h)) → By (sends_answer from h v outs o)
   answered h v outs None same fine of = tt
   answered h v outs (Some r) same fine of = subst (λ c. Leaves c (outs ++ Send from (response (asked_by h) r) ∷ [])) (sym same) (still (outs ++ Send from (response (asked_by h) r) ∷ []) (both outs (Send from (response (asked_by h) r) ∷ []) fine (response_fine P from (asked_by h) r of, tt)))

@@ -36,12 +36,9 @@ use Rattle.arj_law_runs.specs.kept.Worlds.{IsGood, IsGoodOf, IsUp}
 use Rattle.arj_law_runs.proofs.kept.AllRuns.{all_keep}
 use Rattle.arj_law_runs.proofs.kept.Handled.{counted_of, own_of_disk, tops_of_disk}
 use Rattle.arj_law_runs.proofs.kept.Walked.{other_number, same_number}
-use Rattle.arj_law_parts.specs.moves.Keeps.{Holds, Keeps, is_act}
-use Rattle.arj_law_parts.specs.moves.Moves.{Move, world_by}
+use Rattle.arj_law_parts.specs.moves.Keeps.{Keeps, is_act}
 use Rattle.arj_law_parts.specs.moves.Seen.{In, Post, Seen, at, down, given, posted, said, see, up}
 use Rattle.arj_law_parts.specs.moves.Walks.{Up, Walks}
-use Rattle.arj_law_parts.proofs.moves.Happens.{keeps_asked}
-use Rattle.arj_law_parts.proofs.moves.Moving.{moves_asked}
 use Rattle.arj_law_parts.proofs.moves.Together.{walks_both}
 use Rattle.arj_law_runs.proofs.calls.CoordOuts.{acked_so, acts_so, again_so, heard_so, tolds_so}
 use Rattle.arj_law_runs.proofs.calls.WorldVotes.{fits_asked}
@@ -333,6 +330,3 @@ binds_keep hd = record {
 
     both : (e k : ℕ) (outs : List Effect) (v : Parts) (d : Disk) (M : Seen) → Walks IsGood e k outs (Up IsGood k v) d M → Walks BindsAreKnown e k outs (Up BindsAreKnown k v) d M → Walks (λ N. IsGood N × BindsAreKnown N) e k outs (Up (λ N. IsGood N × BindsAreKnown N) k v) d M
     both e k outs v d M a b = walks_both IsGood BindsAreKnown e k outs (Up IsGood k v) (Up BindsAreKnown k v) d M a b
-
-pub runs_bound : (hd : Header) (ms : List Move) → Holds hd BindsAreKnown (world_by hd ms)
-runs_bound hd ms = let h = moves_asked hd AreBound (keeps_asked hd AreBound (binds_keep hd)) ms in record { sent = h.sent; stands = h.stands; holds = let all = h.holds in all.1 }

@@ -27,8 +27,7 @@ use Rattle.arj_law_runs.specs.calls.Bindings.{bindings_made}
 use Rattle.arj_law_runs.specs.calls.Reached.{IsReached}
 use Rattle.arj_law_runs.proofs.calls.MadeLines.{lines_both}
 use Rattle.arj_law_runs.proofs.calls.Reaching.{moves_keep}
-use Rattle.arj_law_runs.proofs.calls.WholeRuns.{runs_reach, runs_vote}
-use Rattle.arj_law_runs.specs.bindings.Scripts.{MovesMakeFew, MovesReach, MovesVote, most_events}
+use Rattle.arj_law_runs.specs.bindings.Scripts.{MovesMakeFew, most_events}
 use Rattle.arj_law_runs.proofs.bindings.CoordBinds.{at_naming}
 use Rattle.arj_law_runs.proofs.bindings.Doings.{HaveLabels, labels_go}
 use Rattle.arj_law_runs.proofs.bindings.Worlds.{cost_at, made, steps_labels, steps_made}
@@ -652,12 +651,6 @@ moves_few hd ms short =
   where
     few : (k m o f : ℕ) → k ≤ most_events → m + 0 ≤ 0 + o + k * most_labels → o ≤ f → f ≤ most_frames → m < 4294967295
     few k m o f short sum less fit = omega (arith, short, sum, less, fit)
-
-pub moves_vote : MovesVote
-moves_vote hd ms short = runs_vote hd ms (moves_few hd ms short)
-
-pub moves_reach : MovesReach
-moves_reach hd ms short = runs_reach hd ms (moves_few hd ms short)
 
 -- so what moves come to is reached
 pub moves_reached : (hd : Header) (ms : List Move) → length ms ≤ most_events → IsReached hd (world_by hd ms)

@@ -9,7 +9,7 @@ use Rattle.arj_protocol.specs.Words.recorded
 use Rattle.arj_protocol.specs.Words.invoked
 use Rattle.arj_protocol.specs.Ask.{Reply}
 use Rattle.arj_protocol.specs.Call as calls
-use Rattle.arj_protocol.specs.Call.{At, AtBind, AtLoad, AtActivate, AtNote, AtInvoke, CallStep, Changed, Ended, Goal, Include, Known, Lost, Moved, On, Run, activated_by, answered, bound_answer, bound_by, finds, live_known, load_from, loaded_answer, loaded_state, made_by, made_known, moves, named_again, or_lost, other_binding, recorded_answer, recorded_kept, same_binding, two_bindings, two_incs, with_inc, write_known}
+use Rattle.arj_protocol.specs.Call.{At, AtBind, AtLoad, AtActivate, AtNote, AtInvoke, CallStep, Changed, Ended, Goal, Include, Known, Lost, Moved, On, Run, activated_by, answered, bound_answer, bound_by, finds, live_known, load_from, loaded_state, made_by, made_known, moves, named_again, or_lost, other_binding, recorded_kept, same_binding, two_bindings, two_incs, with_inc, write_known}
 use Rattle.arj_protocol.specs.Order.{binding_eq, binding_less, binding_number}
 use Rattle.arj_law_runs.specs.calls.Coords.{IsTie, IsTiedAt}
 use Rattle.arj_law_runs.specs.calls.Homes.{Names, NamesIn}

@@ -10,7 +10,7 @@ use Rattle.arj_protocol.specs.Words.invoked
 use Rattle.arj_protocol.specs.Ask.{Reply, actor, reply_kind}
 use Rattle.arj_protocol.specs.Asking.{doomed_by, is_invoke_ask, root_heard}
 use Rattle.arj_protocol.specs.Call as calls
-use Rattle.arj_protocol.specs.Call.{At, AtBind, AtLoad, AtActivate, AtNote, AtInvoke, CallEnd, CallStep, Ended, Goal, Include, Known, Moved, On, Run, Steps, answered, ask_at, given_up, has_changed, next_ask, next_node, start, start_at}
+use Rattle.arj_protocol.specs.Call.{At, AtBind, AtLoad, AtActivate, AtNote, AtInvoke, CallEnd, Ended, Goal, Include, Known, Moved, Run, Steps, answered, ask_at, next_ask, next_node}
 use Rattle.arj_protocol.specs.Commit.{Machine}
 use Rattle.arj_protocol.specs.Coord.{Calling, Committing, Coord, Doing, Idle, Keeping, Now, Root, Said, Went, doing_of, kept_of, no_keeping, no_root, on_doing, on_root, root_at, same_said, same_went, with_keeping, with_said, with_went}
 use Rattle.arj_protocol.specs.Order.{at_number, put_number}

@@ -196,9 +196,6 @@ module _ (acts : List Action) (paths : Paths) (tree : IsTree paths) (sent : List
       who : (q : Plan) → (commit.start plan).step ≡ Decides q → actor q.path ≡ u
       who q is = ap actor (decides_it (commit.start plan).step step_is q is)
 
-  abort_known : KnowsCalls paths sent (ended u ending.Abort c)
-  abort_known = ended_known paths sent u ending.Abort c (aborts_ended u c.tree) (λ is. let no_way : ending.Abort ≡ ending.Commit = is in cc) (λ z s at now. absurd (waits s (ap (λ (y : Doing). y.now) (some_is (sym work ∙ at)) ∙ now))) knows
-
   commit_known : KnowsCalls paths sent (ended u ending.Commit c)
   commit_known = ended_known paths sent u ending.Commit c (λ w a. (stand_ended u ending.Commit c.tree (λ q f. ap (λ (z : Branch). is_some z.ended) (sym (same_branch q f)) ∙ opened)).ends w ending.Abort a) (λ is q f. ap (λ (z : Branch). z.doomed) (sym (same_branch q f)) ∙ sound) (λ z s at now. absurd (waits s (ap (λ (y : Doing). y.now) (some_is (sym work ∙ at)) ∙ now))) knows
 

@@ -31,9 +31,6 @@ use Rattle.arj_law_runs.proofs.calls.ServerCalls.{some_is}
 
 -- ---- an end
 
-pub end_is : {a b : End} → Some a ≡ Some b → a ≡ b
-end_is is = some_is is
-
 pub aborts_ended : (u : Uid) (t : Tree) → KeepsAborts t (ended_at u ending.Abort t)
 aborts_ended u t w d = by (branch_of u t) refl
   where

@@ -8,7 +8,7 @@ use Rattle.arj_protocol.specs.Words.ending
 use Rattle.arj_protocol.specs.Ask.{Reply, actor, ask_kind, asked_by, reply_kind, top_of}
 use Rattle.arj_protocol.specs.Asking.{ends_call, goes_on, granted_by, is_ended, heard_call, keeps_after, kept_at, notes_grant, root_heard, root_lost, step_call, waits_for_call}
 use Rattle.arj_protocol.specs.Call as calls
-use Rattle.arj_protocol.specs.Call.{At, AtBind, AtLoad, AtActivate, AtNote, AtInvoke, CallEnd, CallStep, Ended, Goal, Include, Known, Moved, On, Run, Steps, answered, given_up, has_changed, next_ask, next_node, spoils, start, start_at}
+use Rattle.arj_protocol.specs.Call.{At, AtBind, AtLoad, AtActivate, AtNote, AtInvoke, CallEnd, CallStep, Ended, Goal, Include, Known, Moved, On, Run, Steps, answered, given_up, has_changed, next_ask, next_node, spoils}
 use Rattle.arj_protocol.specs.Coord.{Calling, Coord, Doing, Grant, Idle, Keeping, Root, doing_of, is_call, is_free, keeping_of, kept_of, on_doing, on_root, root_at, with_keeping}
 use Rattle.arj_protocol.specs.Order.{binding_number}
 use Rattle.arj_protocol.specs.Tree.{Tree, branch_of, root_of}

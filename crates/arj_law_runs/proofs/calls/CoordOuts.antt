@@ -8,16 +8,16 @@ use Rattle.arj_protocol.specs.Words.cause
 use Rattle.arj_protocol.specs.Words.ending
 use Rattle.arj_protocol.specs.Words.kind
 use Rattle.arj_protocol.specs.Ask.{Reply, actor}
-use Rattle.arj_protocol.specs.Asking.{again_all, again_now, asks_all, asks_node, begin_action, call, call_steps, commit_action, commit_open, commit_top, gaveup_lines, give_up, give_up_doing, gives_up, heard, heard_by, heard_call, heard_doing, heard_none, heard_now, include, kept_at, last_req, moved_commit, next_req, renewed, root_lost, root_moved, step_call, waits_for_call, waits_for_commit}
+use Rattle.arj_protocol.specs.Asking.{again_all, again_now, asks_all, asks_node, call, call_steps, commit_action, commit_open, commit_top, gaveup_lines, give_up, give_up_doing, gives_up, heard, heard_by, heard_call, heard_doing, heard_none, heard_now, include, kept_at, last_req, moved_commit, next_req, renewed, root_lost, root_moved, step_call, waits_for_call, waits_for_commit}
 use Rattle.arj_protocol.specs.Call as calls
-use Rattle.arj_protocol.specs.Call.{Moved, Steps, answered, given_up, next_ask, next_node, start}
+use Rattle.arj_protocol.specs.Call.{Moved, Steps, answered, given_up, next_node, start}
 use Rattle.arj_protocol.specs.Commit as commit
 use Rattle.arj_protocol.specs.Commit.{Aborts, Asks, CommitStep, Decides, Machine, Plan, Stays, nodes_given_up, plan_of, servers_of}
 use Rattle.arj_protocol.specs.Coord.{Calling, Committing, Coord, Doing, Idle, Now, doing_of, is_free, keeping_of, on_root, plan_for, root_at, with_keeping}
 use Rattle.arj_protocol.specs.Effect.{Did, Intent, Served}
 use Rattle.arj_protocol.specs.Ending.{abort_action, aborts_with, acked, acked_by, acked_left, all_aborted, answer_decided, answer_query, answer_recorded, ended, ends_with, is_deferred, is_kept_commit, let_go, root_or_self, says, tell, tell_all, tolds_let_go, tolds_of}
 use Rattle.arj_protocol.specs.Order.{at_uid, has, unbound, without_number, without_uid}
-use Rattle.arj_protocol.specs.Step.{Input, acts, branch_named, on_branch, parent_of, refusal_up, tolds_again}
+use Rattle.arj_protocol.specs.Step.{Input, acts, branch_named, on_branch, tolds_again}
 use Rattle.arj_protocol.specs.Step as input
 use Rattle.arj_protocol.specs.Tree.{Branch, at_place, branch_of, ends_of, is_open, open_below, root_of, uses_object}
 use Rattle.arj_law_parts.specs.parts.Actions.{Action}
@@ -94,9 +94,6 @@ quiet_again telling = quiet_flat (λ (z : Uid × Intent). tell_all z.1.root true
 
 pub tolds_so : (e : Coord) (telling : List (Uid × Intent)) → AllSo e (tolds_again telling)
 tolds_so e telling = quiet_so e (tolds_again telling) (quiet_again telling)
-
-pub begins_so : (l : Label) (k : Kind) (parent : Option Label) (c : Coord) → AllSo (begin_action l k parent (parent_of parent c) c).part (begin_action l k parent (parent_of parent c) c).outs
-begins_so l k parent c = (tt, tt)
 
 -- ---- answers and inputs
 

@@ -14,7 +14,7 @@ use Rattle.arj_protocol.specs.Ask.{Reply, actor, answers}
 use Rattle.arj_protocol.specs.Asking.{asks_all, asks_node, call, commits_in, gaveup_lines, goes_on, mark_lines, moved_commit, step_call, step_commit, end_line}
 use Rattle.arj_protocol.specs.Call.{At, AtBind, AtLoad, AtActivate, AtNote, AtInvoke, CallStep, Ended, Goal, On, Steps, ask_at, next_ask, next_node}
 use Rattle.arj_protocol.specs.Commit as commit
-use Rattle.arj_protocol.specs.Commit.{Aborts, Asks, CommitStep, Decides, Machine, Marked, Plan, Stays, ask_of, confirm_ask, has_record, participants, plan_of, states_for, vote_ask, waiting, Voting, Preparing, Confirming}
+use Rattle.arj_protocol.specs.Commit.{Aborts, Asks, CommitStep, Decides, Machine, Marked, Plan, Stays, ask_of, has_record, participants, plan_of, waiting, Voting, Preparing, Confirming}
 use Rattle.arj_protocol.specs.Coord.{Calling, Committing, Coord, Doing, Idle, doing_of}
 use Rattle.arj_protocol.specs.Effect.{Do, Effect, Intent, PutIntent, Say, Send}
 use Rattle.arj_protocol.specs.Ending.{aborts_with, decide, decided_told, ended, ends_with, record_work, say_for, says, tell, tell_all, tolds_by, tolds_of, tolds_of_branch, up_to}

@@ -7,9 +7,9 @@ use Rattle.arj_protocol.specs.Words.ending
 use Rattle.arj_protocol.specs.Ask.{actor, top_of}
 use Rattle.arj_protocol.specs.Asking.{again_all, again_now, asks_all, asks_node, call, call_steps, goes_on, include, is_invoke_ask, known_at_start, last_req, next_req, renewed, was_named}
 use Rattle.arj_protocol.specs.Call as calls
-use Rattle.arj_protocol.specs.Call.{At, AtBind, AtInvoke, Known, Run, Steps, start, start_at}
+use Rattle.arj_protocol.specs.Call.{Known, Steps, start, start_at}
 use Rattle.arj_protocol.specs.Commit as commit
-use Rattle.arj_protocol.specs.Commit.{Machine, plan_of}
+use Rattle.arj_protocol.specs.Commit.{plan_of}
 use Rattle.arj_protocol.specs.Coord.{Calling, Committing, Coord, Doing, Idle, Keeping, Now, Root, Went, doing_of, is_free, keeping_of, kept_of, no_root, on_root, retains, root_at, with_keeping, with_went}
 use Rattle.arj_protocol.specs.Effect.{Intent}
 use Rattle.arj_protocol.specs.Order.{at_number, put_number, unbound}

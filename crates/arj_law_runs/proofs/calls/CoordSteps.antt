@@ -10,7 +10,6 @@ use Rattle.arj_protocol.specs.Ask.{actor}
 use Rattle.arj_protocol.specs.Call.{Known, Steps, AtBind, AtLoad, AtActivate, AtNote, AtInvoke, At}
 use Rattle.arj_protocol.specs.Commit.{Machine}
 use Rattle.arj_protocol.specs.Coord.{Calling, Committing, Coord, Doing, Root, Said, change_doing, doing_of, is_call, kept_of, no_root, on_doing, on_root, root_at, set_doing}
-use Rattle.arj_protocol.specs.Effect.{Intent}
 use Rattle.arj_protocol.specs.Order.{at_number, put_number, binding_number}
 use Rattle.arj_protocol.specs.Tree.{Tree, at_place, is_own, root_of}
 use Rattle.arj_protocol.proofs.Maps.{put_same as put_number_same, put_other as put_number_other}
@@ -145,9 +144,6 @@ module _ (t : Tree) (u : Uid) where
 
   pub goes_tree : (c : Coord) (v : Tree) → v.node ≡ c.tree.node → ((w : Uid) → is_own w v ≡ is_own w c.tree) → Goes t u c (record c { tree = v })
   goes_tree c v node own = goes_by c (record c { tree = v }) node own (λ w other. λ i. cond (own w i) (at_place w.num c.doings) None) refl
-
-  pub goes_telling : (c : Coord) (telling : List (Uid × Intent)) → Goes t u c (record c { telling = telling })
-  goes_telling c telling = goes_by c (record c { telling = telling }) refl (λ w. refl) (λ w other. refl) refl
 
   pub goes_work : (f : Doing → Doing) (c : Coord) → Goes t u c (on_doing u f c)
   goes_work f c = by (doing_of u c) refl

@@ -20,7 +20,6 @@ use Rattle.arj_protocol.specs.Node.{Handled, Parts, Took, Void, ack_told, by_rep
 use Rattle.arj_protocol.specs.Order.{at_number, binding_number}
 use Rattle.arj_protocol.specs.Says.{AreAll, is_naming_effect, is_server_effect}
 use Rattle.arj_protocol.specs.Server as server
-use Rattle.arj_protocol.specs.Server.{Server}
 use Rattle.arj_protocol.proofs.PartSays.{activate_own, bind_own, confirm_own, ends_own, invoke_own, note_own, told_own, vote_own}
 use Rattle.arj_law_parts.specs.parts.Claims.{AreTrue}
 use Rattle.arj_law_parts.specs.parts.Lives.{AllName, FitsCall, Homes, IsNamingSo, IsPastZero, IsReached, KnowsServers, NamesAsked, NamesReply, Reach, home_of}

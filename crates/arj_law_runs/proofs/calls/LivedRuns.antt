@@ -20,7 +20,7 @@ use Rattle.arj_protocol.specs.Naming.{Naming, listed_entry}
 use Rattle.arj_protocol.specs.Node.{Handled, Parts, Took, answer_is_meant, asked_is_meant, handle, holders, is_loaded_for, is_loaded_in, is_meant, prepared_actions, query_about, reply_is_meant, with_coord}
 use Rattle.arj_protocol.specs.Tree.{is_own}
 use Rattle.arj_protocol.specs.Order.{at_number, binding_number, uid_set, without_number}
-use Rattle.arj_protocol.specs.Step.{Input, Node, acts, first_disk, first_node, hello_to, naming_at, naming_back, numbers_to, parent_of, parts_in, recovered_records, refusal_up, restart_outs, tolds_again}
+use Rattle.arj_protocol.specs.Step.{Input, Node, acts, first_disk, hello_to, naming_at, naming_back, numbers_to, parent_of, parts_in, recovered_records, refusal_up, restart_outs, tolds_again}
 use Rattle.arj_protocol.specs.Step as input
 use Rattle.arj_protocol.specs.World.{Labelled, format, is_serial_kind}
 use Rattle.arj_law_parts.specs.parts.Actions.{paths_of}
@@ -42,7 +42,7 @@ use Rattle.arj_law_runs.proofs.kept.Starts.{first_at}
 use Rattle.arj_law_runs.proofs.kept.Walked.{other_number, same_number}
 use Rattle.arj_law_parts.specs.moves.Keeps.{DidKeeps, is_act}
 use Rattle.arj_law_parts.specs.moves.Seen as seen
-use Rattle.arj_law_parts.specs.moves.Seen.{In, Post, Seen, at, down, said, see, up}
+use Rattle.arj_law_parts.specs.moves.Seen.{In, Seen, at, down, said, see, up}
 use Rattle.arj_law_parts.specs.moves.Walks.{Up, Walks, halted}
 use Rattle.arj_law_parts.proofs.moves.Together.{walks_to}
 use Rattle.arj_law_runs.specs.calls.Coords.{IsCounted, IsOfStep, KnowsCalls, bare}

@@ -3,7 +3,7 @@ use Rattle.std.proofs.Common.{◌≡◌, ◌⊎◌, ◌<◌, ◌==◌, ◌||◌,
 use Rattle.std.specs.Prelude.{is_some, not, min, length}
 use Rattle.arj_base.proofs.Uids.{uid_cases, uid_is}
 use Rattle.arj_lock.proofs.Members as list
-use Rattle.arj_lock.proofs.Members.{in_filter, in_find, in_to}
+use Rattle.arj_lock.proofs.Members.{in_filter}
 use Rattle.arj_protocol.specs.Words.{Uid, Binding, Path, Head, End, Op, Value, Asked, ObjectState, What, InvokedReply, VotedReply, front, last_uid, is_on, uid_eq}
 use Rattle.arj_protocol.specs.Words.ending
 use Rattle.arj_protocol.specs.Ask.{actor, asked_by}
@@ -62,9 +62,6 @@ copy_on s t g x n c at low =
     let q = g.there x c at in
     let f = g.follows in
     (q.0, q.1, not_lower (binding_number c.binding) (binding_number (let z = q.0 in z.binding)) n ((λ i. binding_less (binding_of (sym q.1 i)) (binding_of (sym at i))) ∙ f.bindings x) low)
-
-pub reached_on : (s t : Server) → GoesOn s t → (x : ℕ) (b : Binding) → HasReached x b s → HasReached x b t
-reached_on s t g x b (c, at, low) = copy_on s t g x (binding_number b) c at low
 
 pub itself : (s : Server) → GoesOn s s
 itself s = record { follows = told_itself; kept = λ u k found. inr (k, found, inl refl); there = λ x c at. (c, at) }

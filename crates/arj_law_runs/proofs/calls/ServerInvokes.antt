@@ -220,10 +220,6 @@ module _ (paths : Paths) (tree : IsTree paths) (sent : List Post) (n from : ℕ)
           by true on = absurd (never (on_own h.path) (open_after paths tree n h.path ends s open_is others (actor h.path) on))
           by false off = off
 
-      -- what the server is with this answer
-      abbrev after : Served Server InvokedReply → Server
-      after r = keeps (actor h.path) h.req r.reply r.part
-
       kept_here : (q : InvokedReply) (v : Server) → at_uid (actor h.path) (let z = keeps (actor h.path) h.req (Some q) v in z.kept) ≡ Some (record { req = h.req; answer = q })
       kept_here q v = put_same (actor h.path) (record { req = h.req; answer = q }) v.kept
 

@@ -32,7 +32,7 @@ use Rattle.arj_law_runs.specs.calls.Lived.{AreApart, AreBelow, CountFits, Gifts,
 use Rattle.arj_law_runs.specs.calls.Reached.{Keeping as KeepingIn}
 use Rattle.arj_law_runs.specs.calls.Runs.{AllChangesAreCalled, AllVotesAreUsed, HasHomes, KnowsFew, KnowsRun}
 use Rattle.arj_law_runs.specs.calls.Servers.{HasReached, IsSoUp, Since}
-use Rattle.arj_law_runs.specs.calls.Voting.{RunsCall, RunsReach, RunsVote}
+use Rattle.arj_law_runs.specs.calls.Voting.{RunsCall, RunsVote}
 use Rattle.arj_law_runs.specs.calls.Worlds.{CallsReach}
 use Rattle.arj_law_runs.proofs.calls.CoordSends.{asked_call}
 use Rattle.arj_law_runs.proofs.calls.Given.{KeepsGiven, both_given, given_more, kept_both, keeps_given, while_given}
@@ -257,6 +257,3 @@ runs_vote hd ms few = known_in hd (world_by hd ms) (moves_keep hd ms) few AllVot
 
 pub runs_call : RunsCall
 runs_call hd ms few = known_in hd (world_by hd ms) (moves_keep hd ms) few AllChangesAreCalled (λ M k. changes_in M k.1)
-
-pub runs_reach : RunsReach
-runs_reach hd ms few = known_in hd (world_by hd ms) (moves_keep hd ms) few CallsReach (λ M k. reached_of M k.0)

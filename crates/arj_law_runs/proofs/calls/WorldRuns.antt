@@ -2,7 +2,7 @@
 use Rattle.std.proofs.Common.{zero, suc, ◌≡◌, ◌≢◌, ◌⊎◌, ◌≤◌, ◌<◌, ◌==◌, ◌+◌, ℕ, List, [], ◌∷◌, ◌++◌, Bool, true, false, cond, Option, Some, None, refl, sym, ◌∙◌, ap, subst, inl, inr, arith, map, eqb-true}
 use Rattle.std.proofs.lemmas.Bool.{and_parts}
 use Rattle.arj_lock.proofs.Members as list
-use Rattle.arj_lock.proofs.Members.{in_from, in_to}
+use Rattle.arj_lock.proofs.Members.{in_to}
 use Rattle.arj_protocol.specs.Words.{Uid, Ask, Asked, Body, Head, Header, Kind, Label, Message, ObjectState, asks, is_on, uids_of}
 use Rattle.arj_protocol.specs.Words.body
 use Rattle.arj_protocol.specs.Words.voted

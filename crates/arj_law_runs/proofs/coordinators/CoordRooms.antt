@@ -18,7 +18,7 @@ use Rattle.arj_protocol.specs.Ask.{Reply, actor}
 use Rattle.arj_protocol.specs.Asking.{again_all, again_now, asks_all, asks_node, begin_action, call, call_steps, commit_action, commit_open, commit_top, commits_in, doomed_by, ends_call, give_up, give_up_doing, gives_up, goes_on, heard, heard_by, heard_call, heard_doing, heard_none, heard_now, include, kept_at, last_req, moved_commit, next_req, renewed, root_heard, root_lost, root_moved, step_call, step_commit, waits_for_call, waits_for_commit}
 use Rattle.arj_protocol.specs.Call.{Answered, CallEnd, CallStep, Changed, Conflict, Ended, Included, Lost, On, Steps, answered, given_up, start}
 use Rattle.arj_protocol.specs.Call as calls
-use Rattle.arj_protocol.specs.Commit.{Aborts, Asks, CommitStep, Decides, Machine, Plan, Stays, has_record, participants, plan_of, servers_of}
+use Rattle.arj_protocol.specs.Commit.{Aborts, Asks, CommitStep, Decides, Plan, Stays, has_record, participants, plan_of, servers_of}
 use Rattle.arj_protocol.specs.Commit as commit
 use Rattle.arj_protocol.specs.Coord.{Calling, Committing, Coord, Doing, Idle, Now, doing_of, is_free, keeping_of, on_doing, on_root, plan_for, root_at, with_keeping}
 use Rattle.arj_protocol.specs.Effect.{Intent, Served}

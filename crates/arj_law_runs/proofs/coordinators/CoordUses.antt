@@ -14,7 +14,7 @@ use Rattle.arj_law_parts.proofs.parts.Settled.{doing_other, doing_put, end_tree_
 use Rattle.arj_protocol.proofs.Maps.{put_other, put_same}
 use Rattle.arj_protocol.specs.Ask.{Reply, actor}
 use Rattle.arj_protocol.specs.Asking.{call, call_steps, doomed_by, ends_call, goes_on, granted_by, include, is_invoke_ask, next_req, notes_grant, renewed, root_heard, root_moved, step_call}
-use Rattle.arj_protocol.specs.Call.{Answered, CallEnd, CallStep, Changed, Conflict, Ended, Included, Lost, Moved, On, Steps, answered, next_ask, next_node, start}
+use Rattle.arj_protocol.specs.Call.{Answered, CallEnd, CallStep, Changed, Conflict, Ended, Included, Lost, Moved, On, Steps, next_ask, next_node, start}
 use Rattle.arj_protocol.specs.Call as calls
 use Rattle.arj_protocol.specs.Commit.{Machine, plan_of}
 use Rattle.arj_protocol.specs.Coord.{Calling, Committing, Coord, Doing, Grant, Idle, Joined, Now, Root, Said, Went, change_doing, doing_of, is_free, joined_with, keeping_of, later_state, no_root, on_doing, on_root, root_at, same_join, same_said, same_went, set_doing, with_join, with_keeping, with_said, with_went}

@@ -7,7 +7,7 @@ use Rattle.arj_law_parts.proofs.parts.GoodTrees.{get_more, grown_cases, grown_st
 use Rattle.arj_law_parts.proofs.parts.TrueSteps.{work_there}
 use Rattle.arj_protocol.specs.Asking.{again_all, again_now, begin_action}
 use Rattle.arj_protocol.specs.Call.{next_ask, next_node}
-use Rattle.arj_protocol.specs.Commit.{Machine, plan_of}
+use Rattle.arj_protocol.specs.Commit.{plan_of}
 use Rattle.arj_protocol.specs.Commit as commit
 use Rattle.arj_protocol.specs.Coord.{Calling, Committing, Coord, Doing, Idle, Now, doing_of, new_coord, no_root}
 use Rattle.arj_protocol.specs.Effect.{Intent}

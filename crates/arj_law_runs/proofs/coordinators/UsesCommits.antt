@@ -30,7 +30,7 @@ use Rattle.arj_protocol.specs.Call.{answered, given_up}
 use Rattle.arj_protocol.specs.Effect.{Intent, Served}
 use Rattle.arj_protocol.specs.Step as input
 use Rattle.arj_protocol.specs.Step.{Input, acts as acts_of, branch_named, commit_reasons, on_branch, refusal_up, refused_by}
-use Rattle.arj_protocol.specs.Commit.{Aborts, Asks, CommitStep, Confirming, Decides, Machine, Plan, Preparing, Stays, Used, Voting, begin_confirm, begin_prepare, begin_vote, confirmed_by, has_record, marks_store, marks_stores, participants, plan_of, prepared_by, servers_of, stores_left, targets_of, voted_by, votes_left}
+use Rattle.arj_protocol.specs.Commit.{Aborts, Asks, CommitStep, Confirming, Decides, Machine, Plan, Preparing, Stays, Used, Voting, begin_confirm, begin_prepare, begin_vote, has_record, marks_store, marks_stores, participants, plan_of, servers_of, stores_left, targets_of, votes_left}
 use Rattle.arj_protocol.specs.Commit as commit
 use Rattle.arj_protocol.specs.Coord.{Calling, Committing, Coord, Doing, Idle, Joined, Now, Root, Said, Went, counts, doing_of, is_free, is_retained, joined_in, no_root, objects_in, on_doing, on_root, plan_for, root_at, said_in, used_of, with_went}
 use Rattle.arj_protocol.specs.Ending.{abort_action, aborts_with, all_aborted, decide, ended, root_after}

@@ -8,7 +8,7 @@ use Rattle.arj_protocol.specs.Words.{End, Kind, Uid, uid_eq}
 use Rattle.arj_protocol.specs.Words.ending
 use Rattle.arj_protocol.specs.Words.kind
 use Rattle.arj_protocol.specs.Asking.{again_all, again_now}
-use Rattle.arj_protocol.specs.Commit.{Aborts, Asks, CommitStep, Confirming, Decides, Machine, Plan, Preparing, Stays, Voting, ask_of, has_record, left_of, nodes_given_up, participants, plan_of, servers_of}
+use Rattle.arj_protocol.specs.Commit.{Machine, plan_of}
 use Rattle.arj_protocol.specs.Commit as commit
 use Rattle.arj_protocol.specs.Coord.{Calling, Committing, Coord, Doing, Idle, Now, doing_of, is_constituent_branch, is_kept_top}
 use Rattle.arj_protocol.specs.Effect.{Effect, Intent, RemoveIntent, Do, Served}

@@ -10,10 +10,10 @@ use Rattle.arj_protocol.specs.Words.ending
 use Rattle.arj_protocol.specs.Words.message
 use Rattle.arj_protocol.specs.Ask.{Reply, response}
 use Rattle.arj_protocol.specs.Coord.{Coord, Doing, doing_of}
-use Rattle.arj_protocol.specs.Effect.{Effect, Say, Send, Do, Look, PutInc, Prepare, Commit, Abort, PutIntent, RemoveIntent, Intent}
+use Rattle.arj_protocol.specs.Effect.{Effect, Say, Send, Do, Look, PutInc, Prepare, Commit, Abort, PutIntent, RemoveIntent}
 use Rattle.arj_protocol.specs.Ending.{say_for, says, tell, tell_all}
 use Rattle.arj_law_runs.specs.journal.Book.{Book, turned}
-use Rattle.arj_law_runs.specs.journal.Knows.{AreIdle, AreLate, AreLined, AreSaid, Calls, Claims, EachRecord, HasBranch, IsIdle, IsLined, Knows, Puts, after, decides, turned_by}
+use Rattle.arj_law_runs.specs.journal.Knows.{AreIdle, AreLate, AreLined, AreSaid, Calls, Claims, HasBranch, IsIdle, IsLined, Knows, Puts, after, decides, turned_by}
 use Rattle.arj_law_runs.specs.journal.Right.{IsSaid}
 use Rattle.arj_law_runs.proofs.journal.Books.{Later, decided_later, later_on, later_same, later_turn}
 
@@ -46,9 +46,6 @@ are_later B V l ends all = all_to (λ (e : Uid × End). IsSaid B e.0 e.1) (λ (e
 
 pub claims_later : (B V : Book) → Later B V → (m : Message) → Claims B m → Claims V m
 claims_later B V l m c = (are_later B V l (brought m) c.0, are_later B V l (told_by m) c.1)
-
-pub each_to : (P Q : Uid → Type 0) (intents : List (Uid × Intent)) → ((u : Uid) → P u → Q u) → EachRecord P intents → EachRecord Q intents
-each_to P Q intents to each u i there = to u (each u i there)
 
 -- a request brings its ends
 pub request_claims : (B : Book) (h : Head) (a : Ask) → AreSaid B (ask_ends a) → Claims B (request h a)

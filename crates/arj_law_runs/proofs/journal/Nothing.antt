@@ -1,32 +1,26 @@
 -- By the journal nothing survives of an idle top; and the laws of what begins and ends, in the words of `arj_model`.
-use Rattle.std.proofs.Common.{◌≡◌, ◌≢◌, ◌⊎◌, ◌++◌, length, ◌==◌, ◌&&◌, ◌||◌, ℕ, List, [], ◌∷◌, filter, Bool, true, false, cond, Option, Some, None, refl, sym, ◌∙◌, ap, subst, inl, inr, ⊎_elim, Contains, arith, eqb-true}
-use Rattle.std.specs.Option.{option_map}
+use Rattle.std.proofs.Common.{◌≡◌, ◌≢◌, ◌⊎◌, ◌++◌, ◌==◌, ◌&&◌, ◌||◌, ℕ, List, [], ◌∷◌, filter, Bool, true, false, cond, Option, Some, None, refl, sym, ◌∙◌, ap, subst, inl, inr, ⊎_elim, Contains, arith, eqb-true}
 use Rattle.std.specs.List.{cons_option, filter_map, list_all, list_any}
 use Rattle.std.proofs.lemmas.Bool.{or_cases}
 use Rattle.arj_base.proofs.Uids.{uid_is, uid_same}
 use Rattle.arj_base.specs.Rows.{is_on}
 use Rattle.arj_base.specs.Uid.{uid_eq}
 use Rattle.arj_base.specs.declared.uid.Uid.{Uid}
-use Rattle.arj_journal.specs.declared.body.Body.TheVariants as body
 use Rattle.arj_journal.specs.declared.body.Line.{Line}
-use Rattle.arj_journal.specs.declared.body.Kind.{Kind}
-use Rattle.arj_text.specs.declared.label.Label.{Label}
 use Rattle.arj_lock.proofs.Members.{In, in_filter, in_filter_map, in_from, in_to}
-use Rattle.arj_model.specs.Actions.{Act, Placed, act_in, acts, acts_after, behind_first, chain_in, committed, has_end, is_serial, path, recovered, top_in, uids}
+use Rattle.arj_model.specs.Actions.{Act, Placed, acts, behind_first, chain_in, committed, has_end, is_serial, path, recovered, top_in, uids}
 use Rattle.arj_model.specs.Calls.{Call, Said, call_of, ids, made_by, made_in, said, said_of, surviving}
 use Rattle.arj_model.specs.Last.{Inclusion, included, included_of, joins_by, joins_of}
 use Rattle.arj_protocol.specs.Tree.{behind}
-use Rattle.arj_text.specs.Label.{name}
-use Rattle.arj_law_runs.specs.journal.Book.{Access, Book, book, is_over, new_book, turned}
-use Rattle.arj_law_runs.specs.journal.Idle.{BeginningsAreTimely, BelowCommitsIsOver, HasNothing, IsIdle, NothingGoesOnBelow}
-use Rattle.arj_law_runs.specs.journal.Laws.{IsDone, called}
-use Rattle.arj_law_runs.specs.journal.Right.{AreRight, Right, has_act}
-use Rattle.arj_law_runs.proofs.journal.Books.{Sane, never, or_which}
-use Rattle.arj_law_runs.proofs.journal.Closed.{Stands, closes_turn, one_act, stands_lines, stands_new}
+use Rattle.arj_law_runs.specs.journal.Book.{Access, book, new_book}
+use Rattle.arj_law_runs.specs.journal.Idle.{BelowCommitsIsOver, HasNothing, IsIdle}
+use Rattle.arj_law_runs.specs.journal.Laws.{IsDone}
+use Rattle.arj_law_runs.specs.journal.Right.{AreRight}
+use Rattle.arj_law_runs.proofs.journal.Books.{never}
+use Rattle.arj_law_runs.proofs.journal.Closed.{Stands, one_act, stands_lines, stands_new}
 use Rattle.arj_law_runs.proofs.journal.Idles.{included_step, of_access, said_step}
 use Rattle.arj_law_runs.proofs.journal.Likes.{some_is}
-use Rattle.arj_law_runs.proofs.journal.Models.{apart_acts, calls_timely, ended_once, is_book, its_acts, its_call, its_end, its_sound, right_before, timely}
-use Rattle.arj_law_runs.proofs.journal.Owners.{acts_more}
+use Rattle.arj_law_runs.proofs.journal.Models.{apart_acts, is_book, its_acts, its_call, its_end, its_sound}
 use Rattle.arj_law_runs.proofs.journal.Ties.{on_path, on_uids}
 
 -- ---- lists
@@ -203,16 +197,6 @@ idle_has_nothing lines right a there done idle = record { calls = no_calls lines
 
 -- ---- what begins and ends
 
-pub beginnings_timely : (lines : List Line) → AreRight new_book lines → BeginningsAreTimely lines
-beginnings_timely lines right before line behind is l k u p same =
-    let r = right_before new_book before line behind (subst (AreRight new_book) is right) in
-    let h : Right (book before) (body.Began l k u (Some p)) = subst (Right (book before)) same r.1 in
-    let s = h.3.0 in
-    let o = h.3.1 in
-    let named : act_in (acts before) (name p) ≡ Some s = ap (λ xs. act_in xs (name p)) (sym (its_acts before r.0)) ∙ o.named in
-    let t = timely before r.0 false p s.id (s, o, h.3.2) (ap (option_map (λ (x : Act). x.id)) named) in
-    (s, named, t.0, t.1)
-
 pub below_is_over : (lines : List Line) → AreRight new_book lines → BelowCommitsIsOver lines
 below_is_over lines right top a there below is on other =
     let s = stands_lines new_book lines right stands_new in
@@ -220,33 +204,3 @@ below_is_over lines right top a there below is on other =
     let same = its_acts lines right in
     its_end lines right a (in_from a (acts lines) below)
     ∙ c.closed top.uid (sym (its_call lines right top (in_from top (acts lines) there)) ∙ is) a (subst (λ xs. Contains xs a) (sym same) below) (ap (λ xs. is_on (uids (path xs a.label)) top.uid) same ∙ on) other
-
-front_right : (lines before : List Line) (line : Line) (behind_it : List Line) → lines ≡ before ++ line ∷ behind_it → AreRight new_book lines → AreRight new_book before × Right (book before) line.body
-front_right lines before line behind_it is right = right_before new_book before line behind_it (subst (AreRight new_book) is right)
-
-pub nothing_goes_on : (lines : List Line) → AreRight new_book lines → NothingGoesOnBelow lines
-nothing_goes_on lines right = record {
-  ends = λ before line rest is top a there below called_top on other ends. let r = front_right lines before line rest is right in never (below_is_over before r.0 top a there below called_top on other) (ended_once lines right before line rest is a.id ends);
-  answers = λ before line rest is top a there below called_top on other answers. let r = front_right lines before line rest is right in never (below_is_over before r.0 top a there below called_top on other) (calls_timely lines right before line rest is a.id answers).0;
-  begins = λ before line rest is top there called_top l k u p same on.
-      let r = front_right lines before line rest is right in
-      begun_below before line r.0 r.1 top (in_from top (acts before) there) called_top l k u p same on;
-}
-  where
-    known_over : (B : Book) → Sane B → (u : Uid) → is_over B u ≡ true → has_act B.acts u ≡ false → ⊥
-    known_over B sane u over unknown = ⊎_elim (λ on. never (sane.committed u on) unknown) (λ rest. ⊎_elim (λ on. never (sane.aborted u on) unknown) (λ on. never (sane.ended u on) unknown) (or_which (is_on B.aborted u) (is_on B.ended u) rest)) (or_which (is_on B.committed u) (is_on B.aborted u || is_on B.ended u) over)
-
-    begun_below : (before : List Line) (line : Line) → AreRight new_book before → Right (book before) line.body → (top : Act) → In top (acts before) → has_end (called before) top.id ≡ true → (l : Label) (k : Kind) (u : Uid) (p : Option Label) → line.body ≡ body.Began l k u p
-        → is_on (uids (path (acts (before ++ line ∷ [])) (name l))) top.uid ≡ true → ⊥
-    begun_below before line its now top there called_top l k u p same on =
-        let B = book before in
-        let s = stands_lines new_book before its stands_new in
-        let sane = s.sane in
-        let r : Right B (body.Began l k u p) = subst (Right B) same now in
-        let V = turned B (body.Began l k u p) in
-        let c = closes_turn B (body.Began l k u p) r sane s.sound s.closes in
-        let new : Act = record { id = length B.acts; label = name l; kind = k; uid = u; parent = option_map name p } in
-        let acts_are : acts (before ++ line ∷ []) ≡ V.acts = acts_more [] before (line ∷ []) ∙ ap (λ b. acts_after (acts before) b) same ∙ ap (λ xs. acts_after xs (body.Began l k u p)) (sym (its_acts before its)) in
-        let is_called : is_on B.called top.uid ≡ true = sym (its_call before its top there) ∙ called_top in
-        let apart : u ≢ top.uid = λ e. never (sane.called u (ap (is_on B.called) e ∙ is_called)) r.1 in
-        known_over B sane u (c.closed top.uid is_called new (in_to new V.acts (inl refl)) (ap (λ xs. is_on (uids (path xs (name l))) top.uid) (sym acts_are) ∙ on) apart) r.1

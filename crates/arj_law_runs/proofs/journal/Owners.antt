@@ -1,61 +1,32 @@
 -- Who is decided began, and each action has its node.
-use Rattle.std.proofs.Common.{◌≡◌, ◌≤◌, arith, ℕ, List, [], ◌∷◌, ◌++◌, Bool, true, false, cond, length, Option, Some, None, is_some, refl, sym, ◌∙◌, ap, subst, inl, inr, ⊎_elim}
-use Rattle.std.specs.Prelude.{option_map}
+use Rattle.std.proofs.Common.{◌≡◌, ◌≤◌, arith, ℕ, List, [], ◌∷◌, ◌++◌, Bool, true, false, cond, length, Option, Some, None, is_some, refl, sym, ◌∙◌, subst, inl, inr, ⊎_elim}
 use Rattle.std.specs.List.{AllByRecursion}
-use Rattle.arj_base.specs.Rows.{is_on}
 use Rattle.std.specs.BTreeMap.{is_at}
-use Rattle.arj_journal.specs.declared.body.Body.{Body}
 use Rattle.arj_journal.specs.declared.body.Body.TheVariants as body
 use Rattle.arj_journal.specs.declared.body.Line.{Line}
-use Rattle.arj_lock.proofs.Members.{In, in_from, in_to}
-use Rattle.arj_model.specs.Actions.{Act, act_in, acts, acts_after, acts_from}
+use Rattle.arj_lock.proofs.Members.{In, in_from}
+use Rattle.arj_model.specs.Actions.{Act, acts, acts_after, acts_from}
 use Rattle.arj_law_parts.specs.parts.Actions.{IsCounted}
-use Rattle.arj_protocol.proofs.Numbers.{number_tells}
 use Rattle.arj_protocol.specs.Node.{Parts}
 use Rattle.arj_protocol.specs.Tree.{at_place}
-use Rattle.arj_protocol.specs.Words.{Header, Label, label_cmp, name}
+use Rattle.arj_protocol.specs.Words.{Header, Label, label_cmp}
 use Rattle.arj_protocol.specs.World.{Labelled, World}
 use Rattle.arj_law_parts.specs.moves.Keeps.{label_at}
 use Rattle.arj_law_parts.specs.moves.Seen.{see}
 use Rattle.arj_law_runs.specs.calls.Reached.{Keeping}
 use Rattle.arj_law_runs.proofs.calls.Reaching.{kept_holds}
-use Rattle.arj_law_runs.specs.journal.Book.{Book, book, new_book}
+use Rattle.arj_law_runs.specs.journal.Book.{Book, book}
 use Rattle.arj_law_runs.specs.journal.Knows.{IsGiven, IsKept, IsWritten, Remembers}
-use Rattle.arj_law_runs.specs.journal.Right.{AreRight, Right}
-use Rattle.arj_law_runs.specs.journal.Whose.{HasOwners, HaveNodes, IsOfBegun}
-use Rattle.arj_law_runs.proofs.journal.Closed.{one_act, stands_lines, stands_new}
-use Rattle.arj_law_runs.proofs.journal.Models.{act_there, in_later, its_acts, its_sound, named_in, right_before}
+use Rattle.arj_law_runs.specs.journal.Whose.{HaveNodes}
+use Rattle.arj_law_runs.proofs.journal.Models.{its_acts}
 use Rattle.arj_law_runs.proofs.journal.Runs.{lines_keep}
 
 -- ---- a journal
-
-of_begun : (before : List Line) → AreRight new_book before → (b : Body) → Right (book before) b → IsOfBegun before b
-of_begun before right (body.Committed l) (s, opened, plain, called) =
-    let named : act_in (acts before) (name l) ≡ Some s = ap (λ xs. act_in xs (name l)) (sym (its_acts before right)) ∙ opened.named in
-    (s, in_to s (acts before) (named_in (acts before) (name l) s named), named)
-of_begun before right (body.Recovered n u) found =
-    let s = stands_lines new_book before right stands_new in
-    let sane = s.sane in
-    let c = s.closes in
-    let a = act_there (let B = book before in B.acts) u (sane.called u found.called) in
-    (a.0, in_to a.0 (acts before) (subst (In a.0) (its_acts before right) a.1), a.2, found.here, c.calls a.0 a.1 (ap (λ w. let B = book before in is_on B.called w) a.2 ∙ found.called))
-of_begun before right b r = tt
 
 -- what began is there behind its line, and behind more
 pub acts_more : (acts_now : List Act) (before more : List Line) → acts_from acts_now (before ++ more) ≡ acts_from (acts_from acts_now before) more
 acts_more xs [] more = refl
 acts_more xs (l ∷ ls) more = acts_more (acts_after xs l.body) ls more
-
-pub owners_of : (lines : List Line) → AreRight new_book lines → HasOwners lines
-owners_of lines right = record {
-  decided = λ before line behind is. let r = right_before new_book before line behind (subst (AreRight new_book) is right) in of_begun before r.0 line.body r.1;
-  begun = λ before line behind is l k u p same.
-      let new : Act = record { id = length (acts before); label = name l; kind = k; uid = u; parent = option_map name p } in
-      let here : In new (acts_after (acts before) line.body) = subst (λ b. In new (acts_after (acts before) b)) (sym same) (inl refl) in
-      let there : In new (acts lines) = subst (In new) (sym (ap acts is ∙ acts_more [] before (line ∷ behind))) (in_later behind (acts_after (acts before) line.body) new here) in
-      (new, in_to new (acts lines) there, refl, refl);
-  told = λ a b i j same. let s = its_sound lines right in one_act (acts lines) s.distinct a b (in_from a (acts lines) i) (in_from b (acts lines) j) (number_tells a.uid b.uid same);
-}
 
 -- ---- nodes
 

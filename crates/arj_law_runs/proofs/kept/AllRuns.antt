@@ -1,26 +1,21 @@
 -- What holds of all nodes and messages is kept by each handler.
-use Rattle.std.proofs.Common.{◌≡◌, ℕ, ◌+◌, List, ◌∷◌, Some, subst}
+use Rattle.std.proofs.Common.{◌≡◌, ℕ, ◌+◌, List, ◌∷◌, Some}
 use Rattle.arj_protocol.specs.World.{is_serial_kind}
-use Rattle.arj_protocol.specs.Tree.{at_place, next_uid, path_below}
+use Rattle.arj_protocol.specs.Tree.{next_uid, path_below}
 use Rattle.arj_protocol.specs.Asking.{again_all, begin_action}
 use Rattle.arj_protocol.specs.Effect.{Disk, Effect}
 use Rattle.arj_protocol.specs.Follow.{tick_outs}
-use Rattle.arj_protocol.specs.Step.{Node, acts, parent_of, parts_in, restart_outs}
+use Rattle.arj_protocol.specs.Step.{acts, parent_of, parts_in, restart_outs}
 use Rattle.arj_protocol.specs.Node.{Parts, with_coord}
 use Rattle.arj_protocol.specs.Words.{Header}
-use Rattle.arj_law_parts.specs.parts.Nodes.{IsGoodNode}
-use Rattle.arj_law_parts.specs.parts.Actions.{Action, AreBegun, paths_of}
-use Rattle.arj_law_parts.proofs.parts.Begun.{begun_tree, path_found}
-use Rattle.arj_law_runs.specs.kept.Worlds.{IsGood, IsGoodOf, IsMemory}
+use Rattle.arj_law_parts.specs.parts.Actions.{Action}
+use Rattle.arj_law_runs.specs.kept.Worlds.{IsGood, IsGoodOf}
 use Rattle.arj_law_runs.proofs.kept.Begins.{begin_good}
 use Rattle.arj_law_runs.proofs.kept.Handled.{act_good, message_good, stopped_good, tick_good}
 use Rattle.arj_law_runs.proofs.kept.Starts.{first_good, restart_good}
 use Rattle.arj_law_parts.specs.moves.Keeps.{Keeps}
-use Rattle.arj_law_parts.specs.moves.Moves.{Move, world_by}
 use Rattle.arj_law_parts.specs.moves.Seen.{Seen, given}
 use Rattle.arj_law_parts.specs.moves.Walks.{Walks, Up}
-use Rattle.arj_law_parts.proofs.moves.Happens.{keeps_asked}
-use Rattle.arj_law_parts.proofs.moves.Moving.{moves_asked}
 use Rattle.arj_law_parts.proofs.moves.Together.{walks_to}
 
 -- with the actions begun so far it holds of some actions
@@ -40,13 +35,3 @@ all_keep hd = record {
   restart = λ e k d M good. some_acts good.0 e k (restart_outs hd k (d.inc + 1) d) (parts_in k (d.inc + 1) d) d M (restart_good hd e k d M good);
   first = first_good hd;
 }
-
--- in each run a node that is up is good, with all actions that were begun
-pub nodes_good : (hd : Header) (ms : List Move) (k : ℕ) (n : Node) (t : Parts) → at_place k (let w = world_by hd ms in w.nodes) ≡ Some n → n.live ≡ Some t → (acts : List Action) × AreBegun acts × IsGoodNode acts (paths_of acts) t
-nodes_good hd ms k n t is up =
-    let h = moves_asked hd IsGood (keeps_asked hd IsGood (all_keep hd)) ms in
-    let good = h.holds in
-    let w = good.1 in
-    let p = w.places k n is in
-    let u = subst (IsMemory good.0 h.sent (let v = world_by hd ms in v.labels) k n.disk.inc) up p.memory in
-    (good.0, w.begun, u.good (paths_of good.0) (begun_tree good.0 w.begun) (path_found good.0 w.begun))

@@ -22,7 +22,7 @@ use Rattle.arj_protocol.specs.World.{Labelled}
 use Rattle.arj_law_parts.specs.parts.AskedObjects.{KnowsObjects}
 use Rattle.arj_law_parts.specs.parts.Requests.{AreNumbered}
 use Rattle.arj_law_parts.specs.parts.Ends.{AllSayEnds, AreOfCommits, Decides, IsSure, IsSurelyHandled, SaysEndsIn, told_by}
-use Rattle.arj_law_parts.specs.parts.Actions.{Action, Agree, AreBegun, AreCounted, paths_of}
+use Rattle.arj_law_parts.specs.parts.Actions.{Agree, AreBegun, AreCounted, paths_of}
 use Rattle.arj_law_parts.specs.parts.Claims.{GoesOn, AreOfNode}
 use Rattle.arj_law_parts.specs.parts.Coords.{IsGoodCoord}
 use Rattle.arj_law_parts.specs.parts.Copies.{Paths, IsTree}
@@ -84,9 +84,6 @@ commit_seals (message.Confirmed m) u c = none_in u ending.Commit c
 -- ---- what holds of one node
 
 module _ (k : ℕ) (d : Disk) (live : Option Parts) (M : Seen) (good : IsGood (at k d live M)) where
-  abbrev pub its_acts : List Action
-  its_acts = good.0
-
   abbrev its : IsGoodWorld good.0 M.sent M.labels (let S = at k d live M in S.nodes)
   its = good.1
 

@@ -25,7 +25,7 @@ use Rattle.arj_protocol.specs.Effect.{Did, Effect, Intent, Say, Served}
 use Rattle.arj_protocol.specs.Ending.{abort_action, aborts_with, all_aborted, decide, decided_told, ended, record_work, root_after, say_for, says, tolds_of}
 use Rattle.arj_protocol.specs.Order.{has, put_uid, unbound}
 use Rattle.arj_protocol.specs.Step as input
-use Rattle.arj_protocol.specs.Step.{Input, acts, branch_named, first_reason, is_waiting, is_waiting_now, on_branch, parent_of, refusal_up, waits, waits_above}
+use Rattle.arj_protocol.specs.Step.{Input, acts, branch_named, first_reason, is_waiting, is_waiting_now, on_branch, refusal_up, waits, waits_above}
 use Rattle.arj_protocol.specs.Tree.{Branch, at_place, ended_at, is_own, open_below, root_of, uses_object}
 use Rattle.arj_law_parts.specs.moves.Keeps.{is_act}
 use Rattle.arj_law_runs.specs.resting.Answered.{EndsWait, IsAborted, IsAnswerTo, IsAnswered, IsSameWork}
@@ -186,9 +186,6 @@ module _ (k : ℕ) (l : Label) (u : Uid) (before : Now) where
     where
       f : Doing → Doing
       f d = record d { req = (plan_of m).req; now = Committing m }
-
-  asked_same : (m : Machine) (c : Coord) → doing_of u (step_commit u (Asks m) [] c).part ≡ doing_of u (commits_in u m c)
-  asked_same m c = all_doing (plan_of m).path (plan_of m).req (waiting m) (commits_in u m c) u
 
   decided_other : (p : Plan) (c : Coord) → u ≢ actor p.path → doing_of u (decide p c).part ≡ doing_of u c
   decided_other p c apart = by (commit.has_record p) ∙ other_work (actor p.path) (λ (d : Doing). record d { took = commit.participants p }) (ended (actor p.path) ending.Commit c) u apart ∙ ended_other (actor p.path) ending.Commit c u apart

@@ -28,7 +28,7 @@ use Rattle.arj_protocol.specs.Step as input
 use Rattle.arj_protocol.specs.Step.{Node, Step, acts, branch_named, first_reason, is_waiting_now, step, step_unless, refusal_at}
 use Rattle.arj_protocol.specs.Tree.{Branch, at_place, root_of, set_place, branch_of, is_own}
 use Rattle.arj_protocol.specs.World as world
-use Rattle.arj_protocol.specs.World.{Arm, Asked, World, armed, count_works, counted, cut, disarmed, done_step, format, frames_with, halted_at, halted_outs, is_given, limited, lowest_from, most_frames, node_of, run_event, run_unless, says as world_says, sends, step_node, step_with, steps, labelled}
+use Rattle.arj_protocol.specs.World.{Arm, Asked, World, armed, count_works, counted, cut, disarmed, done_step, frames_with, halted_at, halted_outs, is_given, limited, lowest_from, most_frames, node_of, run_event, run_unless, says as world_says, sends, step_node, step_with, steps, labelled}
 use Rattle.arj_law_runs.specs.kept.Worlds.{IsGood, IsMemory}
 use Rattle.arj_law_parts.specs.moves.Keeps.{Holds, KeepsAsked}
 use Rattle.arj_law_parts.specs.moves.Moves.{Move, all_moved, moved, world_by}

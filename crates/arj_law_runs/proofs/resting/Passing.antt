@@ -34,21 +34,6 @@ same_number n = grind (arith, nat_tests)
 up_coord : (n : ℕ) (d : Disk) (t : Parts) (M : Seen) → coords (up n d t M).nodes n ≡ Some t.coord
 up_coord n d t M = ap (λ b. coord_in (if b then Some (record { number = n; disk = d; live = Some t }) else M.nodes n)) (same_number n)
 
--- a node that is up has its coordinator put in its place
-pub up_put : (n : ℕ) (d : Disk) (t : Parts) (M : Seen) (k : ℕ) → coords (up n d t M).nodes k ≡ put n t.coord (coords M.nodes) k
-up_put n d t M k = by (k == n)
-  where
-    by : (b : Bool) → coord_in (if b then Some (record { number = n; disk = d; live = Some t }) else M.nodes k) ≡ (if b then Some t.coord else coord_in (M.nodes k))
-    by true = refl
-    by false = refl
-
-pub put_over : (n : ℕ) (c e : Coord) (cs : ℕ → Option Coord) (k : ℕ) → put n e cs k ≡ put n e (put n c cs) k
-put_over n c e cs k = by (k == n)
-  where
-    by : (b : Bool) → (if b then Some e else cs k) ≡ (if b then Some e else (if b then Some c else cs k))
-    by true = refl
-    by false = refl
-
 -- only a state is meant for its object alone
 meant_there : (a : Asked) (c : Coord) (r : Reply) → ((st : ObjectState) → is_loaded_for st (doing_of a.act c) ≡ true) → reply_is_meant c a r ≡ true
 meant_there a c (Reply.Loaded (loaded.State st)) each = each st

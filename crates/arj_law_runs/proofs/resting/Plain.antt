@@ -20,9 +20,8 @@ use Rattle.arj_protocol.specs.Node.{Handled, Void, Took, Here, Parts, Ran, ack_t
 use Rattle.arj_protocol.specs.Order.{at_uid, has, with_number, without_number, without_uid}
 use Rattle.arj_protocol.specs.Says.{AreAll, is_naming_effect, is_naming_line, is_server_effect, is_server_line}
 use Rattle.arj_protocol.specs.Server as server
-use Rattle.arj_protocol.specs.Server.{Server}
 use Rattle.arj_protocol.specs.Step as step
-use Rattle.arj_protocol.specs.Step.{Node, Step, Frame, Tick, frame_step, handled_step, node_did, refusal, step_down, step_of, step_unless, tick_step, tolds_again, void_step}
+use Rattle.arj_protocol.specs.Step.{Node, Step, Frame, Tick, frame_step, handled_step, node_did, refusal, step_of, step_unless, tick_step, tolds_again, void_step}
 use Rattle.arj_protocol.specs.Tree.{Branch, branch_of, ends_of, is_open, root_of}
 use Rattle.arj_protocol.specs.Words.{Ask, Asked, Body, Cause, End, Head, Header, Kind, Label, Message, ObjectState, Path, Uid, asks, object, uid_eq}
 use Rattle.arj_protocol.specs.Words.ask

@@ -32,7 +32,7 @@ use Rattle.arj_law_parts.specs.moves.Walks.{Up}
 use Rattle.arj_law_parts.proofs.moves.Happens.{arms_hold, keeps_asked}
 use Rattle.arj_law_parts.proofs.moves.Moving.{moves_asked}
 use Rattle.arj_law_parts.proofs.moves.Together.{walks_both}
-use Rattle.arj_law_runs.specs.resting.Rounds.{AnswersWaits, AreUp, QuiescesAnswer, RunsAnswer, WaitOvertaken}
+use Rattle.arj_law_runs.specs.resting.Rounds.{AnswersWaits, AreUp, WaitOvertaken}
 use Rattle.arj_law_runs.specs.resting.Waits.{AreBrought, Asking, HasWay, IsOvertaken, IsSaid, Want, coord_in, want_of_call, want_of_commit}
 use Rattle.arj_law_runs.proofs.resting.Effects.{works}
 use Rattle.arj_law_runs.proofs.resting.Fits.{runs_few}
@@ -250,9 +250,3 @@ module _ (hd : Header) (R : Seen → Type 0) (keeps : KeepsAsked hd R) (gives : 
 
   pub run_answers : (ms : List Move) (m : Move) → let w = world_by hd ms in m.asked.event ≡ event.Quiesce → w.over ≡ false → (moved m w).over ≡ false → AreUp (moved m w) → WaitOvertaken (moved m w)
   run_answers ms m is over last ups = move_answers m (world_by hd ms) (moves_asked hd P (keeps_good hd R keeps) ms) (runs_few hd ms) is over last ups
-
-pub quiesces_answer : QuiescesAnswer
-quiesces_answer hd test keeps gives e w h few is over last ups = quiesce_answers hd (λ M. test M ≡ true) keeps gives e w h few is over last ups
-
-pub runs_answer : RunsAnswer
-runs_answer hd test keeps gives ms m is over last ups = run_answers hd (λ M. test M ≡ true) keeps gives ms m is over last ups

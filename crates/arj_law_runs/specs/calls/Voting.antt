@@ -5,7 +5,6 @@ use Rattle.arj_law_parts.specs.moves.Keeps.{Holds}
 use Rattle.arj_law_parts.specs.moves.Moves.{Move, journal_by, world_by}
 use Rattle.arj_law_runs.specs.calls.Bindings.{HasFewBindings}
 use Rattle.arj_law_runs.specs.calls.Runs.{AllChangesAreCalled, AllVotesAreUsed}
-use Rattle.arj_law_runs.specs.calls.Worlds.{CallsReach}
 
 -- votes are used in every run in which naming makes few bindings
 abbrev pub RunsVote : Type 0
@@ -14,7 +13,3 @@ RunsVote = (hd : Header) (ms : List Move) → HasFewBindings (journal_by hd ms) 
 -- and what commits have as changed was called in their tops
 abbrev pub RunsCall : Type 0
 RunsCall = (hd : Header) (ms : List Move) → HasFewBindings (journal_by hd ms) → Holds hd AllChangesAreCalled (world_by hd ms)
-
--- and calls name what their servers reached
-abbrev pub RunsReach : Type 0
-RunsReach = (hd : Header) (ms : List Move) → HasFewBindings (journal_by hd ms) → Holds hd CallsReach (world_by hd ms)

@@ -1,20 +1,16 @@
 -- Tops that committed while nobody took part in them, and what is below a top whose commit was called.
-use Rattle.std.specs.Prelude.{◌≡◌, ◌≢◌, ℕ, true, false, List, [], ◌∷◌, ◌++◌, Option, Some, Contains}
+use Rattle.std.specs.Prelude.{◌≡◌, ◌≢◌, ℕ, true, false, List, [], ◌∷◌, ◌++◌, Some, Contains}
 use Rattle.arj_base.specs.Rows.{is_on}
 use Rattle.arj_base.specs.declared.uid.Uid.{Uid}
-use Rattle.arj_journal.specs.declared.body.Body.TheVariants as body
-use Rattle.arj_journal.specs.declared.body.Kind.{Kind}
 use Rattle.arj_journal.specs.declared.body.Line.{Line}
-use Rattle.arj_model.specs.Actions.{Act, act_in, acts, ended, ended_of, has_end, path, uids}
+use Rattle.arj_model.specs.Actions.{Act, acts, ended, has_end, path, uids}
 use Rattle.arj_model.specs.Calls.{surviving}
 use Rattle.arj_model.specs.Last.{joins_of}
 use Rattle.arj_protocol.specs.Coord.{Coord, Doing, doing_of}
 use Rattle.arj_protocol.specs.Tree.{Branch, behind, branch_of}
 use Rattle.arj_protocol.specs.Words.ending
-use Rattle.arj_text.specs.Label.{name}
-use Rattle.arj_text.specs.declared.label.Label.{Label}
 use Rattle.arj_law_runs.specs.journal.Book.{Access, Book, is_top}
-use Rattle.arj_law_runs.specs.journal.Laws.{answered_of, called}
+use Rattle.arj_law_runs.specs.journal.Laws.{called}
 
 -- A top whose commit was called, and of which nothing survives: each access below it was cut off by an abort on its path.
 pub record IsIdle (B : Book) (u : Uid) : Type 0 where
@@ -36,20 +32,6 @@ pub record IsLeftAlone (c : Coord) (u : Uid) : Type 0 where
   pub top : is_top branch.kind ≡ true
   pub took : doing.took ≡ []
 
--- an action begins in one that has no end, and whose commit isn't called
-abbrev pub BeginningsAreTimely : List Line → Type 0
-BeginningsAreTimely lines = (before : List Line) (line : Line) (behind : List Line) → lines ≡ before ++ line ∷ behind → (l : Label) (k : Kind) (u : Uid) (p : Label) → line.body ≡ body.Began l k u (Some p)
-    → (s : Act) × (act_in (acts before) (name p) ≡ Some s) × (has_end (ended before) s.id ≡ false) × (has_end (called before) s.id ≡ false)
-
 -- where the commit of a top was called each action below it has an end
 abbrev pub BelowCommitsIsOver : List Line → Type 0
 BelowCommitsIsOver lines = (top a : Act) → Contains (acts lines) top → Contains (acts lines) a → has_end (called lines) top.id ≡ true → is_on (uids (path (acts lines) a.label)) top.uid ≡ true → a.uid ≢ top.uid → has_end (ended lines) a.id ≡ true
-
--- Behind the call of a top's commit no action below it ends, none is answered a call or an include, and none begins.
-pub record NothingGoesOnBelow (lines : List Line) : Type 0 where
-  pub ends : (before : List Line) (line : Line) (behind : List Line) → lines ≡ before ++ line ∷ behind → (top a : Act) → Contains (acts before) top → Contains (acts before) a → has_end (called before) top.id ≡ true → is_on (uids (path (acts before) a.label)) top.uid ≡ true → a.uid ≢ top.uid
-      → ended_of (acts before) line.body ≡ Some a.id → ⊥
-  pub answers : (before : List Line) (line : Line) (behind : List Line) → lines ≡ before ++ line ∷ behind → (top a : Act) → Contains (acts before) top → Contains (acts before) a → has_end (called before) top.id ≡ true → is_on (uids (path (acts before) a.label)) top.uid ≡ true → a.uid ≢ top.uid
-      → answered_of (acts before) line.body ≡ Some a.id → ⊥
-  pub begins : (before : List Line) (line : Line) (behind : List Line) → lines ≡ before ++ line ∷ behind → (top : Act) → Contains (acts before) top → has_end (called before) top.id ≡ true → (l : Label) (k : Kind) (u : Uid) (p : Option Label) → line.body ≡ body.Began l k u p
-      → is_on (uids (path (acts (before ++ line ∷ [])) (name l))) top.uid ≡ true → ⊥

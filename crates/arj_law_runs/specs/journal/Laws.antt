@@ -7,15 +7,9 @@ use Rattle.arj_journal.specs.declared.body.Body.{Body}
 use Rattle.arj_journal.specs.declared.body.Body.TheVariants as body
 use Rattle.arj_journal.specs.declared.body.Line.{Line}
 use Rattle.arj_text.specs.Label.{name}
-use Rattle.arj_model.specs.Actions.{Act, Placed, act_in, acts, committed, ended, ended_of, has_end, id_in, is_committed, is_serial, read, recovered}
+use Rattle.arj_model.specs.Actions.{Act, Placed, act_in, acts, committed, ended, ended_of, has_end, id_in, is_committed, read, recovered}
 use Rattle.arj_model.specs.Calls.{Top, tops}
-use Rattle.arj_law_parts.specs.parts.Ends.{brought, told_by}
-use Rattle.arj_protocol.specs.Words.{Message, Label}
-use Rattle.arj_protocol.specs.Effect.{Intent}
-use Rattle.arj_protocol.specs.Node.{Parts}
-use Rattle.arj_protocol.specs.Step.{Node}
-use Rattle.arj_protocol.specs.Tree.{Branch, at_place, branch_of}
-use Rattle.arj_protocol.specs.World.{Frame, World}
+use Rattle.arj_protocol.specs.Words.{Label}
 use Rattle.arj_law_runs.specs.journal.Book.{book, is_decided, is_over, is_top}
 use Rattle.arj_law_runs.specs.journal.Right.{IsBelow, has_act}
 
@@ -137,40 +131,3 @@ pub record IsSound (lines : List Line) : Type 0 where
   pub calls : CallsAreTimely lines
   pub exclusions : ExclusionsAreTimely lines
   pub commits : CommitsAreCalled lines
-
--- ---- nodes and frames, against the journal
-
--- the commits that a message brings or tells are of actions that are committed
-pub record IsBacked (lines : List Line) (m : Message) : Type 0 where
-  pub brings : (u : Uid) → Contains (brought m) (u, ending.Commit) → IsCommittedIn lines u
-  pub tells : (u : Uid) → Contains (told_by m) (u, ending.Commit) → IsCommittedIn lines u
-
--- A top that may be committed yet: it wasn't aborted.
-pub record MayCommit (lines : List Line) (u : Uid) : Type 0 where
-  pub act : Act
-  pub there : Contains (acts lines) act
-  pub uid : act.uid ≡ u
-  pub kept : has_end (aborted lines) act.id ≡ false
-
--- An action that a coordinator has open: it has no end in the journal, and isn't committed.
-pub record IsOpenIn (lines : List Line) (u : Uid) : Type 0 where
-  pub act : Act
-  pub there : Contains (acts lines) act
-  pub uid : act.uid ≡ u
-  pub unended : has_end (ended lines) act.id ≡ false
-  pub undone : is_committed (committed lines) (recovered lines) act ≡ false
-
--- What a node knows of the journal. While it is up, the records on its disk and those that it tells again are of committed tops, who
--- committed at its coordinator is committed, and who is open there is open; while it is down it may have the record of a top
--- that isn't committed yet.
-pub record AgreesWith (lines : List Line) (n : Node) : Type 0 where
-  pub records : (u : Uid) (i : Intent) → Contains (let d = n.disk in d.intents) (u, i) → MayCommit lines u
-  pub decided : (t : Parts) (u : Uid) (i : Intent) → n.live ≡ Some t → Contains (let d = n.disk in d.intents) (u, i) → IsCommittedIn lines u
-  pub told : (t : Parts) (u : Uid) (i : Intent) → n.live ≡ Some t → Contains t.coord.telling (u, i) → IsCommittedIn lines u
-  pub ended : (t : Parts) (u : Uid) (b : Branch) → n.live ≡ Some t → branch_of u t.coord.tree ≡ Some b → b.ended ≡ Some ending.Commit → is_serial b.kind ≡ false → IsCommittedIn lines u
-  pub opened : (t : Parts) (u : Uid) (b : Branch) → n.live ≡ Some t → branch_of u t.coord.tree ≡ Some b → b.ended ≡ None → IsOpenIn lines u
-
--- So does each node, and each frame's message is backed.
-pub record AgreesAll (w : World) : Type 0 where
-  pub nodes : (k : ℕ) (n : Node) → at_place k w.nodes ≡ Some n → AgreesWith w.lines n
-  pub frames : (f : Frame) (m : Message) → Contains w.frames f → f.message ≡ Some m → IsBacked w.lines m

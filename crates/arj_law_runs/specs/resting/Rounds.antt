@@ -1,8 +1,7 @@
 -- What a quiesce leaves waiting, where every node stays up in it and no limit is met.
-use Rattle.std.specs.Prelude.{⊤, ◌≡◌, ◌≤◌, ◌⊎◌, ℕ, Bool, true, false, ◌&&◌, nat_le, List, [], Some, length}
+use Rattle.std.specs.Prelude.{⊤, ◌≡◌, ◌≤◌, ◌⊎◌, ℕ, Bool, true, false, ◌&&◌, nat_le, List, [], Some}
 use Rattle.arj_protocol.specs.Words as words
 use Rattle.arj_protocol.specs.Words.{Header, Uid}
-use Rattle.arj_protocol.specs.Words.event
 use Rattle.arj_protocol.specs.Ask.{Reply, answers}
 use Rattle.arj_protocol.specs.Asking.{waits_for_call}
 use Rattle.arj_protocol.specs.Call.{Steps}
@@ -13,10 +12,7 @@ use Rattle.arj_protocol.specs.Node.{Handled, Parts, Took, Void, reply_is_meant, 
 use Rattle.arj_protocol.specs.Order.{has}
 use Rattle.arj_protocol.specs.Step.{is_waiting_now}
 use Rattle.arj_protocol.specs.Tree.{at_place}
-use Rattle.arj_protocol.specs.World.{Asked, World, is_node, is_up_at, most_frames, run_event}
-use Rattle.arj_law_runs.specs.kept.Worlds.{IsGood}
-use Rattle.arj_law_parts.specs.moves.Keeps.{Holds, KeepsAsked}
-use Rattle.arj_law_parts.specs.moves.Moves.{Move, moved, world_by}
+use Rattle.arj_protocol.specs.World.{Asked, World, is_node, is_up_at}
 use Rattle.arj_law_parts.specs.moves.Seen.{In, Post, Seen, up}
 use Rattle.arj_law_runs.specs.resting.Waits.{AsksFor, IsOvertaken, IsSaid, Want, coord_in, want_of_call, want_of_commit}
 
@@ -53,14 +49,3 @@ AreUp w = (k : ℕ) → is_node k w ≡ true → is_up_at k w ≡ true
 abbrev pub WaitOvertaken : World → Type 0
 WaitOvertaken w = (k : ℕ) (c : Coord) (u : Uid) (q : Doing) → is_node k w ≡ true → coord_in (at_place k w.nodes) ≡ Some c → doing_of u c ≡ Some q → is_waiting_now q.now ≡ true
     → ((s : Steps) × (q.now ≡ Calling s) × IsOvertaken (IsSaid w.lines) s) ⊎ ((m : Machine) × (q.now ≡ Committing m) × (left_of m ≡ []))
-
--- After a quiesce in which every node stays up and no limit is met nobody waits but calls that are overtaken, where a relation that is
--- kept gives which requests aren't void. So it is of a world that has no more frames than a run may have, whatever stops fall in the quiesce.
-abbrev pub QuiescesAnswer : Type 0
-QuiescesAnswer = (hd : Header) (test : Seen → Bool) → KeepsAsked hd (λ M. test M ≡ true) → AnswersWaits hd (λ M. (test M ≡ true) × IsGood M)
-    → (e : Asked) (w : World) → Holds hd (λ M. (test M ≡ true) × IsGood M) w → length w.frames ≤ most_frames → e.event ≡ event.Quiesce → w.over ≡ false → (run_event e w).over ≡ false → AreUp (run_event e w) → WaitOvertaken (run_event e w)
-
--- so it is of a quiesce in a run that goes on, whatever stops fall in it, at the end of which every node is up
-abbrev pub RunsAnswer : Type 0
-RunsAnswer = (hd : Header) (test : Seen → Bool) → KeepsAsked hd (λ M. test M ≡ true) → AnswersWaits hd (λ M. (test M ≡ true) × IsGood M)
-    → (ms : List Move) (m : Move) → let w = world_by hd ms in m.asked.event ≡ event.Quiesce → w.over ≡ false → (moved m w).over ≡ false → AreUp (moved m w) → WaitOvertaken (moved m w)

@@ -155,9 +155,6 @@ module _ (hd : Header) (x : ℕ) (form : HeaderInForm hd) (there : is_some (obje
   abbrev Comes : Seen → Seen → Type 0
   Comes M N = Coming hd x first event M N
 
-  abbrev Both : Seen → Kinds → Office → Seen → Type 0
-  Both = Pairs hd x first event
-
   -- none began before, or one has begun
   abbrev Acted : Seen → Seen → Type 0
   Acted M N = (acts M.lines ≡ []) ⊎ HasActs N.lines

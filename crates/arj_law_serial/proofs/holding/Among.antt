@@ -1,5 +1,5 @@
 -- What is found among all rows of a table, and among those on an object.
-use Rattle.std.proofs.Common.{◌≡◌, ◌∙◌, List, [], ◌∷◌, Bool, true, false, cond, refl, sym, ap}
+use Rattle.std.proofs.Common.{◌≡◌, ◌∙◌, List, [], ◌∷◌, Bool, true, false, cond, refl, ap}
 use Rattle.std.specs.List.{list_any}
 use Rattle.std.specs.Prelude.{◌||◌}
 use Rattle.std.proofs.lemmas.Bool.{or_right}
@@ -24,14 +24,3 @@ any_of test o (r ∷ rs) is = by (uid_eq r.object o) (any_of test o rs) is
 -- so it is of what nodes hold, where tables show it
 pub any_shown : (test : Row → Bool) (o : Uid) (rows shown : List Row) → rows_on o rows ≡ shown → list_any test shown ≡ true → list_any test rows ≡ true
 any_shown test o rows shown same is = any_of test o rows (ap (list_any test) same ∙ is)
-
--- what is found among all is found among the rows on an object, where no other row passes
-pub any_on : (test : Row → Bool) (o : Uid) → ((r : Row) → test r ≡ true → uid_eq r.object o ≡ true) → (rows : List Row) → list_any test rows ≡ true → list_any test (rows_on o rows) ≡ true
-any_on test o only [] is = is
-any_on test o only (r ∷ rs) is = by (test r) (uid_eq r.object o) refl refl is (any_on test o only rs)
-  where
-    by : (t b : Bool) → test r ≡ t → uid_eq r.object o ≡ b → (t || list_any test rs) ≡ true → (list_any test rs ≡ true → list_any test (rows_on o rs) ≡ true) → list_any test (cond b (r ∷ rows_on o rs) (rows_on o rs)) ≡ true
-    by true true passes on is rest = ap (λ t. t || list_any test (rows_on o rs)) passes
-    by true false passes on is rest = let no_way : true ≡ false = sym (only r passes) ∙ on in absurd (cc no_way)
-    by false true passes on is rest = or_right (test r) (list_any test (rows_on o rs)) (rest is)
-    by false false passes on is rest = rest is

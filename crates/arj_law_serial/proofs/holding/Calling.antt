@@ -7,7 +7,7 @@ use Rattle.arj_protocol.specs.Words.body
 use Rattle.arj_protocol.specs.Words.message
 use Rattle.arj_protocol.specs.Ask.{Reply, answers}
 use Rattle.arj_protocol.specs.Asking.{begin_action, end_line}
-use Rattle.arj_protocol.specs.Call.{At, AtActivate, AtBind, AtInvoke, AtLoad, AtNote, CallEnd, CallStep, Ended, Goal, Include, On, Run, given_up}
+use Rattle.arj_protocol.specs.Call.{At, AtActivate, AtBind, AtInvoke, AtLoad, AtNote, CallEnd, CallStep, Ended, Goal, Include, Run, given_up}
 use Rattle.arj_protocol.specs.Call as calls
 use Rattle.arj_protocol.specs.Coord.{Coord, Doing, doing_of}
 use Rattle.arj_protocol.specs.Effect.{Disk, Effect, Intent}

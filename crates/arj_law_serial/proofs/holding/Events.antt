@@ -19,7 +19,7 @@ use Rattle.arj_protocol.specs.Follow.{AreEntries}
 use Rattle.arj_protocol.specs.Laws.{rows_in_named}
 use Rattle.arj_protocol.specs.Node.{Parts, prepared_actions}
 use Rattle.arj_protocol.specs.Order.{at_number}
-use Rattle.arj_protocol.specs.Step.{Node, Step, first_disk, first_node, first_reason, naming_at, parts_in, restart_outs, step}
+use Rattle.arj_protocol.specs.Step.{Node, Step, first_disk, first_reason, naming_at, step}
 use Rattle.arj_protocol.specs.Step as input
 use Rattle.arj_protocol.specs.Tree.{at_place, set_place}
 use Rattle.arj_protocol.specs.World.{Arm, Asked, World, armed, bodies, count_works, counted, cut, disarmed, done_step, format, giving, halted_at, happens, is_node, is_up, is_up_at, lacks_labels, limited, most_frames, no_labels, numbered, reasons, run_event, run_unless, says, step_node, step_with, steps}

@@ -1,7 +1,7 @@
 -- A call is locked for at each place at which the machine was seen, also where a few lines stand between the two.
 use Rattle.std.proofs.Common.{◌≡◌, ◌⊎◌, ◌≤◌, ◌<◌, ◌∙◌, ◌+◌, ℕ, suc, List, [], ◌∷◌, Bool, true, false, Option, Some, None, slice_get, refl, sym, ap, subst, inl, inr, arith, ⊎_elim, Contains}
 use Rattle.std.specs.List.{list_all, list_any}
-use Rattle.arj_base.specs.Rows.{Row, last_uid}
+use Rattle.arj_base.specs.Rows.{Row}
 use Rattle.arj_base.specs.Uid.{entry, object}
 use Rattle.arj_lock.proofs.Members.{In}
 use Rattle.arj_protocol.specs.Words.{Body, Line}

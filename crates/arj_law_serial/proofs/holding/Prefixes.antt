@@ -25,7 +25,7 @@ use Rattle.arj_protocol.specs.Node.{Handled, Parts, Took, Void, ack_told, by_rep
 use Rattle.arj_protocol.specs.Order.{at_number, at_uid, binding_eq, binding_less}
 use Rattle.arj_protocol.specs.Says.{AreAll, is_coord_effect, is_naming_effect}
 use Rattle.arj_protocol.specs.Server as server
-use Rattle.arj_protocol.specs.Server.{Kept, Server, active_binding, apply_ends, changed_by, end_new, end_one, first_unbound, has_ended, invoke_kept, invoke_new, invoke_now, is_below, is_told, kept_after, on_copy, other_inc, taken_end, vote_now}
+use Rattle.arj_protocol.specs.Server.{Kept, Server, active_binding, apply_ends, changed_by, end_new, end_one, first_unbound, has_ended, invoke_kept, invoke_new, invoke_now, is_below, is_told, on_copy, other_inc, taken_end, vote_now}
 use Rattle.arj_protocol.proofs.CoordSays.{acked_own, heard_own, map_own, query_own}
 use Rattle.arj_protocol.proofs.PartSays.{bind_own, confirm_own, note_own, told_own}
 use Rattle.arj_protocol.proofs.Quiet.{Quiet, all_quiet, coord_quiet, naming_quiet}
@@ -105,10 +105,6 @@ module _ (h : Holders) (n x : ℕ) (d : Disk) (t : Parts) (Ok : List Row → Typ
 
   abbrev Closes : List Effect → Type 0
   Closes outs = Ok (rows_after h n part.Server (object x) outs (server_rows x t.server))
-
-  -- behind each front of these ends
-  abbrev pub Fronts : List (Uid × End) → Type 0
-  Fronts ends = (pre post : List (Uid × End)) → ends ≡ pre ++ post → Ok (server_rows x (apply_ends n pre t.server).part)
 
   with_send : (es : List Effect) (to : ℕ) (m : Message) → Runs es → Runs (es ++ Send to m ∷ [])
   with_send es to m all = along_on h n part.Server (object x) Ok es (Send to m ∷ []) (server_rows x t.server) all (last es (server_rows x t.server) all)

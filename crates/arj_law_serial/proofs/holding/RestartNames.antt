@@ -63,9 +63,6 @@ first_taken zero (b ∷ bs) all = tt
 first_taken (suc j) (b ∷ bs) all = (all.0, first_taken j bs all.1)
 
 module _ (n e : ℕ) (w v : World) (shown : AreShown w) (l : Lately n e w v) where
-  abbrev first : ℕ
-  first = length w.lines
-
   front_is : take (length w.lines) v.lines ≡ w.lines
   front_is = ap (take (length w.lines)) l.lines ∙ take_front w.lines (numbered e l.said) (length w.lines) (omega arith) ∙ take_all w.lines
 

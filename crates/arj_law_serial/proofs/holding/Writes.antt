@@ -14,7 +14,7 @@ use Rattle.arj_protocol.specs.Effect.{Disk, Do, Effect, Say, Send, Stop, worked}
 use Rattle.arj_protocol.specs.Laws.{effects_of, effects_of_node, effects_until}
 use Rattle.arj_protocol.specs.Order.{at_number}
 use Rattle.arj_protocol.specs.Says.{is_coord_line, is_naming_line, is_server_line}
-use Rattle.arj_protocol.specs.Step.{Input, Node, Step, restart_outs, step}
+use Rattle.arj_protocol.specs.Step.{Input, Node, Step, step}
 use Rattle.arj_protocol.specs.Step as input
 use Rattle.arj_protocol.specs.Tree.{at_place}
 use Rattle.arj_protocol.specs.World.{Arm, Frame, Giving, World, as_delivered, as_lost, armed, begins, begins_any, bodies, change_frame, count_works, cut, deliver, deliver_frame, frame_number, giving, halted_outs, disarmed, done_step, halted_at, happens, is_quiet, is_up_at, junk_fits, labels_unless, limited, lose_frame, lowest, most_frames, node_numbers, node_of, numbered, quiesce, refused_at, says, settle, settle_for, show_all, show_up, step_node, step_with, steps, tick_all, tick_up}
@@ -24,7 +24,7 @@ use Rattle.arj_law_serial.specs.tables.Tables.{up_from, up_of}
 use Rattle.arj_model.specs.Table.{up_step}
 use Rattle.arj_law_serial.proofs.holding.Lines.{start_most, ups_on}
 use Rattle.arj_law_serial.proofs.holding.Says as tests
-use Rattle.arj_law_serial.proofs.holding.Says.{All, BothSay, restart_says, step_says}
+use Rattle.arj_law_serial.proofs.holding.Says.{All, restart_says, step_says}
 use Rattle.arj_law_serial.proofs.holding.Sorts.{by_kind, is_no_start}
 
 -- ---- a step starts no node but the one that restarts

@@ -1,7 +1,6 @@
 -- What is known of copies and votes is kept: all of it together.
-use Rattle.arj_law_serial.specs.joint.BasedSteps.{ConfirmsAreNext, CoordinatorsKeepBased, MessagesKeepBased, StopsKeepBased}
+use Rattle.arj_law_serial.specs.joint.BasedSteps.{CoordinatorsKeepBased, MessagesKeepBased, StopsKeepBased}
 use Rattle.arj_law_serial.proofs.joint.BasedOthers.{coord_based, stop_based}
-use Rattle.arj_law_serial.proofs.joint.BasedPlans.{is_next}
 use Rattle.arj_law_serial.proofs.joint.BasedTakes.{message_based}
 
 pub messages_keep : MessagesKeepBased
@@ -13,6 +12,3 @@ coordinators_keep f x k begun S W d live M L reached are same sent e v outs copi
 
 pub stops_keep : StopsKeepBased
 stops_keep f x k begun S W d live M reached are e = stop_based f x S W reached k begun d live M are e
-
-pub confirms_next : ConfirmsAreNext
-confirms_next = is_next

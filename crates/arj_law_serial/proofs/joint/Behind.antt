@@ -13,11 +13,7 @@ use Rattle.arj_journal.specs.declared.body.Line.{Line}
 use Rattle.arj_lock.proofs.Members.{In, in_from}
 use Rattle.arj_model.specs.Actions.{Act, acts, committed, is_committed, recovered}
 use Rattle.arj_law_runs.specs.journal.Laws.{IsCaused, IsCommittedIn, IsSound}
-use Rattle.arj_law_runs.proofs.journal.Tops.{is_sound}
-use Rattle.arj_law_runs.proofs.journal.Runs.{kept_right}
-use Rattle.arj_law_runs.proofs.calls.Reaching.{moves_keep}
-use Rattle.arj_law_parts.specs.moves.Moves.{journal_by, world_by}
-use Rattle.arj_law_serial.specs.joint.Outcome.{CommitsAreBehind, commits_are_behind, each_behind, is_behind_decision, is_said}
+use Rattle.arj_law_serial.specs.joint.Outcome.{commits_are_behind, each_behind, is_behind_decision, is_said}
 
 pub both : (a b : Bool) → a ≡ true → b ≡ true → (a && b) ≡ true
 both a b e f = λ i. e i && f i
@@ -49,6 +45,3 @@ behind before b c = refl
 
 pub right_commits : (lines : List Line) → IsSound lines → commits_are_behind lines ≡ true
 right_commits lines s = each_from is_behind_decision lines (λ before line rest e. behind before line.body (s.causes before line rest e)) [] lines refl
-
-pub commits_behind : CommitsAreBehind
-commits_behind hd ms = right_commits (journal_by hd ms) (is_sound (journal_by hd ms) (kept_right hd (world_by hd ms) (moves_keep hd ms)))

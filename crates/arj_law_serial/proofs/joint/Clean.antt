@@ -15,7 +15,7 @@ use Rattle.arj_law_runs.specs.journal.Right.{AreRight}
 use Rattle.arj_law_runs.specs.journal.Knows.{IsKept}
 use Rattle.arj_law_runs.proofs.journal.Runs.{kept_right, lines_keep}
 use Rattle.arj_law_disk.specs.machine.Order.{counts_of}
-use Rattle.arj_law_disk.specs.machine.State.{Done, Packed, decided as decided_so, decided_in, target}
+use Rattle.arj_law_disk.specs.machine.State.{Done, Packed, decided as decided_so, target}
 use Rattle.arj_law_disk.specs.machine.Words as disk
 use Rattle.arj_law_disk.specs.machine.State as disk_machine
 use Rattle.arj_law_disk.specs.machine.Core.{Core}

@@ -1,6 +1,5 @@
 -- Two journals, one behind the other, exclude stores in time where the second one's run does.
 use Rattle.std.proofs.Common.{◌≡◌, ◌⊎◌, ◌<◌, ◌++◌, ◌+◌, ◌∙◌, ℕ, Bool, true, false, cond, nat_lt, List, [], ◌∷◌, length, Some, refl, sym, ap, subst, inl, inr, arith}
-use Rattle.std.specs.Prelude.{Contains}
 use Rattle.std.specs.List.{AllByRecursion}
 use Rattle.std.proofs.lemmas.Bool.{lt-ltb}
 use Rattle.arj_base.specs.State.{state_bytes}
@@ -12,14 +11,14 @@ use Rattle.arj_law.specs.Joined.{AreJoined, call_behind, last_from, marks_after,
 use Rattle.arj_law.proofs.JoinedLast.{last_join, uid_second}
 use Rattle.arj_law.proofs.JoinedSaid.{call_of_second, is_decided, new_of_second, top_of_both}
 use Rattle.arj_model.specs.Actions.{acts}
-use Rattle.arj_model.specs.Calls.{Call, Top, committed_calls, tops}
+use Rattle.arj_model.specs.Calls.{Call, Top}
 use Rattle.arj_model.specs.Disks.{Disks}
-use Rattle.arj_model.specs.Last.{last_state, uid_of_id}
+use Rattle.arj_model.specs.Last.{last_state}
 use Rattle.arj_model.specs.Serial.{writes_on}
 use Rattle.arj_law_serial.specs.order.Decided.{Wrote}
-use Rattle.arj_law_serial.specs.joint.DisksInTime.{DiskIsInTime, DiskTakesOut, DisksAreInTime, HasPrepared, Lists}
+use Rattle.arj_law_serial.specs.joint.DisksInTime.{DiskIsInTime, DiskTakesOut, DisksAreInTime, HasPrepared}
 use Rattle.arj_law_serial.specs.joint.DisksJoined.{DiskIsInTimeFrom, DisksAreInTimeFrom, JoinedRunsAreInTime}
-use Rattle.arj_law_serial.specs.joint.Excluded.{IsNew, lines_before, uid_of}
+use Rattle.arj_law_serial.specs.joint.Excluded.{lines_before, uid_of}
 
 -- ---- lines before an event
 

@@ -36,10 +36,9 @@ use Rattle.arj_law_disk.specs.machine.State.{Done, Hold, IsExcused, Packed, Plan
 use Rattle.arj_law_disk.specs.machine.Words.{In, has}
 use Rattle.arj_law_disk.proofs.machine.History.{in_decided}
 use Rattle.arj_law_disk.proofs.machine.Results.{in_time}
-use Rattle.arj_law_parts.specs.moves.Moves.{world_by}
 use Rattle.arj_law_parts.specs.moves.Seen.{Post, Seen, see}
 use Rattle.arj_law_runs.specs.calls.Reached.{Keeping}
-use Rattle.arj_law_runs.proofs.calls.Reaching.{kept_holds, moves_keep}
+use Rattle.arj_law_runs.proofs.calls.Reaching.{kept_holds}
 use Rattle.arj_law_disk_view.specs.view.Entries.{SeesEntry}
 use Rattle.arj_law_disk_view.specs.view.Pairs.{Among, Holder, IsOf, hold_of, packed, packed_entry}
 use Rattle.arj_law_disk_view.specs.view.Stores.{SeesStore}
@@ -47,13 +46,11 @@ use Rattle.arj_law_serial.specs.order.Decided.{AreDecided, AreDecisions, AreNewe
 use Rattle.arj_law_serial.specs.order.Runs.{IsSeenDecided}
 use Rattle.arj_law_serial.proofs.order.Cleaning.{has_among, held_some, one_state, run_class, state_same}
 use Rattle.arj_law_serial.proofs.order.Order.{listed, place_of_top, root_of_top}
-use Rattle.arj_law_serial.proofs.order.Running.{seen_right, seen_tied}
-use Rattle.arj_law_serial.proofs.order.Ties.{Ties, ties_of}
+use Rattle.arj_law_serial.proofs.order.Ties.{Ties}
 use Rattle.arj_law_serial.proofs.order.Tying.{all_at}
 use Rattle.arj_law_serial.proofs.order.Values.{any_said, kept_shape}
 use Rattle.arj_law_serial.specs.order.Tied.{AreTied}
-use Rattle.arj_law_serial.specs.joint.Excluded.{AreExcludedInTime, AreSeenByCalls, AreSeenInTime, CommitsBeginIt, IsBehindIncludes, RunsExcludeInTimeByCalls, IsInTime, IsNew, IsNewest, IsSeenSo, IsTakenOut, NodesAreSo, NodesHaveForm, SeenRunsExcludeInTime, uid_of}
-use Rattle.arj_law_serial.proofs.joint.CommitCalls.{commits_begin}
+use Rattle.arj_law_serial.specs.joint.Excluded.{CommitsBeginIt, IsBehindIncludes, IsInTime, IsNew, IsNewest, IsSeenSo, IsTakenOut, NodesAreSo, uid_of}
 use Rattle.arj_law_serial.proofs.joint.NewWriters.{new_writers_last}
 use Rattle.arj_law_disk_view.specs.running.States.{Own}
 use Rattle.arj_law_serial.specs.joint.Forms.{AreSo, kind_of, listed as entered, stored}
@@ -237,15 +234,6 @@ module _ (header : Header) (e : ℕ) (M : Seen) (right : AreRight new_book M.lin
     pub is_in_time : IsInTime header M.lines x n m t s
     is_in_time = ⊎_elim (λ h. holds h) (λ r. ⊎_elim (λ (h, pend, top, is_new). prepared h pend top is_new) (λ y. inr (inr (taken_out y))) r) machine_in_time
 
--- ---- all objects
-
-seen_in_time : (header : Header) (e : ℕ) (M : Seen) → AreSeenInTime header e M → AreExcludedInTime header e M
-seen_in_time header e M (tied, each) t x s n m st has new wrote at_naming at_store held has_it =
-    is_in_time header e M (seen_right (first_values header) M tied) (ties_of (first_values header) M.lines (seen_tied (first_values header) M tied)) x (each x has).0 t new wrote ((each x has).1 t new wrote) s n m st at_naming at_store held has_it
-
-pub seen_runs_in_time : SeenRunsExcludeInTime
-seen_runs_in_time hd w h = record { sent = h.sent; stands = h.stands; holds = seen_in_time hd _ _ h.holds }
-
 -- ---- by the lock machine
 
 -- an object that was written was called
@@ -276,19 +264,7 @@ newest_by_calls header e M right tied begins x is t new wrote b = record {
       (λ none. b.last u c none) (wrote_or_not (first_values header) M.lines x q.0 u q.2);
 }
 
-seen_by_calls : (header : Header) (e : ℕ) (M : Seen) → CommitsBeginIt e M.lines → AreSeenByCalls header e M → AreSeenInTime header e M
-seen_by_calls header e M begins (tied, each) = (
-  tied,
-  λ x has. let s = each x has in (s.0, λ t new wrote. newest_by_calls header e M (seen_right (first_values header) M tied) (seen_tied (first_values header) M tied) begins x s.0 t new wrote (s.1 t new wrote)),
-)
-
-pub runs_in_time_by_calls : RunsExcludeInTimeByCalls
-runs_in_time_by_calls hd ms h = record { sent = h.sent; stands = h.stands; holds = seen_in_time hd _ _ (seen_by_calls hd _ _ (commits_begin hd ms) h.holds) }
-
 -- ---- what stands of objects on nodes
 
 pub kept_nodes_form : (hd : Header) (x : ℕ) → HeaderInForm hd → (w : world.World) → Keeping hd w → (sent : List Post) → NodesAreSo hd x (see sent w)
 kept_nodes_form hd x form w keeping sent k n is = let h = kept_holds hd w keeping (AreSo (kind_of hd x)) (kept_forms hd x form) in h.holds.0 k n is
-
-pub nodes_have_form : NodesHaveForm
-nodes_have_form hd x form ms = kept_nodes_form hd x form (world_by hd ms) (moves_keep hd ms)

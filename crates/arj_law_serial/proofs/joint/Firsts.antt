@@ -32,7 +32,6 @@ use Rattle.arj_law_disk_view.proofs.view.FirstSeen.{first_at, format_seen}
 use Rattle.arj_law_disk_view.proofs.view.Planned.{has_same}
 use Rattle.arj_law_disk_view.proofs.view.StoreSteps.{place_free}
 use Rattle.arj_law_serial.specs.order.Cleaned.{BeginsSo}
-use Rattle.arj_law_serial.specs.joint.Begun.{ObjectsAreThere}
 
 -- ---- the header's lines
 
@@ -100,9 +99,6 @@ module _ (hd : Header) (x : ℕ) (form : HeaderInForm hd) where
 
   pub line_there : is_some (object_line hd x) ≡ true → (h : HasObject hd x) × HasStoreThere hd x h × (object_line hd x ≡ Some (let g = h in g.line))
   line_there some = line_by (object_line hd x) refl some
-
-pub objects_there : ObjectsAreThere
-objects_there hd x form some = (line_there hd x form some).0
 
 -- ---- the machine
 

@@ -11,7 +11,7 @@ use Rattle.arj_protocol.specs.Follow.{tick_outs}
 use Rattle.arj_protocol.specs.Node.{Parts, with_coord}
 use Rattle.arj_protocol.specs.Order.{uid_number}
 use Rattle.arj_protocol.specs.Step as input
-use Rattle.arj_protocol.specs.Step.{Input, Node, acts, branch_named, commit_reasons, first_disk, is_committing_now, parent_of, parts_in, refusal_up, refused_by, restart_outs, waits_above, waits_below}
+use Rattle.arj_protocol.specs.Step.{Input, acts, branch_named, parent_of, parts_in, refusal_up, restart_outs}
 use Rattle.arj_protocol.specs.Tree.{Branch, root_of}
 use Rattle.arj_protocol.specs.World.{format, is_serial_kind, numbered}
 use Rattle.arj_law_disk.specs.machine.Effects as machine

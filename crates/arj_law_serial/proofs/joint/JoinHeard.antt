@@ -26,7 +26,7 @@ use Rattle.arj_protocol.specs.Asking.{end_line, heard, heard_by, heard_call, hea
 use Rattle.arj_protocol.specs.Call as calls
 use Rattle.arj_protocol.specs.Call.{At, AtActivate, AtBind, AtInvoke, AtLoad, AtNote, CallEnd, CallStep, Ended, Goal, Include, Known, Moved, On, Run, Steps, answered}
 use Rattle.arj_protocol.specs.Commit as commit
-use Rattle.arj_protocol.specs.Commit.{Machine, Marked}
+use Rattle.arj_protocol.specs.Commit.{Marked}
 use Rattle.arj_protocol.specs.Coord.{Calling, Committing, Coord, Doing, Idle, Joined, Now, Root, doing_of, is_free, joined_with, later_state, no_root, on_doing, on_root, root_at, same_join, with_join}
 use Rattle.arj_protocol.specs.Effect.{Disk, Do, Effect, Intent, Say, Send, Served}
 use Rattle.arj_protocol.specs.Ending.{say_for, says}

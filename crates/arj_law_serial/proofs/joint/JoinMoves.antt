@@ -27,7 +27,7 @@ use Rattle.arj_protocol.specs.Ending.{say_for, says}
 use Rattle.arj_protocol.specs.Follow.{tick_outs}
 use Rattle.arj_protocol.specs.Node.{Parts, Took, handle}
 use Rattle.arj_protocol.specs.Step as input
-use Rattle.arj_protocol.specs.Step.{Input, acts, branch_named, parent_of}
+use Rattle.arj_protocol.specs.Step.{Input, acts}
 use Rattle.arj_protocol.specs.Tree.{Branch, branch_of, is_own, root_of}
 use Rattle.arj_protocol.specs.Words.{Asked, Body, Header, Kind, Label, Message, Uid, name}
 use Rattle.arj_protocol.specs.Words.body

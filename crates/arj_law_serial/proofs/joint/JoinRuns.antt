@@ -35,10 +35,8 @@ use Rattle.arj_law_parts.specs.moves.Keeps.{Keeps, MayGive, label_at}
 use Rattle.arj_law_parts.specs.moves.Seen as seen
 use Rattle.arj_law_parts.specs.moves.Seen.{AreQuiet, Seen, at, down, given, posted, said as said_lines, see, up}
 use Rattle.arj_law_parts.specs.moves.Walks.{Up, Walks, halted}
-use Rattle.arj_law_parts.specs.moves.Moves.{world_by}
-use Rattle.arj_law_runs.proofs.calls.Reaching.{kept_holds, moves_keep}
 use Rattle.arj_law_runs.proofs.addresses.BindRuns.{AreBound, binds_keep}
-use Rattle.arj_law_serial.specs.joint.Joins.{HasJoined, IncludesAreNoted, IncludesAreSaid, PlansInclude, RunsSayIncludes}
+use Rattle.arj_law_serial.specs.joint.Joins.{HasJoined, IncludesAreNoted, IncludesAreSaid, PlansInclude}
 use Rattle.arj_law_serial.proofs.joint.Called.{right_behind}
 use Rattle.arj_law_serial.proofs.joint.JoinHeard.{apart_none, NoAccess, none_after}
 use Rattle.arj_law_serial.proofs.joint.JoinLines.{fits_turn}
@@ -272,8 +270,3 @@ joins_given hd = record {
 -- what it stands on is kept by each handler
 pub based_keep : (hd : Header) → Keeps hd IsBased
 based_keep hd = kept_both hd IsKept AreBound (lines_keep hd) (keeps_given hd IsKept AreBound (binds_keep hd))
-
-pub runs_say_includes : RunsSayIncludes
-runs_say_includes hd ms =
-    let h = kept_holds hd (world_by hd ms) (moves_keep hd ms) (λ M. IsBased M × IncludesAreSaid M) (kept_both hd IsBased IncludesAreSaid (based_keep hd) (joins_given hd)) in
-    record { sent = h.sent; stands = h.stands; holds = h.holds.1 }

@@ -2,10 +2,8 @@
 use Rattle.arj_law_disk.specs.machine.Effects as machine
 use Rattle.std.proofs.Common.{List, subst}
 use Rattle.arj_law_serial.specs.joint.Joined.{IsJoinedSo, RunsAreJoined, world_of}
-use Rattle.arj_law_serial.specs.joint.Begun.{RunsBeginSo}
-use Rattle.arj_law_serial.specs.joint.Ordered.{RunsAreOrdered}
 use Rattle.arj_law_serial.proofs.joint.NextGiven.{one_requests}
-use Rattle.arj_law_serial.specs.joint.Includers.{IncludersTakeTurns, RunsTakeTurns}
+use Rattle.arj_law_serial.specs.joint.Includers.{IncludersTakeTurns}
 use Rattle.arj_law_serial.proofs.joint.JoinKeeps.{WithTurns, turns_part}
 use Rattle.arj_law_serial.proofs.joint.LightKeeps.{WithLights, lights_part}
 use Rattle.arj_law_serial.proofs.joint.Joining.{HasLocks, WithLocks}
@@ -89,14 +87,3 @@ reached_joined hd x form there w reached fit =
 
 pub moves_are_joined : RunsAreJoined
 moves_are_joined hd ms f x there = let r = runs_in_form hd ms f in reached_joined hd x f.header there (world_by hd ms) r.0 (r.1 x)
-
--- ---- what follows of the disk machine alone
-
-pub runs_begin_so : RunsBeginSo
-runs_begin_so hd ms f x there = let h = moves_are_joined hd ms f x there in record { sent = h.sent; stands = h.stands; holds = (let j = h.holds in let o = j.ordered in o.begun) }
-
-pub runs_are_ordered : RunsAreOrdered
-runs_are_ordered hd ms f x there = let h = moves_are_joined hd ms f x there in record { sent = h.sent; stands = h.stands; holds = (let j = h.holds in j.ordered) }
-
-pub runs_take_turns : RunsTakeTurns
-runs_take_turns hd ms f x there = let h = moves_are_joined hd ms f x there in record { sent = h.sent; stands = h.stands; holds = (let j = h.holds in record { ordered = j.ordered; includers = j.includers; lights = j.lights }) }

@@ -6,7 +6,7 @@ use Rattle.arj_base.specs.Rows.{is_on}
 use Rattle.arj_base.specs.Uid.{nobody}
 use Rattle.arj_class.specs.declared.value.Value.{Value}
 use Rattle.arj_lock.proofs.Members as list
-use Rattle.arj_lock.proofs.Members.{in_from, in_to}
+use Rattle.arj_lock.proofs.Members.{in_to}
 use Rattle.arj_model.specs.Actions.{Act, acts}
 use Rattle.arj_model.specs.Calls.{Top, tops}
 use Rattle.arj_model.specs.Serial.{Values}
@@ -32,7 +32,7 @@ use Rattle.arj_law_runs.proofs.journal.Books.{sane_lines, sane_new}
 use Rattle.arj_law_runs.proofs.journal.Closed.{Stands, stands_lines, stands_new}
 use Rattle.arj_law_runs.proofs.journal.Models.{is_book, its_acts}
 use Rattle.arj_law_lock.specs.machine.Actions as lock
-use Rattle.arj_law_lock.specs.machine.Actions.{is_action, on, top}
+use Rattle.arj_law_lock.specs.machine.Actions.{top}
 use Rattle.arj_law_lock.specs.machine.Machine.{Guard, Run, next, stay, step}
 use Rattle.arj_law_lock.specs.machine.State as machine
 use Rattle.arj_law_lock.specs.machine.State.{Alive, Call, State}

@@ -17,7 +17,7 @@ use Rattle.arj_law_disk.specs.machine.Guards.{HasRow, IsGranted, IsPresent, IsUn
 use Rattle.arj_law_disk.specs.machine.Named.{Named}
 use Rattle.arj_law_disk.specs.machine.Names.{Names, Office}
 use Rattle.arj_law_disk.specs.machine.State as disk
-use Rattle.arj_law_disk.specs.machine.State.{Done, Packed, Stage, State, decided, is_gone, is_idle, is_open, is_sealed, undecided}
+use Rattle.arj_law_disk.specs.machine.State.{Packed, Stage, State, decided, is_gone, is_idle, is_open, is_sealed, undecided}
 use Rattle.arj_law_disk.specs.machine.Words.{has}
 use Rattle.arj_law_disk.proofs.machine.Base.{bool_cases, falls_to, never, or_right, some_is}
 use Rattle.arj_law_disk.proofs.machine.History.{in_decided}

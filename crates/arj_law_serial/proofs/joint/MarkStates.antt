@@ -14,7 +14,7 @@ use Rattle.arj_protocol.specs.Words.voted
 use Rattle.arj_law_serial.specs.joint.Marked.{FitsMarks}
 use Rattle.arj_protocol.specs.Call as calls
 use Rattle.arj_protocol.specs.Commit as commit
-use Rattle.arj_protocol.specs.Commit.{Aborts, Asks, CommitStep, Confirming, Decides, Machine, Marked, Plan, Preparing, Stays, Used, Voting, begin_confirm, begin_prepare, begin_vote, further, is_empty, is_marked, marks_stores, participants, servers_of, stores_left, targets_of, votes_left, waiting, has_record, plan_of}
+use Rattle.arj_protocol.specs.Commit.{Aborts, Asks, CommitStep, Confirming, Decides, Machine, Marked, Plan, Preparing, Stays, Used, Voting, begin_confirm, begin_prepare, begin_vote, is_empty, is_marked, marks_stores, participants, servers_of, stores_left, targets_of, votes_left, waiting, has_record, plan_of}
 use Rattle.arj_protocol.specs.Ask.{Reply, actor}
 use Rattle.arj_protocol.specs.Asking.{again_all, again_now, asks_all, asks_node, begin_action, commits_in, doomed_by, goes_on, moved_commit, root_heard, step_call, step_commit}
 use Rattle.arj_protocol.specs.Tree.{at_place, doomed_at, ended_at, is_own, root_of}

@@ -39,9 +39,6 @@ IsMute (Do w) = ⊤
 abbrev pub AllMute : List Effect → Type 0
 AllMute outs = AllByRecursion IsMute outs
 
-pub mute_both : (es fs : List Effect) → AllMute es → AllMute fs → AllMute (es ++ fs)
-mute_both es fs a b = all_append IsMute es fs a b
-
 -- ---- what is sent again
 
 -- ends that are told again, and queries

@@ -25,7 +25,7 @@ use Rattle.arj_protocol.specs.Ending.{abort_action, answer_query, acked, acked_b
 use Rattle.arj_protocol.specs.Follow.{tick_outs}
 use Rattle.arj_protocol.specs.Node.{Parts, Took, handle, holders, query_about}
 use Rattle.arj_protocol.specs.Order as order
-use Rattle.arj_protocol.specs.Order.{at_uid, put_uid, with_number, without_number, without_uid}
+use Rattle.arj_protocol.specs.Order.{at_uid, with_number, without_number, without_uid}
 use Rattle.arj_protocol.specs.Step as input
 use Rattle.arj_protocol.specs.Says.{AreAll}
 use Rattle.arj_protocol.specs.Step.{Input, Node, acts, branch_named, on_branch, tolds_again}

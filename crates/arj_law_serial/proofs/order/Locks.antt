@@ -1,7 +1,6 @@
 -- Each surviving call is locked for, at each place to the last commit call of its unit at which the machine was seen.
 use Rattle.std.proofs.Common.{◌≡◌, ◌≢◌, ◌⊎◌, ◌<◌, ◌≤◌, ℕ, ◌+◌, ◌==◌, ◌&&◌, ◌||◌, List, [], ◌∷◌, length, take, Bool, true, false, cond, max, zero, suc, Option, Some, None, refl, sym, ◌∙◌, ap, subst, inl, inr, ⊎_elim, arith, eqb-true, eq-eqb, Contains}
-use Rattle.std.specs.List.{AllByRecursion, list_any}
-use Rattle.std.proofs.Math.Bool.{Bool-set}
+use Rattle.std.specs.List.{list_any}
 use Rattle.std.proofs.lemmas.Bool.{and_parts}
 use Rattle.std.proofs.lemmas.Bool.Decides.{nat_tests}
 use Rattle.arj_base.proofs.Uids.{uid_is, uid_other, uid_same}
@@ -19,14 +18,12 @@ use Rattle.arj_model.specs.Actions.{Act, Placed, acts, acts_after, chain_in, com
 use Rattle.arj_model.specs.Calls.{Call, Said, Top, committed_calls, kept, root_or, said, said_of, tops}
 use Rattle.arj_model.specs.Last.{uid_of_id}
 use Rattle.arj_model.specs.Serial.{Values, root_of, unit_place}
-use Rattle.arj_model.specs.Table.{path_by, table}
-use Rattle.arj_law.specs.Book.{OfEachTwo}
-use Rattle.arj_law.specs.Held.{AreAtOneNode, AreHeld, HaveOwnRoots, IsHeldAt, first_of, holder_root, locks_for, root_of_call, root_uid, tables_of, unit_end}
+use Rattle.arj_model.specs.Table.{path_by}
+use Rattle.arj_law.specs.Held.{first_of, holder_root, locks_for, root_of_call, root_uid, unit_end}
 use Rattle.arj_law_runs.specs.journal.Book.{new_book}
-use Rattle.arj_law_runs.specs.journal.Laws.{AreDistinct, called_of}
+use Rattle.arj_law_runs.specs.journal.Laws.{AreDistinct}
 use Rattle.arj_law_runs.specs.journal.Right.{AreRight, has_act}
 use Rattle.arj_law_runs.proofs.journal.Books.{never}
-use Rattle.arj_law_runs.proofs.journal.Closed.{one_act}
 use Rattle.arj_law_runs.proofs.journal.Models.{AreSound, among, its_sound}
 use Rattle.arj_law_runs.proofs.journal.Ties.{path_new, path_old}
 use Rattle.arj_law_lock.specs.machine.Actions as machine
@@ -45,9 +42,9 @@ use Rattle.arj_law_lock.proofs.machine.Roots.{roots_low, start_low}
 use Rattle.arj_law_lock_view.specs.view.Acts.{Acts}
 use Rattle.arj_law_lock_view.specs.view.Rows.{SeesRows, held_in, strength}
 use Rattle.arj_law_lock_view.specs.journal.Lines.{IsCallOf, said_on}
-use Rattle.arj_law_serial.specs.order.Locked.{AreLockedAlong, AreRowsSeen, AreTiedAlong, EntriesAreHeld, IsHeldByUpper, IsLockedIn, IsSeenAt, caller_at, is_number, is_upper_of, locks_call, locks_entry, ran_at}
+use Rattle.arj_law_serial.specs.order.Locked.{IsHeldByUpper, IsSeenAt, caller_at, is_number, is_upper_of, locks_call, locks_entry, ran_at}
 use Rattle.arj_law_serial.specs.order.Tied.{Began, IsTied, path_of}
-use Rattle.arj_law_serial.proofs.order.Order.{IsShown, IsTopOf, before_top, find_call, head_of, is_top_in, its_root, its_top, listed, one_unit, place_in, root_of_top, same_number, shown, stage_of_top, top_item, unit_behind, upper_chain}
+use Rattle.arj_law_serial.proofs.order.Order.{IsShown, IsTopOf, before_top, find_call, head_of, is_top_in, its_root, its_top, listed, one_unit, place_in, root_of_top, same_number, stage_of_top, top_item, unit_behind, upper_chain}
 use Rattle.arj_law_serial.proofs.order.Paths.{own_last, own_there}
 use Rattle.arj_law_serial.proofs.order.Ties.{Tie, tie_of}
 use Rattle.arj_law_serial.proofs.order.Tying.{member}
@@ -116,15 +113,6 @@ any_in f x (y ∷ ys) (inr i) e = by (f y) (any_in f x ys i e)
 
 pub both_true : (a b : Bool) → a ≡ true → b ≡ true → (a && b) ≡ true
 both_true a b f g = (λ i. f i && g i)
-
--- whatever passes the stronger test passes the weaker one
-any_less : {A : Type 0} (f g : A → Bool) (xs : List A) → list_any (λ a. f a && g a) xs ≡ true → list_any f xs ≡ true
-any_less f g [] e = e
-any_less f g (x ∷ xs) e = by (f x) (g x) e (any_less f g xs)
-  where
-    by : (a b : Bool) → ((a && b) || list_any (λ y. f y && g y) xs) ≡ true → (list_any (λ y. f y && g y) xs ≡ true → list_any f xs ≡ true) → (a || list_any f xs) ≡ true
-    by true b e ih = refl
-    by false b e ih = ih e
 
 -- a row that is seen stands in the table
 pub record IsRow (act : Acts) (o : Uid) (h : machine.Act) (k : ℕ) (rows : List Row) : Type 0 where
@@ -430,20 +418,6 @@ module _ (values : Values) (lines : List Line) (right : AreRight new_book lines)
         (ap (λ y. uid_eq (let w = r.row in w.object) (entry y)) s.call_object ∙ r.of_object)
         (ap (is_upper_of lines (root_of_call lines c)) h.2 ∙ its_number h.0 b h.3 (root_of_call lines c) root_of_it.number))
 
-    -- in these rows
-    module _ (rows : ℕ → List Row) (names : List Row) (sees : AreRowsSeen t.act lines x rows names S) where
-      abbrev node : ℕ
-      node = ran_at values lines x T t c
-
-      objects : list_any (locks_call lines c) (rows node) ≡ true
-      objects = let server = held.server in objects_by (rows node) (sees.holders node) (S.server node).rows (sees.servers node) server.0 server.1 (subst (λ (n : ℕ). machine_rows.mode d.write ≤ (S.server n).rows server.0) same_node server.2)
-
-      entries : list_any (locks_entry lines c) names ≡ true
-      entries = entries_by names sees.askers sees.naming
-
-      pub locked_in : IsLockedIn lines (rows (ran_at values lines x T t c)) names c
-      locked_in = record { object = objects; entry = entries }
-
   -- ---- one node, and roots
 
   pub at_one_node : (c e : Call) (s : IsShown values lines right x T tie c) (w : IsShown values lines right x T tie e) → (root_of_call lines c == root_of_call lines e) ≡ false → c.at < e.at → e.at < unit_end lines c → ran_at values lines x T t c ≡ ran_at values lines x T t e
@@ -475,80 +449,3 @@ called_by values lines c i =
     let f = in_filter_map (kept (committed lines) (recovered lines)) c (said lines) i in
     let k = kept_shape values lines c.x f.0 c f.2 in
     any_said c.x f.0 (said lines) f.1 (sym k.1)
-
-module _ (values : Values) (lines : List Line) (right : AreRight new_book lines) (tied : AreTiedAlong values lines) where
-  of_call : (c : Call) → In c (committed_calls lines) → list_any (λ (s : Placed Said). s.it.x == c.x) (said lines) ≡ true
-  of_call c i = called_by values lines c i
-
-  abbrev is_called : ℕ → Bool
-  is_called x = list_any (λ (s : Placed Said). s.it.x == x) (said lines)
-
-  -- at which node a call of an object ran
-  abbrev node_at : (x : ℕ) (b : Bool) → is_called x ≡ b → Call → ℕ
-  node_at x true e c = let t = tied x e in ran_at values lines x t.0 t.1 c
-  node_at x false e c = 0
-
-  abbrev pub node_of : Call → ℕ
-  node_of c = node_at c.x (is_called c.x) refl c
-
-  node_same : (x : ℕ) (b : Bool) (e : is_called x ≡ b) (c : Call) → (f : is_called x ≡ true) → node_at x b e c ≡ (let t = tied x f in ran_at values lines x t.0 t.1 c)
-  node_same x true e c f = ap (λ g. let t = tied x g in ran_at values lines x t.0 t.1 c) (Bool-set (is_called x) true e f)
-  node_same x false e c f = never f e
-
-  shown_of : (c : Call) (i : In c (committed_calls lines)) → (let t = tied c.x (of_call c i) in IsShown values lines right c.x t.0 (tie values lines right c.x t.0 t.1) c)
-  shown_of c i = let t = tied c.x (of_call c i) in shown values lines right c.x t.0 (tie values lines right c.x t.0 t.1) c i refl
-
-  -- an end is a line of the journal
-  end_there : (c : Call) → unit_end lines c ≤ length lines
-  end_there c = ⊎_elim (λ none. omega (arith, none)) (λ found.
-      let i = top_item lines right found.0 found.1 in
-      let below = read_below called_of [] 0 lines (record { at = (let u = found.0 in u.at); it = (let a = i.act in a.id) }) i.call in
-      let at = found.3 in
-      omega (arith, below, at)) (unit_last (tops lines) (root_of_call lines c))
-
-  each : (P : Call → Type 0) (cs : List Call) → ((c : Call) → In c cs → P c) → AllByRecursion P cs
-  each P [] f = tt
-  each P (c ∷ cs) f = (f c (inl refl), each P cs (λ d i. f d (inr i)))
-
-  lock_at : (c : Call) → In c (committed_calls lines) → (p : ℕ) → c.at < p → p ≤ unit_end lines c → IsLockedIn lines (tables_of lines (node_of c) p) (tables_of lines 1 p) c
-  lock_at c i p behind within =
-      let t = tied c.x (of_call c i) in
-      let seen = t.2 p (let e = end_there c in omega (arith, e, within)) in
-      subst (λ n. IsLockedIn lines (tables_of lines n p) (tables_of lines 1 p) c) (sym (node_same c.x (is_called c.x) refl c (of_call c i)))
-      (locked_in values lines right c.x t.0 t.1 p seen.0 c (shown_of c i) behind within (λ n. table n (take p lines)) (table 1 (take p lines)) seen.1)
-
-  pub are_held : AreHeld lines (tables_of lines) node_of
-  are_held = each (λ c. IsHeldAt lines (tables_of lines) (node_of c) c) (committed_calls lines) (λ c i. record {
-    answered = let t = tied c.x (of_call c i) in answered values lines right c.x t.0 t.1 c (shown_of c i);
-    locked = λ p behind within. let l = lock_at c i p behind within in any_less (locks_for lines c) (λ (r : Row). is_on (caller_at c.at (said lines)) (last_uid r.holder)) (tables_of lines (node_of c) p) l.object;
-  })
-
-  pub are_locked : AreLockedAlong lines node_of
-  are_locked = each (λ (c : Call). (p : ℕ) → c.at < p → p ≤ unit_end lines c → IsLockedIn lines (tables_of lines (node_of c) p) (tables_of lines 1 p) c) (committed_calls lines) lock_at
-
-  pub entries_held : EntriesAreHeld lines
-  entries_held = each (λ (c : Call). (p : ℕ) → c.at < p → p ≤ unit_end lines c → list_any (locks_entry lines c) (tables_of lines 1 p) ≡ true) (committed_calls lines) (λ c i p behind within. let l = lock_at c i p behind within in l.entry)
-
-  pub nodes_agree : OfEachTwo (AreAtOneNode lines node_of) (committed_calls lines)
-  nodes_agree = each (λ c. AllByRecursion (AreAtOneNode lines node_of c) (committed_calls lines)) (committed_calls lines) (λ c i. each (AreAtOneNode lines node_of c) (committed_calls lines) (λ d j apart same less within.
-      let t = tied c.x (of_call c i) in
-      let w = shown values lines right c.x t.0 (tie values lines right c.x t.0 t.1) d j (sym same) in
-      node_same c.x (is_called c.x) refl c (of_call c i) ∙ at_one_node values lines right c.x t.0 t.1 c d (shown_of c i) w apart less within ∙ sym (node_same c.x (is_called c.x) refl d (of_call c i)) ∙ (λ k. node_at (same k) (is_called (same k)) refl d)))
-
-  -- roots have their own Uids
-  head_uid : (c : Call) → In c (committed_calls lines) → (h : Act) × In h (acts lines) × (root_of_call lines c ≡ h.id) × (root_uid lines c ≡ h.uid)
-  head_uid c i =
-      let t = tied c.x (of_call c i) in
-      let s = shown_of c i in
-      let a = s.top_of_it in
-      let h = head_of lines right a.act a.there in
-      let there = member values lines right c.x t.0 (tie values lines right c.x t.0 t.1) a.act h.0 h.1 in
-      let number : root_of_call lines c ≡ h.0.id = unit_is values lines right c.x t.0 t.1 c s ∙ a.root_is ∙ ap (root_or a.act.id) h.2 in
-      (h.0, there, number, ap (uid_of_id (acts lines)) number ∙ number_uid h.0 (acts lines) (λ y k f. same_number lines right y h.0 k there f) there)
-
-  pub own_roots : OfEachTwo (HaveOwnRoots lines) (committed_calls lines)
-  own_roots = each (λ c. AllByRecursion (HaveOwnRoots lines c) (committed_calls lines)) (committed_calls lines) (λ c i. each (HaveOwnRoots lines c) (committed_calls lines) (λ d j apart.
-      let g = head_uid c i in
-      let h = head_uid d j in
-      uid_other (root_uid lines c) (root_uid lines d) (λ e. never (eq-eqb (root_of_call lines c) (root_of_call lines d)
-      (g.2 ∙ ap (λ (z : Act). z.id) (one_act (acts lines) (let q = its_sound lines right in q.distinct) g.0 h.0 g.1 h.1 (sym g.3 ∙ e ∙ h.3)) ∙ sym h.2)) apart)))

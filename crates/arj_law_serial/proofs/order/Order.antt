@@ -25,7 +25,7 @@ use Rattle.arj_law_runs.proofs.journal.Likes.{some_is}
 use Rattle.arj_law_runs.proofs.journal.Models.{AreSound, apart_acts, its_sound}
 use Rattle.arj_law_runs.proofs.journal.Tops.{is_sound}
 use Rattle.arj_law_lock.specs.machine.Actions as machine
-use Rattle.arj_law_lock.specs.machine.Actions.{is_action, on, root, top}
+use Rattle.arj_law_lock.specs.machine.Actions.{on, root, top}
 use Rattle.arj_law_lock.specs.machine.State as state
 use Rattle.arj_law_lock.specs.machine.State.{State}
 use Rattle.arj_law_lock.specs.machine.Steps.{Survives}

@@ -50,8 +50,6 @@ use Rattle.arj_law_runs.proofs.kept.Starts.{restart_good}
 use Rattle.arj_law_parts.specs.moves.Keeps.{is_act}
 use Rattle.arj_law_parts.specs.moves.Seen.{In, Post, Seen, at, down, given, posted, said, see, up}
 use Rattle.arj_law_parts.specs.moves.Walks.{Up, Walks, halted}
-use Rattle.arj_law_parts.proofs.moves.Happens.{keeps_asked}
-use Rattle.arj_law_parts.proofs.moves.Moving.{moves_asked}
 use Rattle.arj_law_disk_view.proofs.view.FirstSeen.{first_at}
 use Rattle.arj_law_disk_view.proofs.view.Frames.{node_here}
 use Rattle.arj_law_disk_view.specs.running.Places.{AreBegunIn, AreNamesRows, AsksBegun, IsAboutBegun, IsBegun, IsCallRow, IsEntryRow, MeansBegun, asked_about}
@@ -62,7 +60,7 @@ use Rattle.arj_law_disk_view.proofs.running.Means.{All, again_means, coord_means
 use Rattle.arj_law_runs.proofs.addresses.Lists.{some_is}
 use Rattle.arj_law_lock_view.specs.facts.Acts.{KeepsOf, begins_in}
 use Rattle.arj_law_lock_view.proofs.facts.Acts.{kept_of}
-use Rattle.arj_law_serial.specs.past.Told.{ArePast, ArePastIn, EndsArePast, HandlersKeepPast, IsClosedAt, IsNamedBy, IsPast, IsPastNode, RunsKeepPast, SaysPast, ToldPast, live_in}
+use Rattle.arj_law_serial.specs.past.Told.{ArePast, ArePastIn, HandlersKeepPast, IsClosedAt, IsNamedBy, IsPast, IsPastNode, SaysPast, ToldPast, live_in}
 use Rattle.arj_law_serial.proofs.past.Handling.{By, HasEnd, HoldsBegun, IsOwnNamed, LeavesPast, holders_begun, message_left, tell_queries}
 use Rattle.arj_law_serial.proofs.past.Tellers.{AllTell, Knows, TellsOf, tell_acked, tell_acts, tell_again, tell_heard, tell_query, tell_records}
 
@@ -648,6 +646,3 @@ past_of hd = record {
 
 pub past_keep : HandlersKeepPast
 past_keep hd = kept_of hd ArePastIn (past_of hd)
-
-pub past_run : RunsKeepPast
-past_run hd ms = moves_asked hd EndsArePast (keeps_asked hd EndsArePast (past_keep hd)) ms

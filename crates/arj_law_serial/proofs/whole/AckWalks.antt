@@ -19,7 +19,7 @@ use Rattle.arj_protocol.specs.Follow.{tick_outs}
 use Rattle.arj_protocol.specs.Node.{Parts, Took, handle, holders, is_meant, query_about, with_coord}
 use Rattle.arj_protocol.specs.Order.{at_uid, has, put_uid, without_number, without_uid}
 use Rattle.arj_protocol.specs.Server.{is_told}
-use Rattle.arj_protocol.specs.Step.{Input, Node, acts, begin_refusal, first_disk, first_node, hello_to, naming_at, naming_back, numbers_to, parent_of, parts_in, recovered_records, refusal_up, restart_outs, tolds_again}
+use Rattle.arj_protocol.specs.Step.{Input, Node, acts, refusal_up, tolds_again}
 use Rattle.arj_protocol.specs.Step as input
 use Rattle.arj_protocol.specs.Tree.{Branch, branch_of, ends_of, is_own}
 use Rattle.arj_law_parts.specs.parts.Actions.{Action, AreBegun, act_of, paths_of}

@@ -12,7 +12,7 @@ use Rattle.arj_protocol.specs.Words.invoked
 use Rattle.arj_protocol.specs.Ask.{Reply, actor, top_of}
 use Rattle.arj_protocol.specs.Asking.{again_all, asks_node, begin_action, call, call_steps, commit_action, doomed_by, give_up, give_up_call, given_away, goes_on, granted_by, heard, heard_call, include, is_invoke_ask, keeps_after, kept_at, known_at_start, next_req, notes_grant, renewed, root_heard, root_lost, root_moved, step_call}
 use Rattle.arj_protocol.specs.Call as calls
-use Rattle.arj_protocol.specs.Call.{At, AtActivate, AtBind, AtInvoke, AtLoad, AtNote, CallEnd, CallStep, Ended, Goal, Include, Known, Moved, On, Run, Steps, activated_by, answered, bound_answer, bound_by, given_up, has_changed, invoked_answer, live_known, load_from, loaded_answer, loaded_state, made_by, made_known, next_ask, next_node, or_lost, other_binding, recorded_answer, same_binding, spoils, start, with_inc, write_known}
+use Rattle.arj_protocol.specs.Call.{At, AtActivate, AtBind, AtInvoke, AtLoad, AtNote, CallEnd, CallStep, Ended, Goal, Include, Known, Moved, On, Run, Steps, answered, bound_by, given_up, has_changed, live_known, load_from, made_by, made_known, next_ask, next_node, or_lost, other_binding, same_binding, start, with_inc, write_known}
 use Rattle.arj_protocol.specs.Commit.{plan_of}
 use Rattle.arj_protocol.specs.Coord.{Calling, Committing, Coord, Doing, Grant, Idle, Keeping, Now, Root, Went, doing_of, is_free, keeping_of, new_coord, no_keeping, no_root, on_doing, on_root, root_at, same_said, same_went, with_keeping, with_went}
 use Rattle.arj_protocol.specs.Effect.{Effect, Intent, Send}

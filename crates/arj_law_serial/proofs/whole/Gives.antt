@@ -21,7 +21,7 @@ use Rattle.arj_protocol.specs.Named.{Named}
 use Rattle.arj_protocol.specs.Naming.{Naming}
 use Rattle.arj_protocol.specs.Node.{Parts, with_coord}
 use Rattle.arj_protocol.specs.Order.{at_number, at_uid, binding_number, unbound}
-use Rattle.arj_protocol.specs.Step.{Input, Node, acts, branch_named, first_disk, refusal_up}
+use Rattle.arj_protocol.specs.Step.{Input, Node, acts, first_disk, refusal_up}
 use Rattle.arj_protocol.specs.Step as input
 use Rattle.arj_protocol.specs.Tree.{Branch, branch_of, root_of}
 use Rattle.arj_law_lock.specs.machine.Actions.{on, root}

@@ -16,7 +16,7 @@ use Rattle.arj_protocol.specs.Named.{Named}
 use Rattle.arj_protocol.specs.Naming.{Naming}
 use Rattle.arj_protocol.specs.Node.{Parts, Took, handle, holders, prepared_actions, query_about, with_coord}
 use Rattle.arj_protocol.specs.Order.{at_number, uid_set, without_number}
-use Rattle.arj_protocol.specs.Step.{Input, Node, acts as acts_of, first_disk, first_node, hello_to, naming_at, naming_back, numbers_to, parent_of, parts_in, recovered_records, refusal_up, restart_outs, tolds_again}
+use Rattle.arj_protocol.specs.Step.{Input, Node, acts as acts_of, first_node, hello_to, naming_at, naming_back, numbers_to, parent_of, parts_in, recovered_records, refusal_up, restart_outs, tolds_again}
 use Rattle.arj_protocol.specs.Step as input
 use Rattle.arj_protocol.specs.Tree.{at_place}
 use Rattle.arj_protocol.specs.World.{format, is_serial_kind}

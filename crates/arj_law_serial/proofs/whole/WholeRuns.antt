@@ -15,14 +15,11 @@ use Rattle.arj_law_lock_view.specs.facts.Acts.{KeepsOf}
 use Rattle.arj_law_lock_view.specs.facts.Entries.{HasObject}
 use Rattle.arj_law_serial.specs.order.Seen.{IsCalled}
 use Rattle.arj_law_serial.specs.whole.Called.{IsIncluded}
-use Rattle.arj_law_serial.specs.whole.Runs.{HandlersKeepWhole, RunsCallObjects, RunsIncludeObjects}
+use Rattle.arj_law_serial.specs.whole.Runs.{RunsCallObjects, RunsIncludeObjects}
 use Rattle.arj_law_serial.specs.whole.Whole.{KnowsWhole}
 use Rattle.arj_law_serial.proofs.whole.CalledWalks.{called_there, calls_keep, included_there}
 use Rattle.arj_law_serial.proofs.whole.Of.{of_both, of_more}
 use Rattle.arj_law_serial.proofs.whole.Whole.{whole_of}
-
-pub handlers_keep_whole : HandlersKeepWhole
-handlers_keep_whole hd x has = whole_of hd x has
 
 -- what is known of the protocol is kept with a relation that is kept beside it
 pub kept_beside : (hd : Header) (x : ℕ) → HasObject hd x → (E : List Action → Seen → Type 0) → KeepsOf hd (λ begun M. KnowsFew M × KnowsWhole x begun M) E → KeepsOf hd (λ begun M. KnowsFew M) (λ begun M. KnowsWhole x begun M × E begun M)

@@ -10,22 +10,19 @@ use Rattle.arj_protocol.specs.Coord.{Committing, Coord, Doing, doing_of}
 use Rattle.arj_protocol.specs.Effect.{Disk, Do, Effect, Say, Send, held_at}
 use Rattle.arj_protocol.specs.Ending.{acked, answer_query}
 use Rattle.arj_protocol.specs.Node.{Parts, Took, handle, is_meant}
-use Rattle.arj_protocol.specs.Order.{uid_number}
 use Rattle.arj_law_parts.specs.parts.Actions.{Action}
 use Rattle.arj_law_parts.specs.parts.Claims.{AreTrue}
 use Rattle.arj_law_runs.specs.calls.Runs.{VotesAreUsed}
 use Rattle.arj_law_disk.specs.machine.Core.{Core}
 use Rattle.arj_law_disk.specs.machine.Effects.{World}
-use Rattle.arj_law_disk.specs.machine.State.{last}
 use Rattle.arj_law_disk_view.specs.view.Sees.{IsLater}
 use Rattle.arj_law_disk_view.specs.running.States.{AllSay, CoordIsSo}
 use Rattle.arj_law_lock_view.specs.facts.Requests.{KnowsRequests}
 use Rattle.arj_law_lock.specs.machine.Actions as machine
 use Rattle.arj_law_lock.specs.machine.Actions.{top}
-use Rattle.arj_law_lock.specs.machine.Machine.{Guard, Run, start}
+use Rattle.arj_law_lock.specs.machine.Machine.{Run, start}
 use Rattle.arj_law_lock.specs.machine.State as lock
 use Rattle.arj_law_lock.specs.machine.State.{Alive, Call}
-use Rattle.arj_law_lock.specs.machine.Steps.{ConfirmTop, IsLast}
 use Rattle.arj_law_lock_view.specs.running.Fixed.{Fixed, view_of}
 use Rattle.arj_law_lock_view.specs.running.Sees.{SeesLocks}
 use Rattle.arj_law_lock_view.specs.view.Handling.{IsMessageShown}
@@ -33,7 +30,7 @@ use Rattle.arj_law_lock_view.specs.view.Telling.{Sees}
 use Rattle.arj_law_serial.specs.order.Tied.{AreApart}
 use Rattle.arj_law_parts.specs.moves.Seen.{In, Seen, at, up}
 use Rattle.arj_law_parts.specs.moves.Walks.{Up, Walks, halted}
-use Rattle.arj_law_serial.specs.joint.Based.{AreBased, CopiesAreBased, HasWriters, IsKnownState, IsVotedOver, WasVotedOver, coord_fits}
+use Rattle.arj_law_serial.specs.joint.Based.{AreBased, CopiesAreBased, HasWriters, IsKnownState, WasVotedOver, coord_fits}
 
 -- no vote is sent
 abbrev pub SendsNoYes : Effect → Type 0
@@ -86,10 +83,3 @@ CoordinatorsKeepBased = (f : Fixed) (x k : ℕ) (begun : List Action) (S : lock.
 -- and where a node stops
 abbrev pub StopsKeepBased : Type 0
 StopsKeepBased = (f : Fixed) (x k : ℕ) (begun : List Action) (S : lock.State) (W : World) (d : Disk) (live : Option Parts) (M : Seen) → Run (start f.first) S → AreBased f x S W (at k d live M) → (e : ℕ) → StaysBased f x begun S W (halted e k d M)
-
--- As naming may take the Confirm of a top with a call that wasn't undone, what was voted for it is one version above the last state, if that is by
--- whose write the lock machine has as the last committed one, and short.
-abbrev pub ConfirmsAreNext : Type 0
-ConfirmsAreNext = (f : Fixed) (x : ℕ) (u : Uid) (S : lock.State) (W : World) → Core W.disk → HasWriters W.disk → (st : ObjectState) (z : IsVotedOver f x u S W st) → (let a = S.action (f.act u) in a.stage) ≡ 1
-    → (q : ℕ) → Guard (ConfirmTop (f.act u) q) S → (c : Call) → machine.In c S.calls → top c.act ≡ f.act u → Alive S c.act
-    → ((w : Uid) → IsLast S (f.code (let k = z.copy in let b = k.base in b.value) (f.act w)) S.calls → uid_number w ≡ (let g = last W.disk in g.writer)) → (let g = last W.disk in g.version) < 18446744073709551615 → st.version ≡ (let g = last W.disk in g.version) + 1

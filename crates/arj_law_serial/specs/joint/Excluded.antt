@@ -5,13 +5,12 @@ use Rattle.std.specs.List.{AllByRecursion}
 use Rattle.arj_base.specs.declared.state.ObjectState.{ObjectState}
 use Rattle.arj_base.specs.declared.uid.Uid.{Uid}
 use Rattle.arj_base.specs.Uid.{entry, object}
-use Rattle.arj_journal.specs.ScriptForm.{HeaderInForm}
 use Rattle.arj_journal.specs.declared.body.Body.TheVariants as body
 use Rattle.arj_journal.specs.declared.body.Line.{Line}
 use Rattle.arj_journal.specs.declared.header.Header.{Header}
 use Rattle.arj_model.specs.Actions.{acts}
 use Rattle.arj_model.specs.Calls.{Top, tops}
-use Rattle.arj_model.specs.Last.{first_values, is_among, last_state, object_line, uid_of_id}
+use Rattle.arj_model.specs.Last.{is_among, last_state, object_line, uid_of_id}
 use Rattle.arj_model.specs.Serial.{Values}
 use Rattle.arj_text.specs.declared.label.Label.{Label}
 use Rattle.arj_law_runs.specs.journal.Book.{new_book}
@@ -21,15 +20,13 @@ use Rattle.arj_protocol.specs.Effect.{held_at}
 use Rattle.arj_protocol.specs.Order.{at_uid, uid_number}
 use Rattle.arj_protocol.specs.Step.{Node}
 use Rattle.arj_protocol.specs.Values.{state_entry}
-use Rattle.arj_protocol.specs.World.{World}
 use Rattle.arj_law_disk.specs.machine.State as disk
-use Rattle.arj_law_disk.specs.machine.State.{Done, Hold, State}
+use Rattle.arj_law_disk.specs.machine.State.{Hold, State}
 use Rattle.arj_law_disk_view.specs.view.Pairs.{IsOf}
-use Rattle.arj_law_parts.specs.moves.Keeps.{Holds}
 use Rattle.arj_law_parts.specs.moves.Moves.{Move, journal_by, world_by}
-use Rattle.arj_law_parts.specs.moves.Seen.{Post, Seen, see}
+use Rattle.arj_law_parts.specs.moves.Seen.{Seen}
 use Rattle.arj_law_serial.specs.order.Decided.{AreDecided, Wrote}
-use Rattle.arj_law_serial.specs.order.Runs.{AreSeenTied, IsSeenDecided}
+use Rattle.arj_law_serial.specs.order.Runs.{IsSeenDecided}
 use Rattle.arj_law_serial.specs.order.Tied.{IsTied}
 use Rattle.arj_law_serial.specs.joint.Forms.{NodeIsSo, kind_of}
 use Rattle.arj_law_serial.specs.joint.Outcome.{is_said}
@@ -108,16 +105,6 @@ pub record IsSeenSo (header : Header) (e x : ℕ) (M : Seen) : Type 0 where
   pub forms : NodesAreSo header x M
   pub takers : TakersAreCommitted e M.lines (let s = seen in let W = s.world in W.disk)
 
--- so it is of each object of the header, and of tops that wrote it the one that is new is the newest; and of each object of which a call was
--- answered the lock machine is seen tied to the journal
-abbrev pub AreSeenInTime : Header → ℕ → Seen → Type 0
-AreSeenInTime header e M = AreSeenTied (first_values header) M
-    × ((x : ℕ) → is_some (object_line header x) ≡ true → (s : IsSeenSo header e x M) × ((t : Top) → IsNew e M.lines t → Wrote M.lines x t → IsNewest header M.lines x (let v = s.seen in let W = v.world in W.disk) (let v = s.seen in v.decided) t))
-
--- a world of which so much is seen excludes stores in time
-abbrev pub SeenRunsExcludeInTime : Type 0
-SeenRunsExcludeInTime = (hd : Header) (w : World) → let e = (let v = w in v.event) in Holds hd (AreSeenInTime hd e) w → Holds hd (AreExcludedInTime hd e) w
-
 -- ---- what the lock machine gives of it
 
 -- no line of this event, or of a later one, stands before a line that calls a commit
@@ -133,19 +120,6 @@ NewWritersAreLast = (values : Values) (lines : List Line) (x : ℕ) (S : machine
 pub record IsBehindIncludes (header : Header) (lines : List Line) (x : ℕ) (S : State) (d : AreDecided header lines x S.tops) (t : Top) : Type 0 where
   pub last : (u : Top) → Contains d.those u → (Wrote lines x u → ⊥) → u.at ≤ t.at
 
--- the same, where a top that is new is behind such ones
-abbrev pub AreSeenByCalls : Header → ℕ → Seen → Type 0
-AreSeenByCalls header e M = AreSeenTied (first_values header) M
-    × ((x : ℕ) → is_some (object_line header x) ≡ true → (s : IsSeenSo header e x M) × ((t : Top) → IsNew e M.lines t → Wrote M.lines x t → IsBehindIncludes header M.lines x (let v = s.seen in let W = v.world in W.disk) (let v = s.seen in v.decided) t))
-
 -- in the last event of a run, whatever stops fall, nothing stands before a commit call
 abbrev pub RunsBeginWithCalls : Type 0
 RunsBeginWithCalls = (hd : Header) (ms : List Move) → let w = world_by hd ms in CommitsBeginIt w.event (journal_by hd ms)
-
--- and a run at whose end so much is seen excludes stores in time too
-abbrev pub RunsExcludeInTimeByCalls : Type 0
-RunsExcludeInTimeByCalls = (hd : Header) (ms : List Move) → let w = world_by hd ms in Holds hd (AreSeenByCalls hd w.event) w → Holds hd (AreExcludedInTime hd w.event) w
-
--- in every run whose header is in form, whatever was sent and whatever stops fall, what stands of objects on nodes is of their classes
-abbrev pub NodesHaveForm : Type 0
-NodesHaveForm = (hd : Header) (x : ℕ) → HeaderInForm hd → (ms : List Move) (sent : List Post) → NodesAreSo hd x (see sent (world_by hd ms))

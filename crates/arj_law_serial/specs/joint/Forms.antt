@@ -15,9 +15,7 @@ use Rattle.arj_protocol.specs.Order.{at_uid}
 use Rattle.arj_protocol.specs.Step.{Node}
 use Rattle.arj_protocol.specs.Values.{state_entry}
 use Rattle.arj_law_disk_view.specs.running.States.{CoordIsSo, Fits, MessageIsSo, Own}
-use Rattle.arj_law_serial.specs.order.Cleaned.{HaveForm}
-use Rattle.arj_law_parts.specs.moves.Keeps.{Holds, Keeps}
-use Rattle.arj_law_parts.specs.moves.Moves.{Move, world_by}
+use Rattle.arj_law_parts.specs.moves.Keeps.{Keeps}
 use Rattle.arj_law_parts.specs.moves.Seen.{In, Post, Seen}
 
 -- ---- states
@@ -114,7 +112,3 @@ kind_of hd x = record { x = x; class = class_of (first_values hd x); servers = s
 -- each handler keeps it
 abbrev pub FormsAreKept : Type 0
 FormsAreKept = (hd : Header) (x : ℕ) → HeaderInForm hd → Keeps hd (AreSo (kind_of hd x))
-
--- So after all moves what stands of an object on disks is of its value's class, and its entry is one, with the header's servers.
-abbrev pub RunsHaveForm : Type 0
-RunsHaveForm = (hd : Header) (x : ℕ) → HeaderInForm hd → (ms : List Move) → Holds hd (HaveForm hd x) (world_by hd ms)

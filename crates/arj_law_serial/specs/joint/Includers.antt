@@ -1,22 +1,18 @@
 -- In which order the commits of two decided tops were called, where one of them includes a store of the object.
 use Rattle.std.specs.Prelude.{⊤, ◌≡◌, ◌⊎◌, ◌<◌, ℕ, true, List, [], ◌∷◌, None, Contains, filter, is_some}
 use Rattle.arj_model.specs.Calls.{Top}
-use Rattle.arj_model.specs.Last.{object_line}
 use Rattle.arj_model.specs.Serial.{Values}
 use Rattle.arj_protocol.specs.Words.{Header, Line, Uid}
 use Rattle.arj_protocol.specs.Order.{uid_number}
 use Rattle.arj_law_disk.specs.machine.Order.{counts_of}
 use Rattle.arj_law_disk.specs.machine.State.{Done, Plan}
 use Rattle.arj_law_disk.specs.machine.Words.{In, has}
-use Rattle.arj_law_parts.specs.moves.Keeps.{Holds}
-use Rattle.arj_law_parts.specs.moves.Moves.{Move, world_by}
 use Rattle.arj_law_parts.specs.moves.Seen.{Seen}
 use Rattle.arj_law_runs.specs.journal.Book.{new_book}
 use Rattle.arj_law_runs.specs.journal.Right.{AreRight}
 use Rattle.arj_law_lock.specs.machine.State as lock
 use Rattle.arj_law_serial.specs.order.Decided.{AreDecisions, Joined, Wrote}
 use Rattle.arj_law_serial.specs.order.Tied.{IsTied}
-use Rattle.arj_law_serial.specs.joint.FitRuns.{IsInForm}
 use Rattle.arj_law_serial.specs.joint.Lights.{LightsAreSplit}
 use Rattle.arj_law_serial.specs.joint.Ordered.{IsCalledBefore, IsOrderedSo}
 
@@ -41,10 +37,6 @@ pub record TakesTurnsSo (hd : Header) (x : ℕ) (M : Seen) : Type 0 where
   pub ordered : IsOrderedSo hd x M
   pub includers : IncludersTakeTurns M.lines (let j = (let b = (let o = ordered in o.begun) in b.journalled) in let W = j.machine in let S = W.disk in S.tops)
   pub lights : LightsAreSplit M.lines (let j = (let b = (let o = ordered in o.begun) in b.journalled) in let W = j.machine in W.disk)
-
--- So it is after all moves in form, of each object of the header.
-abbrev pub RunsTakeTurns : Type 0
-RunsTakeTurns = (hd : Header) (ms : List Move) → IsInForm hd ms → (x : ℕ) → is_some (object_line hd x) ≡ true → Holds hd (TakesTurnsSo hd x) (world_by hd ms)
 
 -- ---- in the words of the model
 

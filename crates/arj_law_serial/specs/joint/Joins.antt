@@ -12,10 +12,8 @@ use Rattle.arj_protocol.specs.Node.{Parts}
 use Rattle.arj_protocol.specs.Order.{has}
 use Rattle.arj_protocol.specs.Step.{Node}
 use Rattle.arj_protocol.specs.Tree.{is_own}
-use Rattle.arj_protocol.specs.Words.{Header, Uid, name}
+use Rattle.arj_protocol.specs.Words.{Uid, name}
 use Rattle.arj_law_disk_view.specs.view.Plans.{plan_at}
-use Rattle.arj_law_parts.specs.moves.Keeps.{Holds}
-use Rattle.arj_law_parts.specs.moves.Moves.{Move, world_by}
 use Rattle.arj_law_parts.specs.moves.Seen.{Seen}
 use Rattle.arj_law_runs.specs.journal.Book.{Access, Book, book}
 use Rattle.arj_law_runs.specs.journal.Knows.{root_in}
@@ -80,7 +78,3 @@ IncludesAreNoted B c = (a : Access) (s : ℕ) → Contains B.accesses a → a.st
 -- so it is at each node that is up
 abbrev pub IncludesAreSaid : Seen → Type 0
 IncludesAreSaid M = (j : ℕ) (n : Node) (t : Parts) → M.nodes j ≡ Some n → n.live ≡ Some t → IncludesAreNoted (book M.lines) t.coord × PlansInclude (book M.lines) t.coord
-
--- So it is after all moves.
-abbrev pub RunsSayIncludes : Type 0
-RunsSayIncludes = (hd : Header) (ms : List Move) → Holds hd IncludesAreSaid (world_by hd ms)

@@ -1,15 +1,13 @@
 -- In which order an object's machine decides tops, against the journal.
-use Rattle.std.specs.Prelude.{⊤, ◌≡◌, ◌≢◌, ◌⊎◌, ◌++◌, ◌&&◌, ℕ, Bool, true, false, not, filter, List, [], ◌∷◌, None, Contains, is_some}
+use Rattle.std.specs.Prelude.{⊤, ◌≡◌, ◌≢◌, ◌⊎◌, ◌++◌, ◌&&◌, ℕ, Bool, true, false, not, filter, List, [], ◌∷◌, None, Contains}
 use Rattle.arj_base.specs.Rows.{is_on}
 use Rattle.arj_model.specs.Actions.{Act, acts, path, uids}
-use Rattle.arj_model.specs.Last.{increasing, is_among, joins_of, leaves_of, object_line}
+use Rattle.arj_model.specs.Last.{increasing, is_among, joins_of, leaves_of}
 use Rattle.arj_protocol.specs.Words.{Header, Line, Uid, first_uid}
 use Rattle.arj_protocol.specs.Order.{uid_number}
 use Rattle.arj_law_disk.specs.machine.Effects.{World}
 use Rattle.arj_law_disk.specs.machine.State.{Done, State, decided, target}
 use Rattle.arj_law_disk.specs.machine.Words.{In, has}
-use Rattle.arj_law_parts.specs.moves.Keeps.{Holds}
-use Rattle.arj_law_parts.specs.moves.Moves.{Move, world_by}
 use Rattle.arj_law_parts.specs.moves.Seen.{Seen}
 use Rattle.arj_law_disk_view.specs.running.Decided.{AreCalled, AreOnce}
 use Rattle.arj_law_disk_view.specs.deciding_lines.Said.{IsPlain}
@@ -18,7 +16,6 @@ use Rattle.arj_law_runs.specs.journal.Idle.{HasNothing}
 use Rattle.arj_law_runs.specs.journal.Laws.{IsDone}
 use Rattle.arj_law_serial.specs.joint.SaidFirst.{IncludersKnow}
 use Rattle.arj_law_serial.specs.joint.Begun.{IsBegunSo}
-use Rattle.arj_law_serial.specs.joint.FitRuns.{IsInForm}
 
 -- ---- against the journal
 
@@ -109,7 +106,3 @@ pub record IsOrderedSo (hd : Header) (x : ℕ) (M : Seen) : Type 0 where
   pub untouched : AreUntouched M.lines x (let j = (let b = begun in b.journalled) in let W = j.machine in let S = W.disk in S.bare)
   pub spared : AreSpared M.lines x (let j = (let b = begun in b.journalled) in let W = j.machine in W.disk)
   pub know : IncludersKnow M.lines (let j = (let b = begun in b.journalled) in let W = j.machine in let S = W.disk in S.tops)
-
--- So it is after all moves in form, of each object of the header.
-abbrev pub RunsAreOrdered : Type 0
-RunsAreOrdered = (hd : Header) (ms : List Move) → IsInForm hd ms → (x : ℕ) → is_some (object_line hd x) ≡ true → Holds hd (IsOrderedSo hd x) (world_by hd ms)

@@ -2,9 +2,7 @@
 use Rattle.std.specs.Prelude.{◌≡◌, Bool, true, ◌&&◌, List, [], ◌∷◌, ◌++◌}
 use Rattle.arj_journal.specs.declared.body.Body.{Body}
 use Rattle.arj_journal.specs.declared.body.Line.{Line}
-use Rattle.arj_journal.specs.declared.header.Header.{Header}
 pub use Rattle.arj_model.specs.Outcome.{has_cause_to_abort, has_halted_since, has_uid, is_behind_decision, is_commit_by, is_said, is_top_of, may_abort, was_committed_at, was_excluded}
-use Rattle.arj_law_parts.specs.moves.Moves.{Move, journal_by}
 
 -- a test that holds of each line, by the lines before it
 abbrev pub each_behind : (List Line → Body → Bool) → List Line → List Line → Bool
@@ -23,9 +21,3 @@ aborts_have_cause lines = each_behind has_cause_to_abort [] lines
 pub record ShowsOneOutcome (lines : List Line) : Type 0 where
   pub commits : commits_are_behind lines ≡ true
   pub aborts : aborts_have_cause lines ≡ true
-
--- ---- runs
-
--- of the commits, after all moves
-abbrev pub CommitsAreBehind : Type 0
-CommitsAreBehind = (hd : Header) (ms : List Move) → commits_are_behind (journal_by hd ms) ≡ true

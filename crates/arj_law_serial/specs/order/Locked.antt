@@ -11,7 +11,7 @@ use Rattle.arj_model.specs.Actions.{Act, Placed, acts, chain_in, committed, has_
 use Rattle.arj_model.specs.Calls.{Call, Said, Top, committed_calls, said}
 use Rattle.arj_model.specs.Last.{Inclusion, included}
 use Rattle.arj_model.specs.Serial.{Values}
-use Rattle.arj_model.specs.Table.{path_by, table}
+use Rattle.arj_model.specs.Table.{path_by}
 use Rattle.arj_law.specs.Held.{locks_for, root_of_call, tables_of, unit_end}
 use Rattle.arj_law_lock.specs.machine.Actions.{root}
 use Rattle.arj_law_lock.specs.machine.Machine.{Run, start}
@@ -40,10 +40,6 @@ pub record IsSeenAt (values : Values) (lines : List Line) (x : ℕ) (T : State) 
   pub behind : Run state T
   pub tied : IsTiedToLines t.act t.code values x (take p lines) state
 
--- so it was, with the rows of the journal's tables
-abbrev pub IsSeenWithTables : (values : Values) (lines : List Line) (x : ℕ) (T : State) → IsTied values lines x T → ℕ → Type 0
-IsSeenWithTables values lines x T t p = (s : IsSeenAt values lines x T t p) × AreRowsSeen t.act lines x (λ n. table n (take p lines)) (table 1 (take p lines)) s.state
-
 -- the node at which the unit of a call ran: that of the binding which its root kept
 abbrev pub ran_at : (values : Values) (lines : List Line) (x : ℕ) (T : State) → IsTied values lines x T → Call → ℕ
 ran_at values lines x T t c = (let b = T.binding (T.kept (root (t.act c.writer))) in b.server)
@@ -70,17 +66,6 @@ is_upper_of lines n u = is_number (root_in (path_by (acts lines) u)) n && (lengt
 abbrev pub locks_entry : List Line → Call → Row → Bool
 locks_entry lines c row = uid_eq row.object (entry c.x) && is_upper_of lines (root_of_call lines c) (last_uid row.holder)
 
--- Held, in these rows of a server and of naming: the call is locked for on its caller's path, and the entry of its object
--- is, by the root of its unit or a top of it.
-pub record IsLockedIn (lines : List Line) (rows names : List Row) (c : Call) : Type 0 where
-  pub object : list_any (locks_call lines c) rows ≡ true
-  pub entry : list_any (locks_entry lines c) names ≡ true
-
--- Held: each surviving call of a committed top is so locked for in the journal's tables at this node of its own, from its `ok` line to the
--- `committing` line of the last member of its unit.
-abbrev pub AreLockedAlong : List Line → (Call → ℕ) → Type 0
-AreLockedAlong lines node = AllByRecursion (λ (c : Call). (p : ℕ) → c.at < p → p ≤ unit_end lines c → IsLockedIn lines (tables_of lines (node c) p) (tables_of lines 1 p) c) (committed_calls lines)
-
 -- Entry held: the entry of the object of each surviving call of a committed top is locked at node 1, by the root of its unit or a top of that
 -- root, from its `ok` line to the `committing` line of the last member of its unit.
 abbrev pub EntriesAreHeld : List Line → Type 0
@@ -102,8 +87,3 @@ writes_entry lines x root row = uid_eq row.object (entry x) && (is_upper_of line
 -- Entry held, of an include: in these rows of naming its object's entry is locked for writing, by the root of the top's unit or a top of that root.
 abbrev pub IsWrittenIn : List Line → List Row → Top → ℕ → Type 0
 IsWrittenIn lines names u x = list_any (writes_entry lines x u.root) names ≡ true
-
--- Each object of which a call was answered has a machine that is tied to the journal, and was seen after each line, with the rows of its
--- tables.
-abbrev pub AreTiedAlong : Values → List Line → Type 0
-AreTiedAlong values lines = (x : ℕ) → list_any (λ (s : Placed Said). s.it.x == x) (said lines) ≡ true → (T : State) × (t : IsTied values lines x T) × ((p : ℕ) → p ≤ length lines → IsSeenWithTables values lines x T t p)

@@ -10,8 +10,7 @@ use Rattle.arj_law_parts.specs.parts.Actions.{Action}
 use Rattle.arj_law_parts.specs.parts.Ends.{brought, told_by}
 use Rattle.arj_law_disk_view.specs.running.Places.{AreBegunIn, AreCallRows, AreKeyed, AreNamesRows, AsksBegun, HasNaming}
 use Rattle.arj_law_runs.specs.kept.Worlds.{IsGoodOf}
-use Rattle.arj_law_parts.specs.moves.Keeps.{Holds, Keeps}
-use Rattle.arj_law_parts.specs.moves.Moves.{Move, world_by}
+use Rattle.arj_law_parts.specs.moves.Keeps.{Keeps}
 use Rattle.arj_law_parts.specs.moves.Seen.{In, Post, Seen}
 
 -- the Uid is on the path of an action that was begun
@@ -69,7 +68,3 @@ EndsArePast M = (acts : List Action) × IsGoodOf acts M × ArePastIn acts M
 -- each handler keeps it
 abbrev pub HandlersKeepPast : Type 0
 HandlersKeepPast = (hd : Header) → Keeps hd EndsArePast
-
--- and so it holds in every run, wherever disks stop
-abbrev pub RunsKeepPast : Type 0
-RunsKeepPast = (hd : Header) (ms : List Move) → Holds hd EndsArePast (world_by hd ms)

@@ -1,6 +1,5 @@
 -- The table of a journal, object by object, against what lines do to locks by the laws of the protocol.
 use Rattle.std.specs.Prelude.{⊤, ◌≡◌, ◌==◌, ◌++◌, ℕ, Bool, true, false, filter, List, [], ◌∷◌}
-use Rattle.std.specs.List.{AllByRecursion}
 use Rattle.arj_base.specs.Rows.{Row}
 use Rattle.arj_base.specs.Uid.{uid_eq}
 use Rattle.arj_base.specs.declared.uid.Uid.{Uid}
@@ -9,12 +8,10 @@ use Rattle.arj_journal.specs.declared.body.Body.TheVariants as body
 use Rattle.arj_journal.specs.declared.body.Line.{Line}
 use Rattle.arj_journal.specs.declared.body.Part.{Part}
 use Rattle.arj_journal.specs.declared.body.Part.TheVariants as part
-use Rattle.arj_model.specs.Actions.{Act, acts, tops_in, uids}
-use Rattle.arj_model.specs.Table.{is_entry, path_by, table, table_step, up_step}
-use Rattle.arj_protocol.specs.Effect.{Do, Effect, Say, Send}
+use Rattle.arj_model.specs.Actions.{Act, tops_in, uids}
+use Rattle.arj_model.specs.Table.{is_entry, path_by, table_step, up_step}
 use Rattle.arj_protocol.specs.Follow.{alone}
-use Rattle.arj_protocol.specs.Laws.{Holders, rows_after, rows_by}
-use Rattle.arj_protocol.specs.World.{bodies, numbered}
+use Rattle.arj_protocol.specs.Laws.{Holders, rows_by}
 
 -- the rows on this object
 abbrev pub rows_on : Uid → List Row → List Row
@@ -49,15 +46,3 @@ abbrev pub is_steady : Body → Bool
 is_steady (body.Began l k u p) = false
 is_steady (body.Up m i) = false
 is_steady b = true
-
--- so it is of what an effect says
-abbrev pub IsSteady : Effect → Type 0
-IsSteady (Say b) = is_steady b ≡ true
-IsSteady (Send to m) = ⊤
-IsSteady (Do w) = ⊤
-
--- So with the lines of effects at which no action begins and no node starts: behind them the rows on the object in the table are what those
--- effects make of the rows before. Frames that they send may have lines, too.
-abbrev pub TablesFollowEffects : Type 0
-TablesFollowEffects = (n : ℕ) (p : Part) (o : Uid) → IsOfPart p o → (lines : List Line) (event from frames : ℕ) (outs : List Effect) → AllByRecursion IsSteady outs
-    → rows_on o (table n (lines ++ numbered event (bodies from frames outs))) ≡ rows_after (holders_in (event == up_of n lines) (acts lines)) n p o outs (rows_on o (table n lines))

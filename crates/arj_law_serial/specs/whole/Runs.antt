@@ -4,16 +4,9 @@ use Rattle.arj_protocol.specs.Words.{Header}
 use Rattle.arj_law_parts.specs.moves.Moves.{Move, journal_by}
 use Rattle.arj_model.specs.Actions.{Placed}
 use Rattle.arj_model.specs.Last.{Inclusion, included}
-use Rattle.arj_law_runs.specs.calls.Runs.{KnowsFew}
-use Rattle.arj_law_lock_view.specs.facts.Acts.{KeepsOf}
 use Rattle.arj_law_lock_view.specs.facts.Entries.{HasObject}
 use Rattle.arj_law_serial.specs.order.Seen.{IsCalled}
 use Rattle.arj_law_serial.specs.whole.Called.{IsIncluded}
-use Rattle.arj_law_serial.specs.whole.Whole.{KnowsWhole}
-
--- each handler keeps what is known of the protocol alone, for an object of the header, where few bindings were made
-abbrev pub HandlersKeepWhole : Type 0
-HandlersKeepWhole = (hd : Header) (x : ℕ) → HasObject hd x → KeepsOf hd (λ begun M. KnowsFew M) (KnowsWhole x)
 
 -- In every run, whatever stops fall, answered calls are on objects of the header.
 abbrev pub RunsCallObjects : Type 0

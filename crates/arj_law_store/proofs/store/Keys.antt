@@ -61,9 +61,6 @@ module _ {X : Type 0} where
   first_gone e [] rises = refl
   first_gone e (f ∷ fs) rises = below e.0 f fs rises.1 rises.0.0
 
-  other : (u : Uid) (e : Uid × X) (es : List (Uid × X)) → is_eq (uid_order u e.0) ≡ false → at_uid u (e ∷ es) ≡ at_uid u es
-  other u e es isnt = rw isnt refl
-
   -- ---- an entry is put
 
   pub put_here : (k : Uid) (v : X) (es : List (Uid × X)) → at_uid k (put_uid k v es) ≡ Some v

@@ -26,7 +26,7 @@ use Rattle.arj_protocol.specs.Effect as protocol
 use Rattle.arj_protocol.specs.Effect.{Pair, held_at, holder_of, names_object, state_eq, is_old, by_holder, refusal_of, refusal_in, first_refusal, prepare_answer, either}
 use Rattle.arj_protocol.specs.Order.{at_uid}
 use Rattle.arj_store.specs.Pair as files
-use Rattle.arj_store.specs.Pair.{packed, uid_of}
+use Rattle.arj_store.specs.Pair.{packed}
 use Rattle.arj_store.specs.declared.answer.Prep.{Prep}
 use Rattle.arj_store.specs.declared.answer.Prep.TheVariants as prep
 
