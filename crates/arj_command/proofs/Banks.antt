@@ -23,12 +23,12 @@ use Rattle.arj_law_nodes.specs.nodes.Last.{EndsBehind}
 use Rattle.arj_law_nodes.specs.nodes.Promised.{ShowsThePromise}
 use Rattle.arj_law_nodes.specs.nodes.Readings.{Reads, files_at, readings_of}
 use Rattle.arj_bank.specs.Balances.{files_in, is_number, no_files, node_files}
-use Rattle.arj_law_serial.specs.joint.DisksInTime.{DisksAreInTime}
-use Rattle.arj_law_serial.specs.joint.Shown.{DisksAre}
-use Rattle.arj_law_parts.specs.moves.Moves.{world_by}
-use Rattle.arj_law_parts.specs.moves.Seen.{see}
+use Rattle.arj_promise.specs.Excluded.{DisksAreInTime}
+use Rattle.arj_promise.specs.Disks.{DisksAre}
+use Rattle.arj_promise.specs.Runs.{world_by}
+use Rattle.arj_promise.specs.Runs.{see}
 use Rattle.arj_model.specs.Clean.{Clean}
-use Rattle.arj_law_promise.specs.statement.Resting.{HoldAllStates}
+use Rattle.arj_promise.specs.Resting.{HoldAllStates}
 use Rattle.arj_protocol.specs.Tree.{at_place}
 use Rattle.std.specs.Prelude.{Bool, true, if◌then◌else◌, length, slice_get}
 use Rattle.arj_world.proofs.Disks.{some_one}

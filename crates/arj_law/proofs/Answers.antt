@@ -7,7 +7,7 @@ use Rattle.arj_class.specs.Table.{answer_of, value_after, writes}
 use Rattle.arj_text.specs.Words.{answer_text}
 use Rattle.arj_model.specs.Calls.{Call}
 use Rattle.arj_model.specs.Serial.{Values, Answers, after, run, writes_on}
-use Rattle.arj_law.specs.Book.{writes_before, IsAnsweredBy}
+use Rattle.arj_model.specs.Book.{writes_before, IsAnsweredBy}
 use Rattle.arj_law.proofs.Common.{turned, not_below_itself, not_below_back, Pairwise, pairwise_before, pairwise_behind, filter_none, all_map}
 use Rattle.arj_law.proofs.Moves.{other_stays, all_stay}
 

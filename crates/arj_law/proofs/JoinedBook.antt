@@ -11,10 +11,10 @@ use Rattle.arj_model.specs.Actions.{Placed, acts, committed}
 use Rattle.arj_model.specs.Calls.{Call, Top, committed_calls, tops}
 use Rattle.arj_model.specs.Last.{is_among}
 use Rattle.arj_model.specs.Serial.{Values, run, serial_less, top_place, writes_on}
-use Rattle.arj_law.specs.Book.{Answered, CommitsComeFirst, InOrder, IsAnsweredBy, IsCalledFirst, OfEachTwo, StandInOrder, writes_before}
+use Rattle.arj_model.specs.Book.{Answered, CommitsComeFirst, InOrder, IsAnsweredBy, IsCalledFirst, OfEachTwo, StandInOrder, writes_before}
 use Rattle.arj_law.specs.Joined.{AreApart, AreCalled, call_behind, calls_behind, values_after}
-use Rattle.arj_law.specs.Keeping.{KeepsTheBook}
-use Rattle.arj_law.specs.Nested.{AnsweredInTime, FreedInOrder, IsFreedFor, commit_place}
+use Rattle.arj_model.specs.Keeping.{KeepsTheBook}
+use Rattle.arj_model.specs.Nested.{AnsweredInTime, FreedInOrder, IsFreedFor, commit_place}
 use Rattle.arj_law.proofs.Common.{all_both, all_map, filter_none, never, not_below_back}
 use Rattle.arj_law.proofs.Answers.{run-append, run_writes}
 use Rattle.arj_law.proofs.Last.{value_of_writes, writes_are}

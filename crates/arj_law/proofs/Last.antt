@@ -7,7 +7,7 @@ use Rattle.arj_journal.specs.declared.body.Line.{Line}
 use Rattle.arj_model.specs.Calls.{Call, tops, committed_calls}
 use Rattle.arj_model.specs.Serial.{Values, run, insert, arrange, serial_less, serial_calls, writes_on}
 use Rattle.arj_model.specs.Last.{writes_of}
-use Rattle.arj_law.specs.Book.{is_conflict, StandInOrder, InOrder}
+use Rattle.arj_model.specs.Book.{is_conflict, StandInOrder, InOrder}
 use Rattle.arj_law.proofs.Common.{never, Pairwise, pairwise_of, pairwise_both, pairwise_map}
 use Rattle.arj_law.proofs.Moves.{all_arrange}
 use Rattle.arj_law.proofs.Answers.{run_writes}

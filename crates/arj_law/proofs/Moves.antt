@@ -9,7 +9,7 @@ use Rattle.arj_class.specs.declared.value.Value.{Value}
 use Rattle.arj_text.specs.Words.{answer_text}
 use Rattle.arj_model.specs.Calls.{Call}
 use Rattle.arj_model.specs.Serial.{Values, Answers, after, insert, arrange}
-use Rattle.arj_law.specs.Book.{is_conflict}
+use Rattle.arj_model.specs.Book.{is_conflict}
 use Rattle.arj_law.proofs.Common.{never, turned, Pairwise}
 
 -- an operation that only reads leaves the value

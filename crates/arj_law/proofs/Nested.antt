@@ -8,8 +8,8 @@ use Rattle.arj_model.specs.Actions.{Act, Placed, acts, committed}
 use Rattle.arj_model.specs.Calls.{Call, committed_calls, tops}
 use Rattle.arj_model.specs.Serial.{Values, Serial, Answers, insert, arrange, lex, serial_less, serial_calls}
 use Rattle.arj_model.specs.Last.{is_among}
-use Rattle.arj_law.specs.Book.{is_conflict}
-use Rattle.arj_law.specs.Nested.{commit_place, nested_key, nested_less, nested_calls, IsFreedFor, FreedInOrder, AnsweredInTime}
+use Rattle.arj_model.specs.Book.{is_conflict}
+use Rattle.arj_model.specs.Nested.{commit_place, nested_key, nested_less, nested_calls, IsFreedFor, FreedInOrder, AnsweredInTime}
 use Rattle.arj_law.proofs.Common.{never, turned, Pairwise, all_map, all_both, pairwise_of, pairwise_both, pairwise_map}
 use Rattle.arj_law.proofs.Depths.{depth, StandAt, ChainStands, chains_stand}
 use Rattle.arj_law.proofs.Moves.{MayPass, arrange_answers, all_insert, all_arrange}

@@ -7,7 +7,7 @@ use Rattle.arj_journal.specs.declared.body.Line.{Line}
 use Rattle.arj_model.specs.Actions.{Act, Placed, top_in, chain_in, has_end, is_committed, committed, recovered}
 use Rattle.arj_model.specs.Calls.{Call, Said, said, said_of, call_of, kept, kept_in, committed_calls, tops}
 use Rattle.arj_model.specs.Serial.{Values, Serial, lex, serial_key, serial_less}
-use Rattle.arj_law.specs.Book.{is_conflict, StandInOrder, InOrder, Answered}
+use Rattle.arj_model.specs.Book.{is_conflict, StandInOrder, InOrder, Answered}
 use Rattle.arj_law.proofs.Common.{never, Pairwise, pairwise_of, pairwise_both, pairwise_map, pairwise_filter_map, read_rises, lex_same, lex_turn}
 use Rattle.arj_law.proofs.Moves.{MayPass, arrange_answers}
 use Rattle.arj_law.proofs.Answers.{book_answers}

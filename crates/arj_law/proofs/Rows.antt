@@ -11,8 +11,8 @@ use Rattle.arj_model.specs.Serial.{serial_calls}
 use Rattle.arj_model.specs.Last.{listed}
 use Rattle.arj_model.proofs.Journals.{A, B, C, D, uid, began, lines_of, unit_round_a_top}
 use Rattle.arj_law.specs.Growth.{more}
-use Rattle.arj_law.specs.Held.{unit_end}
-use Rattle.arj_law.specs.Nested.{nested_calls}
+use Rattle.arj_model.specs.Held.{unit_end}
+use Rattle.arj_model.specs.Nested.{nested_calls}
 
 -- B is nested in A, C in B, and D in A.
 three_levels : List Line

@@ -4,7 +4,7 @@ ghost use Rattle.arj_journal.specs.declared.body.Line.{Line};
 ghost use Rattle.arj_journal.specs.declared.header.Header.{Header};
 ghost use Rattle.arj_law.specs.Joined.{AreApart, AreCalled, AreJoined, CleanFrom, calls_behind, entry_from, last_from, marks_after, tops_behind, unwritten, values_after};
 ghost use Rattle.arj_law.specs.JoinedSamples.{AddsEnd, IncludesEnd, NestedEnd};
-ghost use Rattle.arj_law.specs.Keeping.{KeepsTheBook};
+ghost use Rattle.arj_model.specs.Keeping.{KeepsTheBook};
 ghost use Rattle.arj_model.specs.Calls.{committed_calls, tops};
 ghost use Rattle.arj_model.specs.Clean.{Clean};
 ghost use Rattle.arj_model.specs.Disks.{Disks};

@@ -1,3 +1,8 @@
+-- The lock machine of one object: naming, servers and coordinators with nested actions and serializing units, any part of which may
+-- stop, over a net that keeps every message for ever; and the laws that each run of it keeps.
+--
+-- It stands on nothing. `specs/` has the machine (`State`, `Steps`, `Machine`) and the laws (`Laws`), `proofs/` the invariant in
+-- layers: order, then values given the order, then votes given both.
 pub mod Paths
 pub mod Rows
 pub mod Claims

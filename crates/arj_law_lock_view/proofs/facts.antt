@@ -1,3 +1,8 @@
+-- Facts of the protocol alone, in every run, that its view by the lock machine counts on.
+--
+-- `view/` has laws of whole servers, coordinators and naming, with premises about the protocol's state. What of these isn't among what
+-- good nodes keep (`arj_law_runs/kept`) is shown here as relations that each handler keeps, beside good nodes and known Binds
+-- (`arj_law_runs/addresses`): of coordinators, of naming and of its answers (`specs/Worlds.antt`).
 pub mod Turns
 pub mod Waits
 pub mod Kept

@@ -1,3 +1,10 @@
+-- Whole runs of the protocol, seen by the lock machine of one object.
+--
+-- It puts together what `view/` has of naming, servers and coordinators: one state of the machine is tied to all nodes, up or down, and
+-- to every message that was ever sent (`specs/Sees.antt`, `specs/Posts.antt`), for every place of actions in the machine that agrees
+-- with those that were begun (`specs/Fixed.antt`); and the journal is tied to that state (`specs/Tied.antt`), by what `journal/` has of
+-- each line. What is taken as known of the protocol alone where something comes is named in `specs/Beside.antt`. It stands on
+-- `arj_law_runs/kept` for what nodes and messages are by themselves.
 pub mod PostSteps
 pub mod OtherSteps
 pub mod TieSteps

@@ -1,3 +1,9 @@
+-- The protocol seen by the lock machine of one object, part by part: naming, servers, coordinators.
+--
+-- The machine (`arj_law_lock/machine`) has of one object what naming, servers and coordinators have of it, and its laws are about
+-- order, values and held locks. For each object a state of the machine is tied to the protocol place by place; a call of a part is then
+-- a run of the machine, allowed step by step, after which the place is seen again. It stands on `arj_protocol`, `arj_law_lock/machine`
+-- and what the parts keep (`arj_law_parts/parts`).
 pub mod AbortInputSteps
 pub mod AbortSteps
 pub mod ActingSteps

@@ -1,3 +1,6 @@
+-- What an event of a script leaves and writes, by the protocol alone.
+--
+-- It stands on the definitions of `arj_protocol`.
 pub mod Frames
 pub mod Settled
 pub mod NoHalts

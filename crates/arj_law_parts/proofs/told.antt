@@ -1,0 +1,3 @@
+-- Tolds can be sent: each message in which a coordinator tells how actions ended has a frame.
+--
+-- It stands on the messages (`arj_msg`) and the definitions of `arj_protocol`, and has no code that runs.

@@ -1,4 +1,3 @@
 pub mod Keeps
 pub mod Seen
 pub mod Walks
-pub mod Moves

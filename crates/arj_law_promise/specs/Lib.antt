@@ -1,3 +1,2 @@
 pub mod waiting
 pub mod settling
-pub mod statement

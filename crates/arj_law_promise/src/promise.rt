@@ -1,5 +1,5 @@
 // The promise of the protocol, of every run in form.
-ghost use Rattle.arj_law_promise.specs.statement.Promise.{CalmQuiescesEndAtRest, KeptAfterEveryEvent, QuiescesAnswerWhoWaits, QuiescesGiveUpNothing, QuiescesLeaveOvertaken, QuietDisksHoldAll, QuietLinesTell, RoundsEndAtRest, RunsKeepThePromise, ScriptsAreRuns};
+ghost use Rattle.arj_promise.specs.Promise.{CalmQuiescesEndAtRest, KeptAfterEveryEvent, QuiescesAnswerWhoWaits, QuiescesGiveUpNothing, QuiescesLeaveOvertaken, QuietDisksHoldAll, QuietLinesTell, RoundsEndAtRest, RunsKeepThePromise, ScriptsAreRuns};
 
 /// Every run in form keeps the promise, wherever disks stop in it, and so does what was run by the end of each event: `runs` and `fronts`. The run of
 /// a script in form is one (`scripts`). Wherever every node is idle, disks hold every entry and last state (`quiet`). After a quiesce at whose end

@@ -4,7 +4,7 @@ ghost use Rattle.std.specs.List.{AllByRecursion};
 ghost use Rattle.arj_journal.specs.ScriptForm.{HeaderInForm};
 ghost use Rattle.arj_journal.specs.declared.header.Header.{Header};
 ghost use Rattle.arj_law_parts.specs.moves.Keeps.{Holds};
-ghost use Rattle.arj_law_parts.specs.moves.Moves.{Move, world_by};
+ghost use Rattle.arj_promise.specs.Runs.{Move, world_by};
 ghost use Rattle.arj_law_runs.specs.addresses.Addresses.{AreSo, GoWithin, LineOf};
 
 /// In every run, wherever disks stop, what holds of 1, of each node of the header, and of the servers and stores of its objects,

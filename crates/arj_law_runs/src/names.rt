@@ -2,7 +2,7 @@
 ghost use Rattle.std.specs.Prelude.{List};
 ghost use Rattle.arj_law_parts.specs.steps.Named.{AreNamed};
 ghost use Rattle.arj_journal.specs.declared.header.Header.{Header};
-ghost use Rattle.arj_law_parts.specs.moves.Moves.{Move, world_by};
+ghost use Rattle.arj_promise.specs.Runs.{Move, world_by};
 
 /// In each run, with all frames in any order, again or never, all stops, crashes and restarts, each label that a coordinator knows
 /// is that of the action at work at its number, so that what it says of an action it says by the label that it was begun with;

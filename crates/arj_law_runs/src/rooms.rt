@@ -4,7 +4,7 @@ ghost use Rattle.arj_journal.specs.declared.header.Header.{Header};
 ghost use Rattle.arj_protocol.specs.Node.{Parts};
 ghost use Rattle.arj_protocol.specs.Step.{Node};
 ghost use Rattle.arj_protocol.specs.Tree.{Tree, at_place};
-ghost use Rattle.arj_law_parts.specs.moves.Moves.{Move, world_by};
+ghost use Rattle.arj_promise.specs.Runs.{Move, world_by};
 ghost use Rattle.arj_law_runs.specs.coordinators.Rooms.{HasRoom};
 ghost use Rattle.arj_law_parts.specs.told.Sends.{HasFewEnds};
 

@@ -8,7 +8,6 @@ pub mod Shown
 pub mod Marked
 pub mod MarkedTops
 pub mod Writers
-pub mod Outcome
 pub mod Samples
 pub mod Excluded
 pub mod InTime

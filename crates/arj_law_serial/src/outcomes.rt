@@ -1,10 +1,12 @@
 // One outcome of each top, and that stores are excluded in time, by a journal.
 ghost use Rattle.std.specs.Prelude.{◌≡◌, false};
-ghost use Rattle.arj_law_serial.specs.joint.Excluded.{IsInTime, IsNew};
-ghost use Rattle.arj_law_serial.specs.joint.DisksInTime.{DiskIsInTime, Lists, RunsExcludeInTimeOnDisks};
+ghost use Rattle.arj_law_serial.specs.joint.Excluded.{IsInTime};
+ghost use Rattle.arj_promise.specs.Excluded.{IsNew};
+ghost use Rattle.arj_law_serial.specs.joint.DisksInTime.{RunsExcludeInTimeOnDisks};
+ghost use Rattle.arj_promise.specs.Excluded.{DiskIsInTime, Lists};
 ghost use Rattle.arj_law_serial.specs.joint.DisksJoined.{JoinedRunsAreInTime};
 ghost use Rattle.arj_law_serial.specs.joint.InTime.{RunsExcludeInTime};
-ghost use Rattle.arj_law_serial.specs.joint.Outcome.{ShowsOneOutcome, aborts_have_cause, commits_are_behind};
+ghost use Rattle.arj_promise.specs.Outcome.{ShowsOneOutcome, aborts_have_cause, commits_are_behind};
 ghost use Rattle.arj_law_serial.specs.joint.Samples.{decided_lines, disks_decided, disks_late, found_commit, halted_abort, header, its_top, naming_late, naming_node, right_end, store_three, store_two, wrong_abort, wrong_commit, wrong_names_abort};
 
 /// The definition of one outcome, tried on small journals: which it accepts, and which it refuses. It does nothing when it runs.

@@ -20,3 +20,7 @@ pub mod CauseNodes
 pub mod Caused
 pub mod Clean
 pub mod Disks
+pub mod Book
+pub mod Held
+pub mod Nested
+pub mod Keeping

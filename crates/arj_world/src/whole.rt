@@ -5,7 +5,7 @@ ghost use Rattle.arj_law_parts.specs.steps.Writes.{IsWhole};
 ghost use Rattle.arj_journal.specs.declared.header.Header.{Header};
 ghost use Rattle.arj_protocol.specs.World.{World, format};
 ghost use Rattle.arj_law_parts.specs.moves.Keeps.{Holds, Keeps};
-ghost use Rattle.arj_law_parts.specs.moves.Seen.{Seen};
+ghost use Rattle.arj_promise.specs.Runs.{Seen};
 ghost use Rattle.arj_world.specs.Turns.{Turn, all_turned, turned};
 
 /// In every run, with whatever stops, the world has each node of its header, and each label is of an action of one. It does

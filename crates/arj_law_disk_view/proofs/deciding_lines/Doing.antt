@@ -14,7 +14,8 @@ use Rattle.arj_law_runs.proofs.kept.Handled.{it}
 use Rattle.arj_law_runs.proofs.kept.Walked.{same_number}
 use Rattle.arj_law_disk.specs.machine.Effects as machine
 use Rattle.arj_law_disk.proofs.machine.Base.{bool_cases, never}
-use Rattle.arj_law_parts.specs.moves.Seen.{Seen, up}
+use Rattle.arj_law_parts.specs.moves.Seen.{up}
+use Rattle.arj_promise.specs.Runs.{Seen}
 use Rattle.arj_law_disk_view.specs.view.Sees.{IsLater, Kinds, SeesDisks, SeesNotes}
 use Rattle.arj_law_disk_view.proofs.view.Frames.{node_here}
 use Rattle.arj_law_runs.specs.journal.Book.{book, is_decided, is_top, new_book}

@@ -6,7 +6,8 @@ use Rattle.arj_protocol.specs.Coord.{Doing, doing_of}
 use Rattle.arj_protocol.specs.Effect.{Disk}
 use Rattle.arj_protocol.specs.Node.{Parts}
 use Rattle.arj_protocol.specs.Tree.{Branch, branch_of}
-use Rattle.arj_law_parts.specs.moves.Seen.{Seen, up}
+use Rattle.arj_law_parts.specs.moves.Seen.{up}
+use Rattle.arj_promise.specs.Runs.{Seen}
 use Rattle.arj_law_runs.specs.journal.Book.{book, is_decided, is_top, new_book}
 use Rattle.arj_law_runs.specs.journal.Idle.{IsIdle}
 use Rattle.arj_law_runs.specs.journal.Knows.{IsKept}

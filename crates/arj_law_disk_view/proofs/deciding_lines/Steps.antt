@@ -11,7 +11,8 @@ use Rattle.arj_protocol.specs.Effect.{Abort, After, Before, Commit, Disk, Do, Ef
 use Rattle.arj_protocol.specs.Node.{Parts}
 use Rattle.arj_protocol.specs.Step.{Node}
 use Rattle.arj_protocol.specs.World.{numbered}
-use Rattle.arj_law_parts.specs.moves.Seen.{Post, Seen, at, posted, said}
+use Rattle.arj_law_parts.specs.moves.Seen.{at, posted, said}
+use Rattle.arj_promise.specs.Runs.{Post, Seen}
 use Rattle.arj_law_parts.specs.moves.Walks.{Up, Walks}
 use Rattle.arj_law_disk_view.proofs.running.Plain.{Plain, is_plain}
 use Rattle.arj_law_runs.specs.journal.Book.{Book, book, book_from, new_book, turned}

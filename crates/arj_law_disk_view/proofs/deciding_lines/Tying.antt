@@ -17,7 +17,8 @@ use Rattle.arj_law_disk.specs.machine.Names.{Office}
 use Rattle.arj_law_disk.specs.machine.State.{decided, decided_in as is_among}
 use Rattle.arj_law_disk.proofs.machine.Base.{never, some_is}
 use Rattle.arj_law_parts.specs.moves.Keeps.{Holds, Keeps}
-use Rattle.arj_law_parts.specs.moves.Seen.{Seen, at, down, given, said, see, up, AreQuiet}
+use Rattle.arj_law_parts.specs.moves.Seen.{at, down, given, said, up, AreQuiet}
+use Rattle.arj_promise.specs.Runs.{Seen, see}
 use Rattle.arj_law_parts.specs.moves.Walks.{Up, Walks, halted}
 use Rattle.arj_law_parts.proofs.moves.Together.{walks_both, walks_to}
 use Rattle.arj_law_disk_view.specs.view.Deciding.{nodes_of}

@@ -21,7 +21,8 @@ use Rattle.arj_law_disk.specs.machine.Names.{Office}
 use Rattle.arj_law_disk.specs.machine.State.{Done, decided, decided_in}
 use Rattle.arj_law_disk.specs.machine.Words.{In}
 use Rattle.arj_law_disk.proofs.machine.Base.{never, or_cases, some_is, test_same}
-use Rattle.arj_law_parts.specs.moves.Seen.{Seen, at, down, given, said, up}
+use Rattle.arj_law_parts.specs.moves.Seen.{at, down, given, said, up}
+use Rattle.arj_promise.specs.Runs.{Seen}
 use Rattle.arj_law_parts.specs.moves.Walks.{Up, Walks, halted}
 use Rattle.arj_law_parts.proofs.moves.Together.{walks_both, walks_to}
 use Rattle.arj_law_disk_view.specs.view.Sees.{Along, Kinds, followed}

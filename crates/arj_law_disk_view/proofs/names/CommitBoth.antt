@@ -23,7 +23,8 @@ use Rattle.arj_law_disk.specs.machine.State as disk
 use Rattle.arj_law_disk.specs.machine.State.{is_idle}
 use Rattle.arj_law_disk.proofs.machine.Base.{falls_to, never, put_same}
 use Rattle.arj_law_disk.proofs.machine.Keeps.{effect_keeps}
-use Rattle.arj_law_parts.specs.moves.Seen.{Seen, up}
+use Rattle.arj_law_parts.specs.moves.Seen.{up}
+use Rattle.arj_promise.specs.Runs.{Seen}
 use Rattle.arj_law_parts.specs.moves.Walks.{Up}
 use Rattle.arj_law_parts.proofs.moves.Together.{walks_to}
 use Rattle.arj_law_disk_view.specs.view.Plans.{plan_at}

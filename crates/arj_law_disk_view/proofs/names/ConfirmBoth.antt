@@ -20,7 +20,8 @@ use Rattle.arj_law_disk.specs.machine.Named.{Named}
 use Rattle.arj_law_disk.specs.machine.Names.{Names, Office}
 use Rattle.arj_law_disk.proofs.machine.Acts.{runs_keep}
 use Rattle.arj_law_disk.proofs.machine.Base.{never, or_cases, some_is}
-use Rattle.arj_law_parts.specs.moves.Seen.{Seen, up}
+use Rattle.arj_law_parts.specs.moves.Seen.{up}
+use Rattle.arj_promise.specs.Runs.{Seen}
 use Rattle.arj_law_parts.specs.moves.Walks.{Walks, Up, halted}
 use Rattle.arj_law_disk_view.specs.view.Confirming.{IsConfirmation, IsNewConfirm, IsUnconfirmed, with_locks}
 use Rattle.arj_law_disk_view.specs.view.Coordinating.{IsConfirmedNow}

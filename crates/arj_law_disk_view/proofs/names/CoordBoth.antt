@@ -18,7 +18,8 @@ use Rattle.arj_law_disk.proofs.machine.Base.{falls_to, never, open_made, or_case
 use Rattle.arj_law_disk.proofs.machine.Keeps.{effect_keeps}
 use Rattle.arj_law_disk.proofs.machine.PlainActs.{plain_act}
 use Rattle.arj_law_disk.proofs.machine.Restarts.{open_begun}
-use Rattle.arj_law_parts.specs.moves.Seen.{Seen, at, posted, said, up}
+use Rattle.arj_law_parts.specs.moves.Seen.{at, posted, said, up}
+use Rattle.arj_promise.specs.Runs.{Seen}
 use Rattle.arj_law_disk_view.proofs.view.Frames.{node_here}
 use Rattle.arj_law_disk.specs.machine.Words.{In}
 use Rattle.arj_law_parts.specs.moves.Walks.{Walks, Up, halted}

@@ -14,7 +14,8 @@ use Rattle.arj_law_disk.specs.machine.State.{State}
 use Rattle.arj_law_disk.specs.machine.Words.{In, put2}
 use Rattle.arj_law_disk.proofs.machine.Acts.{runs_keep}
 use Rattle.arj_law_disk.proofs.machine.Base.{put2_rises}
-use Rattle.arj_law_parts.specs.moves.Seen.{Seen, up}
+use Rattle.arj_law_parts.specs.moves.Seen.{up}
+use Rattle.arj_promise.specs.Runs.{Seen}
 use Rattle.arj_law_disk_view.specs.view.Pairs.{packed}
 use Rattle.arj_law_disk_view.specs.view.Sees.{Kinds, SeesDisks}
 use Rattle.arj_law_disk_view.proofs.view.Frames.{node_here}

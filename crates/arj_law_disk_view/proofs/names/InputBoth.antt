@@ -26,7 +26,8 @@ use Rattle.arj_law_disk.specs.machine.Guards.{Begins, only_begins}
 use Rattle.arj_law_disk.specs.machine.Names.{Office}
 use Rattle.arj_law_disk.proofs.machine.Base.{never, some_is, test_same}
 use Rattle.arj_law_parts.specs.moves.Keeps.{is_act}
-use Rattle.arj_law_parts.specs.moves.Seen.{Seen, up}
+use Rattle.arj_law_parts.specs.moves.Seen.{up}
+use Rattle.arj_promise.specs.Runs.{Seen}
 use Rattle.arj_law_disk_view.specs.view.Coordinating.{DidIsWalked}
 use Rattle.arj_law_disk_view.specs.view.Knows.{IsOfKind, KnowsCoord, KnowsKinds, KnowsPlan}
 use Rattle.arj_law_disk_view.specs.view.Sees.{Kinds, SeesDisks, Walk, Works, followed}

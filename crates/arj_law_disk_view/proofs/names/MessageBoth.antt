@@ -45,7 +45,8 @@ use Rattle.arj_law_disk.proofs.machine.Acts.{runs_keep}
 use Rattle.arj_law_disk.proofs.machine.Base.{never, some_is, test_is, test_same}
 use Rattle.arj_law_disk.proofs.machine.PlainActs.{plain_act}
 use Rattle.arj_law_parts.specs.moves.Seen as seen
-use Rattle.arj_law_parts.specs.moves.Seen.{Seen, up}
+use Rattle.arj_law_parts.specs.moves.Seen.{up}
+use Rattle.arj_promise.specs.Runs.{Seen}
 use Rattle.arj_law_parts.specs.moves.Walks.{Walks, Up}
 use Rattle.arj_law_parts.proofs.moves.Together.{walks_to}
 use Rattle.arj_law_disk_view.specs.view.Coordinating.{ConfirmsAreBooked, KnowsNode, NotesMessage, commit_note}

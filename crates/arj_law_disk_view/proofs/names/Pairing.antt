@@ -21,7 +21,8 @@ use Rattle.arj_law_disk.proofs.machine.Acts.{runs_keep}
 use Rattle.arj_law_disk.proofs.machine.Base.{never, test_not, test_same}
 use Rattle.arj_law_disk.proofs.machine.Keeps.{effect_keeps}
 use Rattle.arj_law_disk.proofs.machine.PlainActs.{plain_effects_are_acts}
-use Rattle.arj_law_parts.specs.moves.Seen.{Seen, up, at, said, posted}
+use Rattle.arj_law_parts.specs.moves.Seen.{up, at, said, posted}
+use Rattle.arj_promise.specs.Runs.{Seen}
 use Rattle.arj_law_parts.specs.moves.Walks.{Walks, Up, halted}
 use Rattle.arj_law_disk_view.proofs.view.Later.{effects_are_later}
 use Rattle.arj_law_disk_view.specs.view.Sees.{IsLater, Kinds, Along, SeesDisks, IsSeenByDisks, followed}

@@ -20,7 +20,8 @@ use Rattle.arj_law_disk.specs.machine.Named.{Named}
 use Rattle.arj_law_disk.specs.machine.Names.{Names, Office, Restart, acted}
 use Rattle.arj_law_disk.proofs.machine.Acts.{runs_keep}
 use Rattle.arj_law_disk.proofs.machine.Base.{never, some_is, test_is, test_same}
-use Rattle.arj_law_parts.specs.moves.Seen.{Seen, down, said}
+use Rattle.arj_law_parts.specs.moves.Seen.{down, said}
+use Rattle.arj_promise.specs.Runs.{Seen}
 use Rattle.arj_law_parts.specs.moves.Walks.{Walks, Up, halted}
 use Rattle.arj_law_parts.proofs.moves.Together.{walks_to}
 use Rattle.arj_law_disk_view.specs.view.Sees.{IsSeenByDisks, Kinds, followed}

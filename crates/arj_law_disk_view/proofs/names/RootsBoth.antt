@@ -17,7 +17,7 @@ use Rattle.arj_law_disk.specs.machine.State.{Packed}
 use Rattle.arj_law_disk.specs.machine.Words.{In}
 use Rattle.arj_law_disk.proofs.machine.Base.{some_is}
 use Rattle.arj_law_disk.proofs.machine.NamingResults.{first_is_named}
-use Rattle.arj_law_parts.specs.moves.Seen.{see}
+use Rattle.arj_promise.specs.Runs.{see}
 use Rattle.arj_law_disk_view.specs.view.Sees.{IsFixed, Kinds, SeesDisks}
 use Rattle.arj_law_disk_view.proofs.view.FirstSeen as seen
 use Rattle.arj_law_disk_view.proofs.view.FirstSeen.{first_at, format_seen}

@@ -25,7 +25,8 @@ use Rattle.arj_law_disk.proofs.machine.Acts.{runs_keep}
 use Rattle.arj_law_disk.proofs.machine.Base.{falls_to, never, some_is, test_is}
 use Rattle.arj_law_disk.proofs.machine.PlainActs.{plain_act}
 use Rattle.arj_law_disk_view.specs.view.Pairs.{AreSorted}
-use Rattle.arj_law_parts.specs.moves.Seen.{Seen, up}
+use Rattle.arj_law_parts.specs.moves.Seen.{up}
+use Rattle.arj_promise.specs.Runs.{Seen}
 use Rattle.arj_law_parts.specs.moves.Walks.{Walks, Up, halted}
 use Rattle.arj_law_disk_view.specs.view.Entries.{SeesEntry}
 use Rattle.arj_law_disk_view.specs.view.Sees.{Along, IsLater, Kinds, IsFixed, IsNested, IsSeenByDisks, SeesDisks, followed}

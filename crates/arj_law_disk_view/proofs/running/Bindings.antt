@@ -12,7 +12,7 @@ use Rattle.arj_law_runs.specs.coordinators.Uses.{KnowsTops}
 use Rattle.arj_law_runs.proofs.coordinators.RunCoords.{all_keep_so}
 use Rattle.arj_law_runs.proofs.coordinators.RunUses.{tops_are_kept}
 use Rattle.arj_law_parts.specs.moves.Keeps.{Keeps}
-use Rattle.arj_law_parts.specs.moves.Seen.{Seen}
+use Rattle.arj_promise.specs.Runs.{Seen}
 use Rattle.arj_law_lock_view.specs.records.Runs.{RecordsAreFree, RecordsRun}
 use Rattle.arj_law_lock_view.proofs.records.Free.{records_free, records_run_on}
 use Rattle.arj_law_disk_view.specs.running.Bindings.{AllKnowTops, AllNameOwn, AreGoodCounted}

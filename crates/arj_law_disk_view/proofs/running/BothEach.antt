@@ -13,7 +13,8 @@ use Rattle.arj_law_disk.specs.machine.Effects.{World}
 use Rattle.arj_law_disk.specs.machine.Names.{Office}
 use Rattle.arj_law_disk.specs.machine.State.{Packed}
 use Rattle.arj_law_parts.specs.moves.Keeps.{Keeps}
-use Rattle.arj_law_parts.specs.moves.Seen.{Seen, see, up}
+use Rattle.arj_law_parts.specs.moves.Seen.{up}
+use Rattle.arj_promise.specs.Runs.{Seen, see}
 use Rattle.arj_law_disk_view.specs.view.Coordinating.{KnowsNode}
 use Rattle.arj_law_disk_view.specs.view.Pairs.{packed_entry}
 use Rattle.arj_law_disk_view.specs.view.Sees.{Kinds}

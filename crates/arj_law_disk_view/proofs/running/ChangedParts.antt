@@ -10,7 +10,8 @@ use Rattle.arj_protocol.specs.Coord.{Committing, Doing, doing_of, root_at, top_u
 use Rattle.arj_protocol.specs.Effect.{Disk}
 use Rattle.arj_protocol.specs.Node.{Parts}
 use Rattle.arj_protocol.specs.Tree.{root_of}
-use Rattle.arj_law_parts.specs.moves.Seen.{Seen, up}
+use Rattle.arj_law_parts.specs.moves.Seen.{up}
+use Rattle.arj_promise.specs.Runs.{Seen}
 use Rattle.arj_law_disk_view.specs.view.Plans.{plan_at, plan_by, used_at}
 use Rattle.arj_law_disk_view.proofs.view.Frames.{node_here}
 use Rattle.arj_law_runs.specs.calls.Runs.{ChangesAreCalled, KnowsFew}

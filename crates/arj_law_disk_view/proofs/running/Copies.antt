@@ -14,7 +14,7 @@ use Rattle.arj_law_disk.specs.machine.Words.{has, In}
 use Rattle.arj_law_disk.proofs.machine.Base.{bool_cases, some_is}
 use Rattle.arj_law_disk.proofs.machine.History.{effective_done, effective_none, effective_open, known_last, known_below}
 use Rattle.arj_law_disk.proofs.machine.Results.{clean, known_above}
-use Rattle.arj_law_parts.specs.moves.Seen.{Seen}
+use Rattle.arj_promise.specs.Runs.{Seen}
 use Rattle.arj_law_disk_view.specs.view.Entries.{SeesEntry}
 use Rattle.arj_law_disk_view.specs.view.Pairs.{hold_of, packed, packed_entry}
 use Rattle.arj_law_disk_view.specs.view.Sees.{Kinds, SeesDisks}

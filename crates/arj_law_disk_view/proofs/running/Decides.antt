@@ -9,7 +9,8 @@ use Rattle.arj_protocol.specs.Tree.{root_of}
 use Rattle.arj_law_parts.specs.parts.Actions.{Action}
 use Rattle.arj_law_runs.specs.kept.Worlds.{IsGoodOf}
 use Rattle.arj_law_runs.proofs.kept.Handled.{good_coord, it}
-use Rattle.arj_law_parts.specs.moves.Seen.{Seen, up}
+use Rattle.arj_law_parts.specs.moves.Seen.{up}
+use Rattle.arj_promise.specs.Runs.{Seen}
 use Rattle.arj_law_runs.specs.calls.Runs.{KnowsFew}
 use Rattle.arj_law_runs.specs.coordinators.Uses.{KnowsUses}
 use Rattle.arj_law_disk_view.specs.view.Knows.{KnowsCoord, KnowsKinds}

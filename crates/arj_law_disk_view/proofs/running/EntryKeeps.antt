@@ -32,7 +32,8 @@ use Rattle.arj_protocol.proofs.PartSays.{activate_own, ends_own, invoke_own, vot
 use Rattle.arj_law_parts.proofs.parts.Pairs.{moved_names}
 use Rattle.arj_law_disk.proofs.machine.Base.{never_some, some_is}
 use Rattle.arj_law_parts.specs.moves.Keeps.{Keeps}
-use Rattle.arj_law_parts.specs.moves.Seen.{Seen, down, given, see, up}
+use Rattle.arj_law_parts.specs.moves.Seen.{down, given, up}
+use Rattle.arj_promise.specs.Runs.{Seen, see}
 use Rattle.arj_law_parts.specs.moves.Walks.{Walks, Up}
 use Rattle.arj_law_disk_view.proofs.view.FirstSeen.{first_at}
 use Rattle.arj_law_disk_view.proofs.view.HeardWalks.{is_say}

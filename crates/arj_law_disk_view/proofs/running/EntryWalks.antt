@@ -28,7 +28,8 @@ use Rattle.arj_protocol.proofs.RowSteps.{one_or_two}
 use Rattle.arj_law_parts.proofs.parts.Keys.{with_on}
 use Rattle.arj_law_parts.proofs.parts.Pairs.{each_at, moved_names, moved_stays}
 use Rattle.arj_law_disk.proofs.machine.Base.{some_is}
-use Rattle.arj_law_parts.specs.moves.Seen.{Seen, at, posted, said, up}
+use Rattle.arj_law_parts.specs.moves.Seen.{at, posted, said, up}
+use Rattle.arj_promise.specs.Runs.{Seen}
 use Rattle.arj_law_parts.specs.moves.Walks.{Walks, Up, halted}
 use Rattle.arj_law_disk_view.proofs.view.ConfirmWalks.{locks_say}
 use Rattle.arj_law_disk_view.proofs.view.Keys as keys

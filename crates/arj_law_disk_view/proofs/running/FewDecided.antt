@@ -24,7 +24,8 @@ use Rattle.std.proofs.lemmas.Slice.Eq.{bytes_eq-Decides}
 use Rattle.std.specs.Prelude.{⊤, unwrap_or}
 use Rattle.arj_law_disk.proofs.machine.History.{in_decided}
 use Rattle.arj_law_parts.specs.moves.Keeps.{label_at}
-use Rattle.arj_law_parts.specs.moves.Seen.{Seen, posted, said}
+use Rattle.arj_law_parts.specs.moves.Seen.{posted, said}
+use Rattle.arj_promise.specs.Runs.{Seen}
 use Rattle.arj_law_parts.specs.moves.Walks.{Up, Walks}
 use Rattle.arj_law_disk_view.specs.view.Knows.{KnowsKinds}
 use Rattle.arj_law_disk_view.specs.view.Sees.{IsLater, Kinds}

@@ -22,7 +22,8 @@ use Rattle.arj_law_parts.proofs.parts.CoordInputs.{named_found}
 use Rattle.arj_law_parts.proofs.parts.GoodTrees.{found_by, place_in}
 use Rattle.arj_law_runs.specs.kept.Worlds.{IsGoodOf}
 use Rattle.arj_law_runs.proofs.kept.Handled.{good_coord}
-use Rattle.arj_law_parts.specs.moves.Seen.{Seen, up}
+use Rattle.arj_law_parts.specs.moves.Seen.{up}
+use Rattle.arj_promise.specs.Runs.{Seen}
 use Rattle.arj_law_disk.proofs.machine.Base.{never}
 use Rattle.arj_law_disk_view.proofs.view.WholeWalks.{no_reason}
 use Rattle.arj_law_disk_view.specs.view.Knows.{IsFirstAt}

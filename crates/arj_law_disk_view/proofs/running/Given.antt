@@ -3,7 +3,7 @@ use Rattle.std.proofs.Common.{List, [], ◌∷◌, inl, inr}
 use Rattle.arj_lock.proofs.Members as list
 use Rattle.arj_protocol.specs.Words.{ObjectState}
 use Rattle.arj_protocol.specs.Commit as commit
-use Rattle.arj_law_parts.specs.moves.Seen.{Seen}
+use Rattle.arj_promise.specs.Runs.{Seen}
 use Rattle.arj_law_disk_view.specs.view.Pairs.{Among}
 use Rattle.arj_law_runs.proofs.calls.WorldRuns.{votes_used}
 use Rattle.arj_law_disk_view.specs.running.Bindings.{KnowsScript}

@@ -22,7 +22,8 @@ use Rattle.arj_law_disk.specs.machine.Names.{Office}
 use Rattle.arj_law_disk.specs.machine.State.{Done, decided, decided_in}
 use Rattle.arj_law_disk.specs.machine.Words.{In}
 use Rattle.arj_law_disk.proofs.machine.Base.{bool_cases, never, or_cases, or_right}
-use Rattle.arj_law_parts.specs.moves.Seen.{Seen, down, up}
+use Rattle.arj_law_parts.specs.moves.Seen.{down, up}
+use Rattle.arj_promise.specs.Runs.{Seen}
 use Rattle.arj_law_disk_view.specs.view.Coordinating.{KnowsNode}
 use Rattle.arj_law_disk_view.specs.view.Sees.{Along, Kinds}
 use Rattle.arj_law_disk_view.proofs.view.Frames.{node_here}

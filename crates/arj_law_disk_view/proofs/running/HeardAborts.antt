@@ -17,7 +17,7 @@ use Rattle.arj_protocol.specs.Tree.{Branch, at_place, behind, branch_of, ended_a
 use Rattle.arj_law_runs.proofs.calls.CoordKnown.{roots_work}
 use Rattle.arj_law_disk.specs.machine.Names.{Office}
 use Rattle.arj_law_disk.proofs.machine.Base.{falls_to, never, or_cases, or_left, or_right, some_is}
-use Rattle.arj_law_parts.specs.moves.Seen.{Post}
+use Rattle.arj_promise.specs.Runs.{Post}
 use Rattle.arj_law_disk_view.specs.view.Sees.{Kinds}
 use Rattle.arj_law_disk_view.proofs.view.Doings.{doing_tree}
 use Rattle.arj_law_disk_view.proofs.view.Ended.{ended_here, ended_other, own_same, tree_ended}

@@ -12,7 +12,8 @@ use Rattle.arj_protocol.specs.Tree.{is_own}
 use Rattle.arj_law_disk.specs.machine.Names.{Office}
 use Rattle.arj_law_disk.specs.machine.Words as words
 use Rattle.arj_law_parts.specs.moves.Seen as seen
-use Rattle.arj_law_parts.specs.moves.Seen.{Post, Seen, posted, said}
+use Rattle.arj_law_parts.specs.moves.Seen.{posted, said}
+use Rattle.arj_promise.specs.Runs.{Post, Seen}
 use Rattle.arj_law_parts.specs.moves.Walks.{Walks, halted}
 use Rattle.arj_law_disk_view.specs.view.Sees.{IsFixed, Kinds}
 use Rattle.arj_law_disk_view.specs.running.Heard.{ClaimsAsked, HasNoneOf, SeesHeard, SeesHeardAt, IsToStep, IsAskedFor}

@@ -28,7 +28,8 @@ use Rattle.arj_law_disk.specs.machine.Names.{Names, Office}
 use Rattle.arj_law_disk.specs.machine.Words.{In, has}
 use Rattle.arj_law_disk.proofs.machine.Base.{never, some_is, test_is, test_same}
 use Rattle.arj_law_parts.specs.moves.Seen as seen
-use Rattle.arj_law_parts.specs.moves.Seen.{Seen, up}
+use Rattle.arj_law_parts.specs.moves.Seen.{up}
+use Rattle.arj_promise.specs.Runs.{Seen}
 use Rattle.arj_law_parts.specs.moves.Walks.{Walks, Up}
 use Rattle.arj_law_disk_view.specs.view.Pairs.{packed}
 use Rattle.arj_law_disk_view.specs.view.Sees.{IsLater, Kinds}

@@ -21,7 +21,8 @@ use Rattle.arj_law_runs.specs.calls.Runs.{KnowsFew}
 use Rattle.arj_law_runs.proofs.calls.CoordKnown.{doing_here, roots_work}
 use Rattle.arj_law_disk.specs.machine.Names.{Names, Office}
 use Rattle.arj_law_disk.proofs.machine.Base.{some_is}
-use Rattle.arj_law_parts.specs.moves.Seen.{Post, Seen, up}
+use Rattle.arj_law_parts.specs.moves.Seen.{up}
+use Rattle.arj_promise.specs.Runs.{Post, Seen}
 use Rattle.arj_law_disk_view.specs.view.Sees.{Kinds}
 use Rattle.arj_law_disk_view.proofs.view.Doings.{doing_tree}
 use Rattle.arj_law_disk_view.specs.names.Both.{SeesRootOf}

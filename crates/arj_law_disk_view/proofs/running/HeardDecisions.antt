@@ -24,7 +24,8 @@ use Rattle.arj_law_disk.specs.machine.Names.{Answer, Names, Office}
 use Rattle.arj_law_disk.specs.machine.Words.{In}
 use Rattle.arj_law_disk.proofs.machine.Base.{never, some_is, test_is, test_same}
 use Rattle.arj_law_parts.specs.moves.Seen as seen
-use Rattle.arj_law_parts.specs.moves.Seen.{Post, Seen, up}
+use Rattle.arj_law_parts.specs.moves.Seen.{up}
+use Rattle.arj_promise.specs.Runs.{Post, Seen}
 use Rattle.arj_law_parts.specs.moves.Walks.{Up, Walks, halted}
 use Rattle.arj_law_disk_view.specs.view.Asking.{SeesConfirming}
 use Rattle.arj_law_disk_view.specs.view.Coordinating.{KnowsNode}

@@ -20,7 +20,7 @@ use Rattle.arj_law_parts.proofs.parts.GoodTrees.{own_is}
 use Rattle.arj_law_runs.proofs.calls.CoordKnown.{roots_work}
 use Rattle.arj_law_disk.specs.machine.Names.{Names, Office}
 use Rattle.arj_law_disk.proofs.machine.Base.{some_is}
-use Rattle.arj_law_parts.specs.moves.Seen.{Post}
+use Rattle.arj_promise.specs.Runs.{Post}
 use Rattle.arj_law_disk_view.specs.view.Knows.{KnowsKinds}
 use Rattle.arj_law_disk_view.specs.view.Sees.{Kinds}
 use Rattle.arj_law_disk_view.proofs.view.DecidedCoord.{decided_doing, decided_doings, decided_tree}

@@ -15,7 +15,7 @@ use Rattle.arj_law_disk.specs.machine.NamingLaws.{IsFirstNames}
 use Rattle.arj_law_disk.specs.machine.State.{Packed}
 use Rattle.arj_law_disk.specs.machine.Words as words
 use Rattle.arj_law_disk.proofs.machine.Base.{never, some_is, test_is}
-use Rattle.arj_law_parts.specs.moves.Seen.{Post, see}
+use Rattle.arj_promise.specs.Runs.{Post, see}
 use Rattle.arj_law_disk_view.specs.view.Formats.{HasObject}
 use Rattle.arj_law_disk_view.specs.view.Knows.{KnowsKinds}
 use Rattle.arj_law_disk_view.specs.view.Sees.{IsFixed, Kinds}

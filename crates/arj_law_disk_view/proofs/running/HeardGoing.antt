@@ -10,7 +10,8 @@ use Rattle.arj_protocol.specs.Order.{uid_number}
 use Rattle.arj_law_disk.specs.machine.Names.{Office}
 use Rattle.arj_law_disk.specs.machine.State.{is_idle}
 use Rattle.arj_law_disk.proofs.machine.Base.{never}
-use Rattle.arj_law_parts.specs.moves.Seen.{Seen, up}
+use Rattle.arj_law_parts.specs.moves.Seen.{up}
+use Rattle.arj_promise.specs.Runs.{Seen}
 use Rattle.arj_law_disk_view.specs.view.Coordinating.{KnowsNode}
 use Rattle.arj_law_disk_view.specs.view.Sees.{Kinds, SeesCoord}
 use Rattle.arj_law_disk_view.proofs.view.DecideWalks.{confirming_of}

@@ -24,7 +24,8 @@ use Rattle.arj_law_runs.specs.kept.Worlds.{IsGood}
 use Rattle.arj_law_runs.specs.calls.Runs.{KnowsFew}
 use Rattle.arj_law_disk.specs.machine.Names.{Names, Office}
 use Rattle.arj_law_disk.proofs.machine.Base.{never, test_same}
-use Rattle.arj_law_parts.specs.moves.Seen.{Post, Seen, up}
+use Rattle.arj_law_parts.specs.moves.Seen.{up}
+use Rattle.arj_promise.specs.Runs.{Post, Seen}
 use Rattle.arj_law_disk_view.specs.view.Coordinating.{IsBefore, KnowsNode}
 use Rattle.arj_law_disk_view.specs.view.Knows.{IsOfKind}
 use Rattle.arj_law_disk_view.specs.view.Sees.{Kinds}

@@ -12,7 +12,8 @@ use Rattle.arj_protocol.specs.Step.{Node, acts, parent_of, parts_in, restart_out
 use Rattle.arj_protocol.specs.World.{format, is_serial_kind, numbered}
 use Rattle.arj_law_disk.specs.machine.Effects.{Whole, World}
 use Rattle.arj_law_disk.specs.machine.Names.{Office}
-use Rattle.arj_law_parts.specs.moves.Seen.{Seen, at, down, given, said, see, up}
+use Rattle.arj_law_parts.specs.moves.Seen.{at, down, given, said, up}
+use Rattle.arj_promise.specs.Runs.{Seen, see}
 use Rattle.arj_law_parts.proofs.moves.Together.{walks_both, walks_to}
 use Rattle.arj_law_disk.specs.machine.Words as disk
 use Rattle.arj_law_runs.specs.journal.Book.{book}

@@ -11,7 +11,7 @@ use Rattle.arj_protocol.specs.Coord.{Calling, Committing, Coord, Doing, Idle, Jo
 use Rattle.arj_protocol.specs.Tree.{Branch, at_place, behind, branch_of, ended_so, has_end, is_committed, is_own, is_spent, next_uid, path_below, root_of}
 use Rattle.arj_law_disk.specs.machine.Names.{Names, Office}
 use Rattle.arj_law_disk.proofs.machine.Base.{some_is}
-use Rattle.arj_law_parts.specs.moves.Seen.{Post}
+use Rattle.arj_promise.specs.Runs.{Post}
 use Rattle.arj_law_disk_view.specs.view.Sees.{Kinds}
 use Rattle.arj_law_disk_view.specs.names.Both.{SeesRootOf}
 use Rattle.arj_law_disk_view.specs.running.Heard.{IsPathIn, IsWorkingRoot, SeesCall, SeesHeardAt}

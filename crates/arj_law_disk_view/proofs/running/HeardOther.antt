@@ -22,7 +22,8 @@ use Rattle.arj_protocol.specs.Tree.{branch_of, is_open}
 use Rattle.arj_protocol.proofs.PartSays.{ends_own, told_own}
 use Rattle.arj_law_disk.specs.machine.Names.{Office}
 use Rattle.arj_law_disk.proofs.machine.Base.{never, some_is}
-use Rattle.arj_law_parts.specs.moves.Seen.{Seen, up}
+use Rattle.arj_law_parts.specs.moves.Seen.{up}
+use Rattle.arj_promise.specs.Runs.{Seen}
 use Rattle.arj_law_parts.specs.moves.Walks.{Walks, Up}
 use Rattle.arj_law_disk_view.specs.view.Sees.{Kinds}
 use Rattle.arj_law_disk_view.specs.names.Both.{SeesBoth}

@@ -32,7 +32,8 @@ use Rattle.arj_law_disk.specs.machine.Names.{Names, Office}
 use Rattle.arj_law_disk.specs.machine.State as disk
 use Rattle.arj_law_disk.specs.machine.Words.{In as InList}
 use Rattle.arj_law_disk.proofs.machine.Base.{bool_cases, falls_to, never, or_left, test_is, test_same}
-use Rattle.arj_law_parts.specs.moves.Seen.{In, Seen, up}
+use Rattle.arj_law_parts.specs.moves.Seen.{In, up}
+use Rattle.arj_promise.specs.Runs.{Seen}
 use Rattle.arj_law_parts.specs.moves.Walks.{Up}
 use Rattle.arj_law_disk_view.specs.view.Coordinating.{KnowsNode}
 use Rattle.arj_law_disk_view.specs.view.Deciding.{SeesRecords, nodes_of}

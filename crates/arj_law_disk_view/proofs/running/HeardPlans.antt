@@ -25,7 +25,8 @@ use Rattle.arj_law_disk.specs.machine.Names.{Kept, Office, load_of, newer, writt
 use Rattle.arj_law_disk.specs.machine.State.{Packed, undecided, IsNew}
 use Rattle.arj_law_disk.specs.machine.Words.{In, has}
 use Rattle.arj_law_disk.proofs.machine.Base.{bool_cases, falls_to, never, or_left, or_right, some_is}
-use Rattle.arj_law_parts.specs.moves.Seen.{Seen, up}
+use Rattle.arj_law_parts.specs.moves.Seen.{up}
+use Rattle.arj_promise.specs.Runs.{Seen}
 use Rattle.arj_law_disk_view.specs.view.Coordinating.{KnowsNode}
 use Rattle.arj_law_disk_view.specs.view.Knows.{IsOfKind}
 use Rattle.arj_law_disk_view.specs.view.Pairs.{Among, packed}

@@ -7,7 +7,8 @@ use Rattle.arj_protocol.specs.Order.{uid_number}
 use Rattle.arj_protocol.specs.Step.{Node}
 use Rattle.arj_law_disk.specs.machine.Names.{Office}
 use Rattle.arj_law_parts.specs.moves.Seen as seen
-use Rattle.arj_law_parts.specs.moves.Seen.{Post, Seen, at, said}
+use Rattle.arj_law_parts.specs.moves.Seen.{at, said}
+use Rattle.arj_promise.specs.Runs.{Post, Seen}
 use Rattle.arj_law_parts.specs.moves.Walks.{halted}
 use Rattle.arj_law_disk_view.specs.view.Sees.{IsFixed, Kinds}
 use Rattle.arj_law_disk_view.proofs.view.Frames.{node_cases, node_here}

@@ -15,7 +15,8 @@ use Rattle.arj_law_parts.specs.parts.Claims.{AreOfNode, IsOfNode}
 use Rattle.arj_law_parts.proofs.parts.Keys.{in_at}
 use Rattle.arj_law_runs.specs.kept.Worlds.{IsGood}
 use Rattle.arj_law_parts.specs.moves.Seen as seen
-use Rattle.arj_law_parts.specs.moves.Seen.{Post, Seen, down, up}
+use Rattle.arj_law_parts.specs.moves.Seen.{down, up}
+use Rattle.arj_promise.specs.Runs.{Post, Seen}
 use Rattle.arj_law_parts.specs.moves.Walks.{Walks, Up, halted}
 use Rattle.arj_law_disk_view.specs.view.Deciding.{SeesRecords, nodes_of}
 use Rattle.arj_lock.proofs.Members as list

@@ -24,7 +24,8 @@ use Rattle.arj_law_runs.specs.calls.Runs.{KnowsFew, Trees}
 use Rattle.arj_law_disk.specs.machine.Names.{Office}
 use Rattle.arj_law_disk.proofs.machine.Base.{some_is}
 use Rattle.arj_law_parts.specs.moves.Seen as seen
-use Rattle.arj_law_parts.specs.moves.Seen.{Post, Seen, up}
+use Rattle.arj_law_parts.specs.moves.Seen.{up}
+use Rattle.arj_promise.specs.Runs.{Post, Seen}
 use Rattle.arj_law_parts.specs.moves.Walks.{Walks, Up, halted}
 use Rattle.arj_law_disk_view.specs.view.Sees.{IsFixed, Kinds}
 use Rattle.arj_law_disk_view.proofs.view.Frames.{node_cases, node_here}

@@ -30,7 +30,8 @@ use Rattle.arj_law_runs.specs.kept.Worlds.{IsGood}
 use Rattle.arj_law_disk.specs.machine.Names.{Names, Office}
 use Rattle.arj_law_disk.specs.machine.State as disk
 use Rattle.arj_law_disk.proofs.machine.Base.{or_cases, some_is, test_is, test_same}
-use Rattle.arj_law_parts.specs.moves.Seen.{Post, Seen, up}
+use Rattle.arj_law_parts.specs.moves.Seen.{up}
+use Rattle.arj_promise.specs.Runs.{Post, Seen}
 use Rattle.arj_law_disk_view.specs.view.Coordinating.{KnowsNode}
 use Rattle.arj_law_disk_view.specs.view.Sees.{Kinds}
 use Rattle.arj_law_disk_view.proofs.view.Frames.{node_here}

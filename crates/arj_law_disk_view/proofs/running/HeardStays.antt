@@ -14,7 +14,7 @@ use Rattle.arj_protocol.specs.Tree.{at_place, is_own, root_of}
 use Rattle.arj_law_disk.specs.machine.Names.{Answer, Bound, Loaded, Names, Office, newer, written_in}
 use Rattle.arj_law_disk.specs.machine.Words.{In}
 use Rattle.arj_law_parts.specs.moves.Seen as seen
-use Rattle.arj_law_parts.specs.moves.Seen.{Post}
+use Rattle.arj_promise.specs.Runs.{Post}
 use Rattle.arj_law_runs.specs.calls.Coords.{head_of}
 use Rattle.arj_law_disk_view.specs.view.Pairs.{packed}
 use Rattle.arj_law_disk_view.specs.view.Sees.{IsFixed, IsLater, Kinds}

@@ -19,7 +19,8 @@ use Rattle.arj_law_disk.specs.machine.Named.{Named}
 use Rattle.arj_law_disk.specs.machine.Names.{Kept, Names, Office, load_of}
 use Rattle.arj_law_disk.specs.machine.Words.{has, put, put2}
 use Rattle.arj_law_disk.proofs.machine.Base.{never, put_other, some_is, test_cases, test_is, test_same}
-use Rattle.arj_law_parts.specs.moves.Seen.{Post, Seen, up}
+use Rattle.arj_law_parts.specs.moves.Seen.{up}
+use Rattle.arj_promise.specs.Runs.{Post, Seen}
 use Rattle.arj_law_disk_view.specs.view.Knows.{KnowsKinds}
 use Rattle.arj_law_disk_view.specs.view.Sees.{IsFixed, IsLater, Kinds}
 use Rattle.arj_law_disk_view.proofs.view.Frames.{node_cases, node_here}

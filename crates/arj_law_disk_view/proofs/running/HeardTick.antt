@@ -25,7 +25,8 @@ use Rattle.arj_law_disk.specs.machine.Guards.{HasPart}
 use Rattle.arj_law_disk.specs.machine.Names.{Office}
 use Rattle.arj_law_disk.specs.machine.Words.{has}
 use Rattle.arj_law_disk.proofs.machine.Base.{never, some_is, test_is, test_same}
-use Rattle.arj_law_parts.specs.moves.Seen.{Post, Seen, given, up}
+use Rattle.arj_law_parts.specs.moves.Seen.{given, up}
+use Rattle.arj_promise.specs.Runs.{Post, Seen}
 use Rattle.arj_law_disk_view.specs.view.Asking.{SeesConfirming}
 use Rattle.arj_law_disk_view.specs.view.Coordinating.{KnowsNode}
 use Rattle.arj_law_disk_view.specs.view.Plans.{plan_at, plan_by, used_at}

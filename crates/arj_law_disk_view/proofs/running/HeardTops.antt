@@ -17,7 +17,8 @@ use Rattle.arj_law_runs.specs.kept.Worlds.{IsGood}
 use Rattle.arj_law_runs.specs.calls.Runs.{KnowsFew}
 use Rattle.arj_law_disk.specs.machine.Names.{Office}
 use Rattle.arj_law_disk.specs.machine.State as disk
-use Rattle.arj_law_parts.specs.moves.Seen.{Seen, up}
+use Rattle.arj_law_parts.specs.moves.Seen.{up}
+use Rattle.arj_promise.specs.Runs.{Seen}
 use Rattle.arj_law_disk_view.specs.view.Coordinating.{IsBefore, KnowsNode}
 use Rattle.arj_law_disk_view.specs.view.Knows.{IsFirstAt, KnowsMachine, KnowsPlan}
 use Rattle.arj_law_disk_view.specs.view.Sees.{Kinds, SeesCoord}

@@ -23,7 +23,8 @@ use Rattle.arj_law_runs.proofs.calls.WorldRuns.{votes_used}
 use Rattle.arj_law_disk.specs.machine.Names.{Office}
 use Rattle.arj_law_disk.specs.machine.State as disk
 use Rattle.arj_law_disk.proofs.machine.Base.{never, never_some, some_is}
-use Rattle.arj_law_parts.specs.moves.Seen.{In, Seen, up}
+use Rattle.arj_law_parts.specs.moves.Seen.{In, up}
+use Rattle.arj_promise.specs.Runs.{Seen}
 use Rattle.arj_law_disk_view.specs.view.Coordinating.{IsBefore, KnowsNode}
 use Rattle.arj_law_disk_view.specs.view.Knows.{CommitsAt, KnowsMachine}
 use Rattle.arj_law_disk_view.specs.view.Pairs.{Among}

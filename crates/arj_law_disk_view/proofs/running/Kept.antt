@@ -34,7 +34,8 @@ use Rattle.arj_law_runs.proofs.kept.Handled.{act_good, good_coord, it, message_g
 use Rattle.arj_law_runs.proofs.kept.Starts.{first_of, restart_good}
 use Rattle.arj_law_disk.specs.machine.Effects.{World}
 use Rattle.arj_law_parts.specs.moves.Keeps.{DidKeeps, Keeps, MayGive, is_act, label_at}
-use Rattle.arj_law_parts.specs.moves.Seen.{AreQuiet, In, Seen, at, down, given, said, see, up}
+use Rattle.arj_law_parts.specs.moves.Seen.{AreQuiet, In, at, down, given, said, up}
+use Rattle.arj_promise.specs.Runs.{Seen, see}
 use Rattle.arj_law_parts.specs.moves.Walks.{Walks, Up, halted}
 use Rattle.arj_law_parts.proofs.moves.Together.{walks_both, walks_each, walks_to}
 use Rattle.arj_law_disk_view.specs.view.Coordinating.{KnowsNode}

@@ -28,7 +28,8 @@ use Rattle.arj_law_runs.specs.kept.Worlds.{IsGoodOf, IsUp}
 use Rattle.arj_law_runs.proofs.kept.Handled.{good_coord, it, records_of_disk}
 use Rattle.arj_law_disk.proofs.machine.Base.{never, or_cases, some_is, test_is}
 use Rattle.arj_law_parts.specs.moves.Seen as seen
-use Rattle.arj_law_parts.specs.moves.Seen.{Seen, up}
+use Rattle.arj_law_parts.specs.moves.Seen.{up}
+use Rattle.arj_promise.specs.Runs.{Seen}
 use Rattle.arj_law_disk_view.specs.view.Coordinating.{AreOrphansOf, HasBegunHere, KnowsNode}
 use Rattle.arj_law_disk_view.specs.view.Knows.{IsOfKind, IsOpenSerial, KnowsCoord, KnowsMachine, KnowsPlan, KnowsSteps}
 use Rattle.arj_law_disk_view.specs.view.Sees.{Kinds, IsFuture}

@@ -12,7 +12,8 @@ use Rattle.arj_protocol.specs.Step.{Node, acts, parent_of, parts_in, restart_out
 use Rattle.arj_protocol.specs.World.{is_serial_kind}
 use Rattle.arj_law_disk.specs.machine.Effects.{World}
 use Rattle.arj_law_disk.specs.machine.Names.{Office}
-use Rattle.arj_law_parts.specs.moves.Seen.{Seen, at, given, said, up}
+use Rattle.arj_law_parts.specs.moves.Seen.{at, given, said, up}
+use Rattle.arj_promise.specs.Runs.{Seen}
 use Rattle.arj_law_parts.specs.moves.Walks.{Up, Walks, halted}
 use Rattle.arj_law_parts.proofs.moves.Together.{walks_both, walks_to}
 use Rattle.arj_law_runs.specs.calls.Runs.{KnowsFew}

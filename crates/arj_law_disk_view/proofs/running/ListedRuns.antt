@@ -18,7 +18,8 @@ use Rattle.arj_law_disk.specs.machine.State.{Hold, is_gone, is_idle, last}
 use Rattle.arj_law_disk.proofs.machine.Base.{some_is, test_same}
 use Rattle.arj_law_disk.proofs.machine.Restarts.{write_clears}
 use Rattle.arj_law_disk.proofs.machine.Results.{clean}
-use Rattle.arj_law_parts.specs.moves.Seen.{Seen, at, up}
+use Rattle.arj_law_parts.specs.moves.Seen.{at, up}
+use Rattle.arj_promise.specs.Runs.{Seen}
 use Rattle.arj_law_runs.specs.calls.Runs.{KnowsFew}
 use Rattle.arj_law_disk_view.specs.view.Coordinating.{KnowsNode}
 use Rattle.arj_law_disk_view.specs.view.Knows.{KnowsKinds}

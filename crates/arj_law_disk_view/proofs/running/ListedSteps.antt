@@ -15,7 +15,8 @@ use Rattle.arj_protocol.specs.Step.{Node, parts_in, restart_outs}
 use Rattle.arj_law_disk.specs.machine.Names.{Office}
 use Rattle.arj_law_disk.specs.machine.State.{Packed, is_gone}
 use Rattle.arj_law_disk.proofs.machine.Base.{some_is}
-use Rattle.arj_law_parts.specs.moves.Seen.{In, Post, Seen, down, up}
+use Rattle.arj_law_parts.specs.moves.Seen.{In, down, up}
+use Rattle.arj_promise.specs.Runs.{Post, Seen}
 use Rattle.arj_law_parts.specs.moves.Walks.{Up, Walks, halted}
 use Rattle.arj_law_disk_view.specs.view.Knows.{KnowsKinds}
 use Rattle.arj_law_disk_view.specs.view.Sees.{IsLater, Kinds}

@@ -34,7 +34,8 @@ use Rattle.arj_law_parts.specs.parts.Actions.{Action, AreBegun, act_of}
 use Rattle.arj_law_parts.specs.parts.Messages.{FitsAsk, FitsAsked, FitsMessage, IsAsker}
 use Rattle.arj_law_disk.proofs.machine.Base.{or_left, or_right, some_is}
 use Rattle.arj_law_parts.specs.moves.Seen as seen
-use Rattle.arj_law_parts.specs.moves.Seen.{Post, Seen, at, down, up, see, said, posted}
+use Rattle.arj_law_parts.specs.moves.Seen.{at, down, up, said, posted}
+use Rattle.arj_promise.specs.Runs.{Post, Seen, see}
 use Rattle.arj_law_parts.specs.moves.Walks.{Walks, Up, halted}
 use Rattle.arj_law_disk_view.specs.view.Sees.{begins, was_begun}
 use Rattle.arj_law_disk_view.proofs.view.FirstSeen.{first_at}

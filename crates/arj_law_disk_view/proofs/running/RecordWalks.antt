@@ -29,7 +29,8 @@ use Rattle.arj_protocol.specs.World.{format}
 use Rattle.arj_protocol.proofs.PartSays.{activate_own, bind_own, confirm_own, ends_own, invoke_own, note_own, told_own, vote_own}
 use Rattle.arj_law_parts.specs.parts.Actions.{Action}
 use Rattle.arj_law_disk.proofs.machine.Base.{some_is}
-use Rattle.arj_law_parts.specs.moves.Seen.{Seen, at, down, up, see, said, posted}
+use Rattle.arj_law_parts.specs.moves.Seen.{at, down, up, said, posted}
+use Rattle.arj_promise.specs.Runs.{Seen, see}
 use Rattle.arj_law_parts.specs.moves.Walks.{Walks, Up, halted}
 use Rattle.arj_law_disk_view.specs.view.Pairs.{AreSorted}
 use Rattle.arj_law_disk_view.proofs.view.FirstSeen.{first_at}

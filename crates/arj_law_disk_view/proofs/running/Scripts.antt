@@ -10,7 +10,8 @@ use Rattle.arj_protocol.specs.World.{World, is_serial_kind, most_labels}
 use Rattle.arj_law_disk.specs.machine.Effects as machine
 use Rattle.arj_law_disk.specs.machine.Names.{Office}
 use Rattle.arj_law_parts.specs.moves.Keeps.{Holds}
-use Rattle.arj_law_parts.specs.moves.Seen.{Seen, given, posted, said}
+use Rattle.arj_law_parts.specs.moves.Seen.{given, posted, said}
+use Rattle.arj_promise.specs.Runs.{Seen}
 use Rattle.arj_law_parts.specs.moves.Walks.{Up, Walks}
 use Rattle.arj_law_runs.specs.calls.Reached.{IsReached}
 use Rattle.arj_law_runs.proofs.calls.Reaching.{reached_holds}

@@ -27,7 +27,8 @@ use Rattle.arj_law_disk.specs.machine.Messages.{Meaning, IsOver}
 use Rattle.arj_law_disk.specs.machine.State as disk
 use Rattle.arj_law_disk.specs.machine.State.{State, is_gone, undecided, lists, listed_by}
 use Rattle.arj_law_disk.proofs.machine.Base.{never, never_some, falls_to, open_parts, open_done, gone_closed, or_left, or_right, test_same}
-use Rattle.arj_law_parts.specs.moves.Seen.{Seen, up}
+use Rattle.arj_law_parts.specs.moves.Seen.{up}
+use Rattle.arj_promise.specs.Runs.{Seen}
 use Rattle.arj_law_disk_view.specs.view.Coordinating.{DidIsWalked, ActionsAreAborted}
 use Rattle.arj_law_disk_view.specs.view.Deciding.{SeesRecords, nodes_of}
 use Rattle.arj_law_disk_view.specs.view.Knows.{KnowsKinds, KnowsCoord, IsOfKind}

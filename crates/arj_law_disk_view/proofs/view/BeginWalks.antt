@@ -16,7 +16,8 @@ use Rattle.arj_law_disk.specs.machine.State as disk
 use Rattle.arj_law_disk.specs.machine.State.{State, Known, is_gone}
 use Rattle.arj_law_disk.specs.machine.Words.{has}
 use Rattle.arj_law_disk.proofs.machine.Base.{never}
-use Rattle.arj_law_parts.specs.moves.Seen.{Seen, up}
+use Rattle.arj_law_parts.specs.moves.Seen.{up}
+use Rattle.arj_promise.specs.Runs.{Seen}
 use Rattle.arj_law_disk_view.specs.view.Asking.{SeesPreparing, SeesConfirming, TopGoes, IsUnanswered}
 use Rattle.arj_law_disk_view.specs.view.Coordinating.{DidIsWalked, IsBefore, UsesNothing}
 use Rattle.arj_law_disk_view.specs.view.Knows.{KnowsCoord, KnowsPlan, IsOfKind}

@@ -25,7 +25,8 @@ use Rattle.arj_protocol.specs.Says.{AreAll}
 use Rattle.arj_protocol.specs.Tree.{Branch, branch_of, has_open_child, is_open_branch, is_serial, root_of}
 use Rattle.arj_law_disk.specs.machine.Effects.{World}
 use Rattle.arj_law_disk.proofs.machine.Base.{never, test_is}
-use Rattle.arj_law_parts.specs.moves.Seen.{Seen, up}
+use Rattle.arj_law_parts.specs.moves.Seen.{up}
+use Rattle.arj_promise.specs.Runs.{Seen}
 use Rattle.arj_law_parts.specs.moves.Walks.{Walks, Up}
 use Rattle.arj_law_disk_view.specs.view.Coordinating.{DidIsWalked, IsBefore, ActionsCommit, CommitsAreHeard, CommitsAreGivenUp, MayCommit}
 use Rattle.arj_law_disk_view.specs.view.Knows.{KnowsKinds, KnowsCoord, KnowsPlan, KnowsMachine, IsOfKind}

@@ -34,7 +34,8 @@ use Rattle.arj_law_disk.specs.machine.Words.{In, has}
 use Rattle.arj_law_disk.proofs.machine.Base.{never, or_cases, or_left, or_right, some_is, test_is, test_same, falls_to}
 use Rattle.arj_law_disk.proofs.machine.Keeps.{effect_keeps}
 use Rattle.arj_law_disk.proofs.machine.Listing.{entry_content, has_filtered, join_target, list_joins, list_lacks, plain_target, same_list}
-use Rattle.arj_law_parts.specs.moves.Seen.{Post, Seen, up, said, posted}
+use Rattle.arj_law_parts.specs.moves.Seen.{up, said, posted}
+use Rattle.arj_promise.specs.Runs.{Post, Seen}
 use Rattle.arj_law_parts.specs.moves.Walks.{Walks, Stops, Up}
 use Rattle.arj_law_disk_view.specs.view.Confirming.{AreNew, FitsVersion, IsBooked, IsConfirmation, IsNewConfirm, IsUnconfirmed, with_locks}
 use Rattle.arj_law_disk_view.specs.view.Coordinating.{ConfirmsAreWalked, ConfirmsWalkOnce, IsConfirmedNow}

@@ -31,7 +31,8 @@ use Rattle.arj_law_disk.specs.machine.State as disk
 use Rattle.arj_law_disk.specs.machine.State.{State, Hold, Packed, Known, Listed, IsExcused, naming, is_gone, undecided, target, open_by, last_entry, effective_by}
 use Rattle.arj_law_disk.specs.machine.Words.{In, has, put}
 use Rattle.arj_law_disk.proofs.machine.Base.{never, never_some, some_is, put_same, put_other, test_same}
-use Rattle.arj_law_parts.specs.moves.Seen.{Post, Seen, up, said, posted}
+use Rattle.arj_law_parts.specs.moves.Seen.{up, said, posted}
+use Rattle.arj_promise.specs.Runs.{Post, Seen}
 use Rattle.arj_law_parts.specs.moves.Walks.{Walks, Stops, Up, halted}
 use Rattle.arj_law_disk_view.specs.view.Asking.{SeesConfirming}
 use Rattle.arj_law_disk_view.specs.view.Deciding.{SeesRecords, Stills}

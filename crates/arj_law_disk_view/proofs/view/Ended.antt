@@ -21,7 +21,8 @@ use Rattle.arj_law_disk.specs.machine.State as disk
 use Rattle.arj_law_disk.specs.machine.State.{State, naming, is_gone}
 use Rattle.arj_law_disk.proofs.machine.Base.{test_same, never, some_is}
 use Rattle.arj_law_disk.proofs.machine.Keeps.{effect_keeps}
-use Rattle.arj_law_parts.specs.moves.Seen.{Seen, up}
+use Rattle.arj_law_parts.specs.moves.Seen.{up}
+use Rattle.arj_promise.specs.Runs.{Seen}
 use Rattle.arj_law_parts.proofs.moves.Happens.{place_same}
 use Rattle.arj_law_disk_view.specs.view.Deciding.{SeesRecords, IsCalm}
 use Rattle.arj_law_disk_view.specs.view.Entries.{SeesEntry}

@@ -15,7 +15,8 @@ use Rattle.arj_law_disk.specs.machine.Effects.{World, after}
 use Rattle.arj_law_disk.specs.machine.State as disk
 use Rattle.arj_law_disk.specs.machine.State.{is_gone}
 use Rattle.arj_law_disk.proofs.machine.Base.{put_same, put_other, never_some}
-use Rattle.arj_law_parts.specs.moves.Seen.{Seen, up}
+use Rattle.arj_law_parts.specs.moves.Seen.{up}
+use Rattle.arj_promise.specs.Runs.{Seen}
 use Rattle.arj_law_disk_view.specs.view.Deciding.{SeesRecords, Stills}
 use Rattle.arj_law_disk_view.specs.view.Sees.{Kinds, SeesDisks, SeesCoord, SeesNotes, KnowsRoot, KnowsNow}
 use Rattle.arj_law_disk_view.proofs.view.DecidingSteps.{actions_may_halt}

@@ -21,7 +21,7 @@ use Rattle.arj_law_disk.specs.machine.State.{State, Packed, Plan}
 use Rattle.arj_law_disk.proofs.machine.Base.{never, some_is}
 use Rattle.arj_law_disk.proofs.machine.History.{nothing_past}
 use Rattle.arj_law_disk.proofs.machine.Results.{first_is_whole}
-use Rattle.arj_law_parts.specs.moves.Seen.{see}
+use Rattle.arj_promise.specs.Runs.{see}
 use Rattle.arj_law_disk_view.specs.view.Deciding.{SeesRecords}
 use Rattle.arj_law_disk_view.specs.view.Entries.{SeesEntry}
 use Rattle.arj_law_disk_view.specs.view.Formats.{IsLine, HasObject}

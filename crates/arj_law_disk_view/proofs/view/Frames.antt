@@ -17,7 +17,8 @@ use Rattle.arj_law_disk.specs.machine.State.{State, is_gone}
 use Rattle.arj_law_disk.proofs.machine.Base.{test_is, test_same}
 use Rattle.arj_law_disk.proofs.machine.Keeps.{effect_keeps, run_keeps}
 use Rattle.arj_law_parts.specs.moves.Seen as seen
-use Rattle.arj_law_parts.specs.moves.Seen.{Post, Seen, up, with_node, posted}
+use Rattle.arj_law_parts.specs.moves.Seen.{up, with_node, posted}
+use Rattle.arj_promise.specs.Runs.{Post, Seen}
 use Rattle.arj_law_disk_view.specs.view.Deciding.{SeesRecords}
 use Rattle.arj_law_disk_view.specs.view.Entries.{SeesEntry}
 use Rattle.arj_law_disk_view.specs.view.Stores.{SeesStore, StoreGoes}

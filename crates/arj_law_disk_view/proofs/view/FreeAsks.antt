@@ -9,7 +9,8 @@ use Rattle.arj_protocol.specs.Node.{Parts, with_coord}
 use Rattle.arj_protocol.specs.World.{numbered}
 use Rattle.arj_protocol.proofs.Messages.{request_reads_back}
 use Rattle.arj_law_disk.specs.machine.Effects.{World}
-use Rattle.arj_law_parts.specs.moves.Seen.{Post, Seen, up, said, posted}
+use Rattle.arj_law_parts.specs.moves.Seen.{up, said, posted}
+use Rattle.arj_promise.specs.Runs.{Post, Seen}
 use Rattle.arj_law_parts.specs.moves.Walks.{Walks, Up}
 use Rattle.arj_law_disk_view.specs.view.Sees.{Kinds, ClaimsAsk, ClaimsAsked, SeesDisks, IsSeenByDisks}
 use Rattle.arj_law_disk_view.proofs.view.Frames.{says_seen, posts_seen}

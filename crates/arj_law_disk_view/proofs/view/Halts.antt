@@ -20,7 +20,8 @@ use Rattle.arj_law_disk.specs.machine.Words.{put}
 use Rattle.arj_law_disk.proofs.machine.Base.{test_same, test_not, put_same, put_other, put_cases, bool_cases, never}
 use Rattle.arj_law_disk.proofs.machine.Keeps.{effect_keeps}
 use Rattle.arj_law_parts.specs.moves.Seen as seen
-use Rattle.arj_law_parts.specs.moves.Seen.{Post, Seen, at, up, down, said}
+use Rattle.arj_law_parts.specs.moves.Seen.{at, up, down, said}
+use Rattle.arj_promise.specs.Runs.{Post, Seen}
 use Rattle.arj_law_parts.specs.moves.Walks.{halted}
 use Rattle.arj_law_disk_view.specs.view.Deciding.{SeesRecords}
 use Rattle.arj_law_disk_view.specs.view.Entries.{SeesEntry}

@@ -28,7 +28,8 @@ use Rattle.arj_law_disk.specs.machine.Messages as mail
 use Rattle.arj_law_disk.specs.machine.State.{State, target}
 use Rattle.arj_law_disk.specs.machine.Words.{In}
 use Rattle.arj_law_disk.proofs.machine.Base.{bool_cases, never}
-use Rattle.arj_law_parts.specs.moves.Seen.{Post, Seen, up, said, posted}
+use Rattle.arj_law_parts.specs.moves.Seen.{up, said, posted}
+use Rattle.arj_promise.specs.Runs.{Post, Seen}
 use Rattle.arj_law_parts.specs.moves.Walks.{Walks, Up}
 use Rattle.arj_law_disk_view.specs.view.Asking.{OnlyTop, TopGoes, SeesPreparing, SeesConfirming}
 use Rattle.arj_law_disk_view.specs.view.Deciding.{SeesRecords}

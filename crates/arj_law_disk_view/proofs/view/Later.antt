@@ -21,7 +21,7 @@ use Rattle.arj_law_disk.proofs.machine.Base.{open_done, open_made, open_parts, o
 use Rattle.arj_law_disk.proofs.machine.Confirming.{marked_cases}
 use Rattle.arj_law_disk.proofs.machine.History.{known_more}
 use Rattle.arj_law_disk.proofs.machine.Keeps.{effect_keeps}
-use Rattle.arj_law_parts.specs.moves.Seen.{Post}
+use Rattle.arj_promise.specs.Runs.{Post}
 use Rattle.arj_law_disk_view.specs.view.Confirming.{SaysMarks}
 use Rattle.arj_law_disk_view.specs.view.Pairs.{IsOf, packed}
 use Rattle.arj_law_disk_view.specs.view.Stores.{IsPlanned, ClaimsCommit, ClaimsAbort}

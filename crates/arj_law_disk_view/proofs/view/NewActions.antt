@@ -16,7 +16,8 @@ use Rattle.arj_law_disk.specs.machine.Effects.{World}
 use Rattle.arj_law_disk.specs.machine.State as disk
 use Rattle.arj_law_disk.specs.machine.State.{State, is_gone}
 use Rattle.arj_law_disk.proofs.machine.Base.{never}
-use Rattle.arj_law_parts.specs.moves.Seen.{Seen, up, given}
+use Rattle.arj_law_parts.specs.moves.Seen.{up, given}
+use Rattle.arj_promise.specs.Runs.{Seen}
 use Rattle.arj_law_disk_view.specs.view.Coordinating.{ActionsBegin}
 use Rattle.arj_law_disk_view.specs.view.Knows.{KnowsCoord, IsOfKind}
 use Rattle.arj_law_disk_view.specs.view.Sees.{Kinds, IsFuture, IsNamedCommit, SeesDisks, SeesCoord, SeesNotes, KnowsNow, Works}

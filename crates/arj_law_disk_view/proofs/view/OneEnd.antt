@@ -20,7 +20,8 @@ use Rattle.arj_law_disk.specs.machine.Messages.{Meaning}
 use Rattle.arj_law_disk.specs.machine.State as disk
 use Rattle.arj_law_disk.specs.machine.State.{is_gone}
 use Rattle.arj_law_disk.proofs.machine.Base.{never, never_some, or_left, or_right, put_same}
-use Rattle.arj_law_parts.specs.moves.Seen.{Seen, up}
+use Rattle.arj_law_parts.specs.moves.Seen.{up}
+use Rattle.arj_promise.specs.Runs.{Seen}
 use Rattle.arj_law_disk_view.specs.view.Coordinating.{DidIsWalked, ActionsEnd}
 use Rattle.arj_law_disk_view.specs.view.Deciding.{SeesRecords, nodes_of}
 use Rattle.arj_law_disk_view.specs.view.Knows.{KnowsKinds, KnowsCoord, IsOfKind}

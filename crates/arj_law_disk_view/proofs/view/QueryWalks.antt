@@ -21,7 +21,8 @@ use Rattle.arj_law_disk.specs.machine.Messages.{IsOver}
 use Rattle.arj_law_disk.specs.machine.State as disk
 use Rattle.arj_law_disk.specs.machine.State.{is_gone, naming}
 use Rattle.arj_law_disk.proofs.machine.Base.{never, never_some, some_is, put_same, put_other, bool_cases, and_right, test_cases, test_same, falls_to}
-use Rattle.arj_law_parts.specs.moves.Seen.{Post, Seen, up, posted}
+use Rattle.arj_law_parts.specs.moves.Seen.{up, posted}
+use Rattle.arj_promise.specs.Runs.{Post, Seen}
 use Rattle.arj_law_parts.specs.moves.Walks.{Walks, Up}
 use Rattle.arj_law_disk_view.specs.view.Coordinating.{HasBegunHere, QueriesAreAnswered}
 use Rattle.arj_law_disk_view.specs.view.Deciding.{SeesRecords}

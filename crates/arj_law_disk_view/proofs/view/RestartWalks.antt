@@ -28,7 +28,8 @@ use Rattle.arj_law_disk.specs.machine.State as disk
 use Rattle.arj_law_disk.specs.machine.State.{State, is_gone, is_sealed}
 use Rattle.arj_law_disk.proofs.machine.Base.{never, put_same, put_other, test_same, bool_cases}
 use Rattle.arj_law_disk.proofs.machine.Keeps.{effect_keeps}
-use Rattle.arj_law_parts.specs.moves.Seen.{Post, Seen, up, down, said, posted}
+use Rattle.arj_law_parts.specs.moves.Seen.{up, down, said, posted}
+use Rattle.arj_promise.specs.Runs.{Post, Seen}
 use Rattle.arj_law_parts.specs.moves.Walks.{Walks, Stops, Up, halted}
 use Rattle.arj_law_disk_view.specs.view.Coordinating.{RestartsAreWalked}
 use Rattle.arj_law_disk_view.specs.view.Deciding.{SeesRecords, Stills, nodes_of}

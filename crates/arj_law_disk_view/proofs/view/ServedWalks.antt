@@ -25,7 +25,8 @@ use Rattle.arj_protocol.specs.World.{numbered}
 use Rattle.arj_protocol.proofs.PartSays.{all_both, all_if, activate_own, invoke_own, vote_own}
 use Rattle.arj_law_disk.specs.machine.Effects.{World}
 use Rattle.arj_law_disk.proofs.machine.Base.{or_left}
-use Rattle.arj_law_parts.specs.moves.Seen.{Post, Seen, up, said, posted}
+use Rattle.arj_law_parts.specs.moves.Seen.{up, said, posted}
+use Rattle.arj_promise.specs.Runs.{Post, Seen}
 use Rattle.arj_law_parts.specs.moves.Walks.{Walks, Up}
 use Rattle.arj_law_disk_view.specs.view.Sees.{Kinds, Claims, SeesDisks, SeesConfirmed, IsSeenByDisks, IsServed, RequestIsWalked, HellosAreWalked, begins, was_begun}
 use Rattle.arj_law_disk_view.proofs.view.Frames.{says_seen, posts_seen}

@@ -17,7 +17,8 @@ use Rattle.arj_law_disk.specs.machine.Effects.{World, run, after}
 use Rattle.arj_law_disk.specs.machine.Messages as mail
 use Rattle.arj_law_disk.specs.machine.State.{target, Known}
 use Rattle.arj_law_disk.proofs.machine.Base.{bool_cases, never}
-use Rattle.arj_law_parts.specs.moves.Seen.{Seen, up, said, posted}
+use Rattle.arj_law_parts.specs.moves.Seen.{up, said, posted}
+use Rattle.arj_promise.specs.Runs.{Seen}
 use Rattle.arj_law_parts.specs.moves.Walks.{Walks, Stops, Up}
 use Rattle.arj_law_disk_view.specs.view.Pairs.{packed}
 use Rattle.arj_law_disk_view.specs.view.Stores.{SeesStore, StoreGoes, ClaimsPrepare}

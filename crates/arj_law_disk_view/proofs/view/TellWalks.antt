@@ -20,7 +20,8 @@ use Rattle.arj_law_disk.specs.machine.Messages as mail
 use Rattle.arj_law_disk.specs.machine.Messages.{Meaning, IsOver}
 use Rattle.arj_law_disk.specs.machine.State.{State, lists}
 use Rattle.arj_law_disk.proofs.machine.Base.{not_true}
-use Rattle.arj_law_parts.specs.moves.Seen.{Post, Seen, up, said, posted}
+use Rattle.arj_law_parts.specs.moves.Seen.{up, said, posted}
+use Rattle.arj_promise.specs.Runs.{Post, Seen}
 use Rattle.arj_law_parts.specs.moves.Walks.{Walks, Up}
 use Rattle.arj_law_disk_view.specs.view.Sees.{Kinds, SeesDisks, IsSeenByDisks, IsNested, ClaimsLast}
 use Rattle.arj_law_disk_view.proofs.view.Frames.{says_seen, posts_seen, sends_seen}

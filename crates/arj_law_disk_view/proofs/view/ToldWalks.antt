@@ -25,7 +25,8 @@ use Rattle.arj_law_disk.specs.machine.Messages as mail
 use Rattle.arj_law_disk.specs.machine.State.{Hold}
 use Rattle.arj_law_disk.specs.machine.Words.{In}
 use Rattle.arj_law_disk.proofs.machine.Base.{never, never_some, test_same}
-use Rattle.arj_law_parts.specs.moves.Seen.{Post, Seen, up, said, posted}
+use Rattle.arj_law_parts.specs.moves.Seen.{up, said, posted}
+use Rattle.arj_promise.specs.Runs.{Post, Seen}
 use Rattle.arj_law_parts.specs.moves.Walks.{Walks, Stops, Up}
 use Rattle.arj_law_disk_view.specs.view.Entries.{SeesEntry}
 use Rattle.arj_law_disk_view.specs.view.Deciding.{SeesRecords}

@@ -16,7 +16,8 @@ use Rattle.arj_law_disk.specs.machine.Effects.{World, run}
 use Rattle.arj_law_disk.specs.machine.State.{State, is_gone}
 use Rattle.arj_law_disk.proofs.machine.Base.{test_cases, test_not, test_same, never, never_some}
 use Rattle.arj_law_disk.proofs.machine.Keeps.{run_keeps}
-use Rattle.arj_law_parts.specs.moves.Seen.{Seen, up}
+use Rattle.arj_law_parts.specs.moves.Seen.{up}
+use Rattle.arj_promise.specs.Runs.{Seen}
 use Rattle.arj_law_disk_view.specs.view.Asking.{TopGoes}
 use Rattle.arj_law_disk_view.specs.view.Deciding.{SeesRecords}
 use Rattle.arj_law_disk_view.specs.view.Entries.{SeesEntry}

@@ -21,7 +21,8 @@ use Rattle.arj_law_disk.specs.machine.Messages.{Meaning}
 use Rattle.arj_law_disk.specs.machine.State as disk
 use Rattle.arj_law_disk.specs.machine.State.{is_gone}
 use Rattle.arj_law_disk.proofs.machine.Base.{never, never_some, some_is, put_same, put_other}
-use Rattle.arj_law_parts.specs.moves.Seen.{Seen, up}
+use Rattle.arj_law_parts.specs.moves.Seen.{up}
+use Rattle.arj_promise.specs.Runs.{Seen}
 use Rattle.arj_law_parts.specs.moves.Walks.{Walks, Up}
 use Rattle.arj_law_disk_view.specs.view.Coordinating.{UsesNothing, UnusedAreDecided}
 use Rattle.arj_law_disk_view.specs.view.Deciding.{SeesRecords, Stills, nodes_of}

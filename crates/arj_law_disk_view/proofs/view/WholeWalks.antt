@@ -26,7 +26,8 @@ use Rattle.arj_law_disk.specs.machine.Messages as mail
 use Rattle.arj_law_disk.specs.machine.Words.{In}
 use Rattle.arj_law_disk.proofs.machine.Base.{test_same}
 use Rattle.arj_law_parts.specs.moves.Seen as seen
-use Rattle.arj_law_parts.specs.moves.Seen.{Seen, up}
+use Rattle.arj_law_parts.specs.moves.Seen.{up}
+use Rattle.arj_promise.specs.Runs.{Seen}
 use Rattle.arj_law_parts.specs.moves.Walks.{Walks, Up}
 use Rattle.arj_law_disk_view.specs.view.Coordinating.{DidIsWalked, ActsAreWalked, MessagesAreWalked, KnowsNode, ConfirmsAreBooked, NotesMessage}
 use Rattle.arj_law_disk_view.specs.view.Knows.{KnowsKinds, KnowsCoord}

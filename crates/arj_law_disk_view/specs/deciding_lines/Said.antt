@@ -7,7 +7,7 @@ use Rattle.arj_protocol.specs.Order.{uid_number}
 use Rattle.arj_protocol.specs.Step.{Node}
 use Rattle.arj_law_disk.specs.machine.Effects as machine
 use Rattle.arj_law_disk.specs.machine.State.{decided}
-use Rattle.arj_law_parts.specs.moves.Seen.{Seen}
+use Rattle.arj_promise.specs.Runs.{Seen}
 use Rattle.arj_law_disk_view.specs.view.Sees.{Kinds, SeesDisks}
 use Rattle.arj_law_disk.specs.machine.Names.{Office}
 use Rattle.arj_law_disk_view.specs.running.Bindings.{KnowsScript}

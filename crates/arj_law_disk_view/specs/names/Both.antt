@@ -22,7 +22,8 @@ use Rattle.arj_law_disk.specs.machine.Names.{Answer, Names, Office, lists_after,
 use Rattle.arj_law_disk.specs.machine.Offices.{chosen}
 use Rattle.arj_law_disk.specs.machine.State.{State, Done, Plan, Idle, is_gone, is_sealed, undecided}
 use Rattle.arj_law_disk.specs.machine.Words.{In}
-use Rattle.arj_law_parts.specs.moves.Seen.{Seen, at, down, given, said, see, up}
+use Rattle.arj_law_parts.specs.moves.Seen.{at, down, given, said, up}
+use Rattle.arj_promise.specs.Runs.{Seen, see}
 use Rattle.arj_law_parts.specs.moves.Walks.{Walks, Up, halted}
 use Rattle.arj_law_disk_view.specs.view.Entries.{SeesEntry}
 use Rattle.arj_law_disk_view.specs.view.Confirming.{IsNewConfirm}

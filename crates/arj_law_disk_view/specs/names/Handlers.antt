@@ -23,7 +23,8 @@ use Rattle.arj_law_disk.specs.machine.Guards.{IsNext, MayBegin}
 use Rattle.arj_law_disk.specs.machine.Named.{Named}
 use Rattle.arj_law_disk.specs.machine.Names.{Office}
 use Rattle.arj_law_parts.specs.moves.Keeps.{is_act}
-use Rattle.arj_law_parts.specs.moves.Seen.{In, Seen, given, up}
+use Rattle.arj_law_parts.specs.moves.Seen.{In, given, up}
+use Rattle.arj_promise.specs.Runs.{Seen}
 use Rattle.arj_law_parts.specs.moves.Walks.{Walks, Up}
 use Rattle.arj_law_disk_view.specs.view.Confirming.{IsNewConfirm}
 use Rattle.arj_law_disk_view.specs.view.Coordinating.{KnowsNode}

@@ -9,7 +9,8 @@ use Rattle.arj_protocol.specs.Order.{uid_number}
 use Rattle.arj_law_disk.specs.machine.Names.{Bound, Loaded, Office}
 use Rattle.arj_law_disk.specs.machine.State.{Idle}
 use Rattle.arj_law_disk.specs.machine.Words.{In, has, put2}
-use Rattle.arj_law_parts.specs.moves.Seen.{Seen, up}
+use Rattle.arj_law_parts.specs.moves.Seen.{up}
+use Rattle.arj_promise.specs.Runs.{Seen}
 use Rattle.arj_law_disk_view.specs.view.Pairs.{packed}
 use Rattle.arj_law_disk_view.specs.view.Sees.{Kinds}
 use Rattle.arj_law_disk_view.specs.names.Both.{OnlyAnswers, OnlyAtNode, SeesBoth}

@@ -14,7 +14,8 @@ use Rattle.arj_protocol.specs.World.{Labelled}
 use Rattle.arj_law_disk.specs.machine.Guards.{Note, Decides}
 use Rattle.arj_law_disk.specs.machine.Names.{Office}
 use Rattle.arj_law_parts.specs.moves.Keeps.{is_act}
-use Rattle.arj_law_parts.specs.moves.Seen.{In, Seen, down, given, up}
+use Rattle.arj_law_parts.specs.moves.Seen.{In, down, given, up}
+use Rattle.arj_promise.specs.Runs.{Seen}
 use Rattle.arj_law_disk_view.specs.view.Coordinating.{ConfirmsAreBooked, KnowsNode, NotesInput, NotesMessage}
 use Rattle.arj_law_disk_view.specs.view.Knows.{KnowsCoord, KnowsKinds, IsOfKind}
 use Rattle.arj_law_disk_view.specs.view.Sees.{Kinds, was_begun}

@@ -14,7 +14,7 @@ use Rattle.arj_law_runs.specs.coordinators.Uses.{KnowsTops}
 use Rattle.arj_law_lock_view.specs.facts.Uppers.{ObjectsAreHeld}
 use Rattle.arj_law_runs.specs.kept.Worlds.{IsGood}
 use Rattle.arj_law_lock_view.specs.records.Runs.{RecordsRun}
-use Rattle.arj_law_parts.specs.moves.Seen.{Seen}
+use Rattle.arj_promise.specs.Runs.{Seen}
 use Rattle.arj_law_disk_view.specs.names.Lists.{IsShort}
 
 -- the binding is of this incarnation of naming, and its count is short

@@ -7,7 +7,7 @@ use Rattle.arj_law_disk.specs.machine.Effects.{World}
 use Rattle.arj_law_disk.specs.machine.Names.{Office}
 use Rattle.arj_law_disk.specs.machine.State.{Done, decided, decided_in}
 use Rattle.arj_law_disk.specs.machine.Words.{In}
-use Rattle.arj_law_parts.specs.moves.Seen.{Seen}
+use Rattle.arj_promise.specs.Runs.{Seen}
 use Rattle.arj_law_runs.specs.journal.Book.{book}
 use Rattle.arj_law_disk_view.specs.view.Sees.{Kinds}
 

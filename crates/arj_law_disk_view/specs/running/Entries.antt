@@ -7,7 +7,7 @@ use Rattle.arj_protocol.specs.Naming.{Naming}
 use Rattle.arj_protocol.specs.Node.{Parts}
 use Rattle.arj_protocol.specs.Order.{at_number, at_uid}
 use Rattle.arj_protocol.specs.Step.{Node}
-use Rattle.arj_law_parts.specs.moves.Seen.{Seen}
+use Rattle.arj_promise.specs.Runs.{Seen}
 use Rattle.arj_law_disk_view.specs.view.Pairs.{AreSorted}
 use Rattle.arj_law_disk_view.specs.names.Restarts.{AreEntries}
 

@@ -6,7 +6,8 @@ use Rattle.arj_law_parts.specs.parts.Actions.{Action, AreBegun, paths_of}
 use Rattle.arj_law_parts.specs.parts.Coords.{IsGoodCoord}
 use Rattle.arj_law_parts.specs.parts.Ends.{IsSure}
 use Rattle.arj_law_runs.specs.kept.Worlds.{IsGoodOf}
-use Rattle.arj_law_parts.specs.moves.Seen.{Seen, up}
+use Rattle.arj_law_parts.specs.moves.Seen.{up}
+use Rattle.arj_promise.specs.Runs.{Seen}
 use Rattle.arj_law_runs.specs.calls.Runs.{ChangesAreCalled}
 use Rattle.arj_law_runs.specs.coordinators.Uses.{KnowsUses}
 use Rattle.arj_law_disk_view.specs.running.Sound.{VotesFit}

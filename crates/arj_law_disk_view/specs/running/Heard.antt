@@ -19,7 +19,7 @@ use Rattle.arj_law_disk.specs.machine.Names.{Kept, Names, Office, written_in}
 use Rattle.arj_law_disk.specs.machine.State.{Packed}
 use Rattle.arj_law_disk.specs.machine.Words.{In, has}
 use Rattle.arj_law_parts.specs.moves.Seen as seen
-use Rattle.arj_law_parts.specs.moves.Seen.{Post, Seen}
+use Rattle.arj_promise.specs.Runs.{Post, Seen}
 use Rattle.arj_law_disk_view.specs.view.Knows.{KnowsKinds}
 use Rattle.arj_law_disk_view.specs.view.Pairs.{Among, packed}
 use Rattle.arj_law_disk_view.specs.view.Plans.{used_at}

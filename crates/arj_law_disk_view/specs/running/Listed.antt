@@ -14,7 +14,7 @@ use Rattle.arj_law_disk.specs.machine.Names.{Office}
 use Rattle.arj_law_disk.specs.machine.NamingLaws.{HoldsWrite}
 use Rattle.arj_law_disk.specs.machine.State.{Packed, State, is_gone, is_idle}
 use Rattle.arj_law_disk.specs.machine.Words as list
-use Rattle.arj_law_parts.specs.moves.Seen.{Seen}
+use Rattle.arj_promise.specs.Runs.{Seen}
 use Rattle.arj_law_disk_view.specs.view.Sees.{Kinds}
 use Rattle.arj_law_lock_view.specs.records.Claims.{AreAnswered}
 use Rattle.arj_law_lock_view.specs.records.Tests.{Tests}

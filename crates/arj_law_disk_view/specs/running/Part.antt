@@ -16,7 +16,8 @@ use Rattle.arj_protocol.specs.World.{format, is_serial_kind}
 use Rattle.arj_law_disk.specs.machine.Effects.{World}
 use Rattle.arj_law_disk.specs.machine.Names.{Office}
 use Rattle.arj_law_parts.specs.moves.Keeps.{MayGive, is_act, label_at}
-use Rattle.arj_law_parts.specs.moves.Seen.{AreQuiet, In, Seen, at, down, given, said, see, up}
+use Rattle.arj_law_parts.specs.moves.Seen.{AreQuiet, In, at, down, given, said, up}
+use Rattle.arj_promise.specs.Runs.{Seen, see}
 use Rattle.arj_law_parts.specs.moves.Walks.{Walks, Up, halted}
 use Rattle.arj_law_disk_view.specs.view.Coordinating.{KnowsNode}
 use Rattle.arj_law_disk_view.specs.view.Knows.{IsOfKind, KnowsKinds}

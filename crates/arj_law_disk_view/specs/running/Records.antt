@@ -7,7 +7,7 @@ use Rattle.arj_protocol.specs.Order.{at_uid, put_uid, without_uid}
 use Rattle.arj_protocol.specs.Step.{Node}
 use Rattle.arj_protocol.specs.Tree.{root_of}
 use Rattle.arj_law_parts.specs.parts.Actions.{Action, act_of}
-use Rattle.arj_law_parts.specs.moves.Seen.{Seen}
+use Rattle.arj_promise.specs.Runs.{Seen}
 use Rattle.arj_law_disk_view.specs.view.Pairs.{AreSorted}
 
 -- the record is of an action that was begun, and has its root

@@ -6,7 +6,7 @@ use Rattle.arj_protocol.specs.Order.{at_uid}
 use Rattle.arj_protocol.specs.Step.{Node}
 use Rattle.arj_protocol.specs.Values.{state_entry}
 use Rattle.arj_law_disk.specs.machine.State.{Below, Packed}
-use Rattle.arj_law_parts.specs.moves.Seen.{Seen}
+use Rattle.arj_promise.specs.Runs.{Seen}
 use Rattle.arj_law_disk_view.specs.view.Pairs.{IsOf, packed}
 
 -- a store that the entry lists, where the object isn't in doubt, holds this state

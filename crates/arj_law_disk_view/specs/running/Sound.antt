@@ -13,7 +13,7 @@ use Rattle.arj_protocol.specs.Node.{Parts}
 use Rattle.arj_protocol.specs.Order as order
 use Rattle.arj_protocol.specs.Tree.{Tree, behind, is_own, root_of}
 use Rattle.arj_law_parts.specs.moves.Seen as seen
-use Rattle.arj_law_parts.specs.moves.Seen.{Seen}
+use Rattle.arj_promise.specs.Runs.{Seen}
 use Rattle.arj_law_disk_view.specs.view.Knows.{CommitsAt, IsFirstAt, IsFromRoot, IsUnderWay}
 use Rattle.arj_law_disk_view.specs.view.Pairs.{Among}
 use Rattle.arj_law_disk_view.specs.view.Plans.{IsTidy, Uses, used_at}

@@ -27,7 +27,8 @@ use Rattle.arj_law_disk.specs.machine.Messages as mail
 use Rattle.arj_law_disk.specs.machine.Words.{In}
 use Rattle.arj_law_parts.specs.moves.Keeps.{is_act}
 use Rattle.arj_law_parts.specs.moves.Seen as seen
-use Rattle.arj_law_parts.specs.moves.Seen.{Seen, up, down, given}
+use Rattle.arj_law_parts.specs.moves.Seen.{up, down, given}
+use Rattle.arj_promise.specs.Runs.{Seen}
 use Rattle.arj_law_parts.specs.moves.Walks.{Walks, Up}
 use Rattle.arj_law_disk_view.specs.view.Confirming.{IsBooked, IsConfirmation, IsNewConfirm, IsUnconfirmed, with_locks}
 use Rattle.arj_law_disk_view.specs.view.Knows.{KnowsKinds, KnowsCoord, IsOfKind}

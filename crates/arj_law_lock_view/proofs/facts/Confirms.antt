@@ -11,7 +11,8 @@ use Rattle.arj_law_parts.specs.parts.Actions.{Action, AreBegun, Stands, act_of}
 use Rattle.arj_law_parts.specs.parts.Messages.{FitsAsked}
 use Rattle.arj_law_parts.proofs.parts.Begun.{one_action, serial_alone}
 use Rattle.arj_law_runs.specs.kept.Worlds.{IsGoodOf}
-use Rattle.arj_law_parts.specs.moves.Seen.{In, Post, Seen}
+use Rattle.arj_law_parts.specs.moves.Seen.{In}
+use Rattle.arj_promise.specs.Runs.{Post, Seen}
 use Rattle.arj_law_lock_view.specs.facts.Parted.{KnowsParted}
 
 -- an action that is neither nested nor serializing is its own top

@@ -19,7 +19,8 @@ use Rattle.arj_protocol.specs.World.{format, is_serial_kind}
 use Rattle.arj_law_parts.proofs.parts.Keys.{order_exact, put_same}
 use Rattle.arj_law_runs.proofs.addresses.Lists.{found_put}
 use Rattle.arj_law_runs.proofs.kept.Starts.{first_at}
-use Rattle.arj_law_parts.specs.moves.Seen.{Seen, at, given, posted, said, see}
+use Rattle.arj_law_parts.specs.moves.Seen.{at, given, posted, said}
+use Rattle.arj_promise.specs.Runs.{Seen, see}
 use Rattle.arj_law_parts.specs.moves.Walks.{Up, Walks}
 use Rattle.arj_law_lock_view.specs.facts.Entries.{EntriesAreFound, HandlersKeepEntries, HasObject, HoldsEntry}
 

@@ -22,7 +22,7 @@ use Rattle.arj_law_parts.proofs.parts.Begun.{begun_tree}
 use Rattle.arj_law_parts.proofs.parts.GoodTrees.{found_by}
 use Rattle.arj_law_runs.proofs.calls.CoordKnown.{root_there}
 use Rattle.arj_law_parts.proofs.parts.TrueSteps.{well_acked, well_acts, well_again, well_heard}
-use Rattle.arj_law_parts.specs.moves.Seen.{Post}
+use Rattle.arj_promise.specs.Runs.{Post}
 use Rattle.arj_law_lock_view.specs.facts.Works.{HasNoRoots}
 use Rattle.arj_law_lock_view.proofs.facts.Kept.{IsKept, Place, answers_so}
 use Rattle.arj_law_lock_view.proofs.facts.Pieces.{IsRooted, IsStep, Pieces, acked_so, acts_so, again_so, heard_so}

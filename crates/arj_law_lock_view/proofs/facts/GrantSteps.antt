@@ -34,7 +34,7 @@ use Rattle.arj_law_parts.proofs.parts.TrueSteps.{well_acked, well_acts, well_aga
 use Rattle.arj_law_runs.specs.calls.Coords.{IsSpent}
 use Rattle.arj_law_runs.proofs.calls.CoordCalls.{not_idle, step_is}
 use Rattle.arj_law_runs.proofs.calls.CoordKnown.{loose_of}
-use Rattle.arj_law_parts.specs.moves.Seen.{Post}
+use Rattle.arj_promise.specs.Runs.{Post}
 use Rattle.arj_law_runs.specs.addresses.Binds.{AnswersAt, IsThere, StandsOn}
 use Rattle.arj_law_runs.proofs.addresses.BindPlans.{retained}
 use Rattle.arj_law_lock_view.specs.facts.Grants.{HasGrant, IsAbove, IsGranted, IsLow, IsRetained, KnowsGrants, KnowsGrantsBy, is_bind}

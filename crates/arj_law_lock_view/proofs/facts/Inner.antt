@@ -20,7 +20,7 @@ use Rattle.arj_law_parts.specs.parts.Servers.{has_end_of}
 use Rattle.arj_law_parts.proofs.parts.GoodCoords.{IsSameTree, doomed_same, on_tree, uses_same}
 use Rattle.arj_law_parts.proofs.parts.GoodTrees.{after as ended_tree, get_more, grown_cases, marked, not_yet, same_ends, same_or_not, ends_by_number, ends_elsewhere, ends_there, was_there}
 use Rattle.arj_law_parts.proofs.parts.Settled.{end_tree_on}
-use Rattle.arj_law_parts.specs.moves.Seen.{Post}
+use Rattle.arj_promise.specs.Runs.{Post}
 use Rattle.arj_law_lock_view.specs.facts.Works.{KnowsEnds}
 use Rattle.arj_law_lock_view.proofs.facts.Kept.{IsKept, Place, answers_so}
 use Rattle.arj_law_lock_view.proofs.facts.Pieces.{IsPlanned, Pieces, acked_so, acts_so, again_so, heard_so}

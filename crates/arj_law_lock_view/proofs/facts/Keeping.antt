@@ -22,7 +22,7 @@ use Rattle.arj_law_lock.proofs.machine.Order.{run_keeps, start_holds}
 use Rattle.arj_law_lock.proofs.machine.Paths.{by_cases, on_root}
 use Rattle.arj_law_lock.proofs.machine.Roots.{roots_low, start_low}
 use Rattle.arj_law_parts.specs.parts.Copies.{Paths}
-use Rattle.arj_law_parts.specs.moves.Seen.{Post}
+use Rattle.arj_promise.specs.Runs.{Post}
 use Rattle.arj_law_lock_view.specs.view.Acting.{IsFreeToEnd}
 use Rattle.arj_law_lock_view.specs.view.Actions.{IsSteady, stage_of}
 use Rattle.arj_law_lock_view.specs.view.Acts.{Acts}

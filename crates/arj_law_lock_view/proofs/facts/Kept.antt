@@ -43,7 +43,8 @@ use Rattle.arj_law_runs.proofs.kept.Begins.{may as may_begin}
 use Rattle.arj_law_runs.proofs.kept.Handled.{own_of_disk, tops_of_disk}
 use Rattle.arj_law_runs.proofs.kept.Walked.{other_number, same_number}
 use Rattle.arj_law_parts.specs.moves.Keeps.{Keeps, is_act}
-use Rattle.arj_law_parts.specs.moves.Seen.{In, Post, Seen, at, down, given, posted, said, see, up}
+use Rattle.arj_law_parts.specs.moves.Seen.{In, at, down, given, posted, said, up}
+use Rattle.arj_promise.specs.Runs.{Post, Seen, see}
 use Rattle.arj_law_parts.specs.moves.Walks.{Up, Walks, halted}
 use Rattle.arj_law_parts.proofs.moves.Together.{walks_both}
 use Rattle.arj_law_runs.proofs.calls.CoordOuts.{acked_so, acts_so, again_so, heard_so, query_so, tolds_so}

@@ -15,7 +15,7 @@ use Rattle.arj_protocol.specs.Order.{binding_number}
 use Rattle.arj_protocol.specs.Tree.{Branch, branch_of, has_open_child, is_committed, is_constituent, is_merged, root_of}
 use Rattle.arj_law_parts.specs.parts.Actions.{AreBegun}
 use Rattle.arj_law_parts.specs.parts.Copies.{Paths}
-use Rattle.arj_law_parts.specs.moves.Seen.{Post}
+use Rattle.arj_promise.specs.Runs.{Post}
 use Rattle.arj_law_runs.specs.calls.Coords.{IsSpent}
 use Rattle.arj_law_runs.specs.addresses.Binds.{IsThere, KnowsBinds}
 use Rattle.arj_law_runs.specs.addresses.Binds as binds

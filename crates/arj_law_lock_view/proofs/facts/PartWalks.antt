@@ -44,7 +44,8 @@ use Rattle.arj_law_parts.proofs.parts.TrueSteps.{well_acked, well_acts, well_aga
 use Rattle.arj_law_runs.specs.kept.Worlds.{IsGoodOf, IsMemory, IsUp}
 use Rattle.arj_law_runs.proofs.kept.Walked.{other_number, same_number}
 use Rattle.arj_law_parts.specs.moves.Keeps.{is_act}
-use Rattle.arj_law_parts.specs.moves.Seen.{In, Post, Seen, at, down, given, posted, said, see, up}
+use Rattle.arj_law_parts.specs.moves.Seen.{In, at, down, given, posted, said, up}
+use Rattle.arj_promise.specs.Runs.{Post, Seen, see}
 use Rattle.arj_law_parts.specs.moves.Walks.{Up, Walks, halted}
 use Rattle.arj_law_runs.proofs.calls.CoordOuts.{quiet_again}
 use Rattle.arj_law_runs.proofs.calls.CoordSends.{AllQuiet, IsQuiet}

@@ -25,7 +25,7 @@ use Rattle.arj_law_parts.proofs.parts.CoordInputs.{named_found, off}
 use Rattle.arj_law_parts.proofs.parts.GoodCoords.{IsStepOf, actor_is, answer_step, giveup_step, vote_step}
 use Rattle.arj_law_parts.proofs.parts.GoodTrees.{placed}
 use Rattle.arj_law_runs.specs.addresses.Binds.{AnswersWaiting}
-use Rattle.arj_law_parts.specs.moves.Seen.{Post}
+use Rattle.arj_promise.specs.Runs.{Post}
 use Rattle.arj_law_lock_view.proofs.facts.Further.{GoesFurther, IsFurther, answer_further, giveup_further, itself_further, vote_further}
 use Rattle.arj_law_lock_view.proofs.facts.Kept.{Place}
 

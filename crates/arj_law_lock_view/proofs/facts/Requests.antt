@@ -14,7 +14,7 @@ use Rattle.arj_protocol.specs.Tree.{is_own}
 use Rattle.arj_law_parts.specs.parts.Actions.{paths_of}
 use Rattle.arj_law_parts.proofs.parts.Begun.{begun_tree, on_own}
 use Rattle.arj_law_parts.proofs.parts.TrueSteps.{well_acked, well_acts, well_again, well_heard}
-use Rattle.arj_law_parts.specs.moves.Seen.{Post}
+use Rattle.arj_promise.specs.Runs.{Post}
 use Rattle.arj_law_runs.specs.calls.Coords.{IsOfStep}
 use Rattle.arj_law_runs.proofs.calls.CoordSends.{IsSentBy, SendsSo}
 use Rattle.arj_law_lock_view.specs.facts.Requests.{HandlersKeepRequests, IsAskedBy, KnowsRequests}

@@ -42,7 +42,8 @@ use Rattle.arj_law_runs.specs.kept.Worlds.{IsGoodOf}
 use Rattle.arj_law_runs.proofs.kept.Begins.{begin_good}
 use Rattle.arj_law_runs.proofs.kept.Walked.{other_number, same_number}
 use Rattle.arj_law_parts.specs.moves.Keeps.{Keeps}
-use Rattle.arj_law_parts.specs.moves.Seen.{Seen, at, given, posted, said, see}
+use Rattle.arj_law_parts.specs.moves.Seen.{at, given, posted, said}
+use Rattle.arj_promise.specs.Runs.{Seen, see}
 use Rattle.arj_law_parts.specs.moves.Walks.{Up, Walks, halted}
 use Rattle.arj_law_lock_view.specs.facts.Acts.{KeepsOf, begins_in}
 use Rattle.arj_law_lock_view.specs.facts.Uppers.{AreOfEntries, AreUppersOf, HavePrepared, IsTopOf, IsUpperNode, PreparesUpper}

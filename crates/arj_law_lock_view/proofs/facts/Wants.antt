@@ -7,7 +7,8 @@ use Rattle.arj_protocol.specs.Words.ask
 use Rattle.arj_protocol.specs.Ask.{actor, asked_by}
 use Rattle.arj_law_runs.specs.calls.Calls.{Call, call_by, call_of}
 use Rattle.arj_law_runs.specs.calls.Servers.{AreOneCall}
-use Rattle.arj_law_parts.specs.moves.Seen.{In, Post}
+use Rattle.arj_law_parts.specs.moves.Seen.{In}
+use Rattle.arj_promise.specs.Runs.{Post}
 use Rattle.arj_law_lock_view.specs.view.Servers.{Wanted, Wants}
 use Rattle.arj_law_lock_view.specs.view.Serving.{IsWanted}
 use Rattle.arj_law_lock_view.specs.facts.Given.{RequestsWant, SentWants}

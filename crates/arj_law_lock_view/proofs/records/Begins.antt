@@ -23,7 +23,7 @@ use Rattle.arj_law_parts.proofs.parts.GoodTrees.{get_more, grown_still}
 use Rattle.arj_law_runs.specs.calls.Coords.{IsSpent}
 use Rattle.arj_law_runs.proofs.calls.CoordCalls.{not_idle}
 use Rattle.arj_law_runs.proofs.calls.CoordKnown.{loose_of}
-use Rattle.arj_law_parts.specs.moves.Seen.{Post}
+use Rattle.arj_promise.specs.Runs.{Post}
 use Rattle.arj_law_runs.proofs.addresses.BindSteps.{at_rest}
 use Rattle.arj_law_lock_view.proofs.facts.Kept.{Place}
 use Rattle.arj_law_lock_view.specs.records.Coords.{CallStands, IsIncluded, IsOrdered, IsRecorded, KnowsKept, StepStands, height, top_number}

@@ -14,7 +14,8 @@ use Rattle.arj_law_parts.proofs.parts.Begun.{begun_tree, on_own}
 use Rattle.arj_law_parts.proofs.parts.CoordInputs.{good_acts}
 use Rattle.arj_law_parts.proofs.parts.GoodCoords.{good_acked, good_again, good_heard}
 use Rattle.arj_law_parts.proofs.parts.TrueSteps.{well_acked, well_acts, well_again, well_heard}
-use Rattle.arj_law_parts.specs.moves.Seen.{In, Post}
+use Rattle.arj_law_parts.specs.moves.Seen.{In}
+use Rattle.arj_promise.specs.Runs.{Post}
 use Rattle.arj_law_lock_view.proofs.facts.CoordRuns.{IsKeptBy, Sender, coords_keep}
 use Rattle.arj_law_lock_view.proofs.facts.Requests.{requests_kept}
 use Rattle.arj_law_lock_view.specs.records.Claims.{AreFitting, SentAreKnown}

@@ -22,8 +22,9 @@ use Rattle.arj_law_parts.proofs.parts.GoodCalls.{untold_path}
 use Rattle.arj_law_parts.proofs.parts.GoodObjects.{owner_untold}
 use Rattle.arj_law_parts.proofs.parts.Keys as keys
 use Rattle.arj_law_parts.specs.moves.Keeps.{Keeps}
-use Rattle.arj_law_parts.specs.moves.Moves.{world_by}
-use Rattle.arj_law_parts.specs.moves.Seen.{In, Post, Seen, see}
+use Rattle.arj_promise.specs.Runs.{world_by}
+use Rattle.arj_law_parts.specs.moves.Seen.{In}
+use Rattle.arj_promise.specs.Runs.{Post, Seen, see}
 use Rattle.arj_law_parts.proofs.moves.Happens.{keeps_asked}
 use Rattle.arj_law_parts.proofs.moves.Moving.{moves_asked}
 use Rattle.arj_law_runs.specs.calls.Bindings.{AreSaid}

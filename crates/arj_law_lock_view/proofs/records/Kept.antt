@@ -28,7 +28,8 @@ use Rattle.arj_law_runs.proofs.calls.CoordCommits.{not_calling}
 use Rattle.arj_law_runs.proofs.calls.CoordKnown.{went_said}
 use Rattle.arj_law_runs.proofs.addresses.Lists.{some_is}
 use Rattle.arj_law_lock_view.proofs.facts.Pieces.{Pieces}
-use Rattle.arj_law_parts.specs.moves.Seen.{In, Post}
+use Rattle.arj_law_parts.specs.moves.Seen.{In}
+use Rattle.arj_promise.specs.Runs.{Post}
 use Rattle.arj_law_lock_view.specs.records.Coords.{IncludeStands, IsIncluded, IsJoin, IsKept, IsOrdered, IsRecorded, KnowsKept, StepStands, height}
 use Rattle.arj_law_lock_view.specs.records.Tests.{Tests}
 use Rattle.arj_law_lock_view.proofs.records.Moves.{StaysKept, call_stays, keeps_all, recorded_stays}

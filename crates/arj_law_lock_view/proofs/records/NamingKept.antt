@@ -29,7 +29,8 @@ use Rattle.arj_law_runs.proofs.kept.Handled.{own_of_disk, tops_of_disk}
 use Rattle.arj_law_runs.proofs.kept.Starts.{first_at}
 use Rattle.arj_law_runs.proofs.kept.Walked.{same_number}
 use Rattle.arj_law_parts.specs.moves.Keeps.{is_act}
-use Rattle.arj_law_parts.specs.moves.Seen.{In, Post, Seen, at, down, given, see, up}
+use Rattle.arj_law_parts.specs.moves.Seen.{In, at, down, given, up}
+use Rattle.arj_promise.specs.Runs.{Post, Seen, see}
 use Rattle.arj_law_parts.specs.moves.Walks.{Up, Walks, halted}
 use Rattle.arj_law_parts.proofs.moves.Together.{walks_both}
 use Rattle.arj_law_runs.specs.calls.Bindings.{AreSaid, bindings_made}

@@ -15,7 +15,8 @@ use Rattle.arj_protocol.specs.Order.{put_uid}
 use Rattle.arj_protocol.specs.Step.{Node}
 use Rattle.arj_law_parts.proofs.parts.Keys as keys
 use Rattle.arj_law_runs.proofs.kept.Walked.{other_number, same_number}
-use Rattle.arj_law_parts.specs.moves.Seen.{In, Post, Seen, at, posted, said, up}
+use Rattle.arj_law_parts.specs.moves.Seen.{In, at, posted, said, up}
+use Rattle.arj_promise.specs.Runs.{Post, Seen}
 use Rattle.arj_law_parts.specs.moves.Walks.{Up, Walks}
 use Rattle.arj_law_runs.proofs.addresses.Lists.{all_without, some_is}
 use Rattle.arj_law_lock_view.specs.records.Claims.{AreAnswered, AreConfirmed, IsAnswer, IsConfirm, RecordsAreFirst, WasConfirmed}

@@ -31,7 +31,8 @@ use Rattle.arj_protocol.proofs.PartSays.{activate_own, confirm_own, ends_own, in
 use Rattle.arj_law_parts.specs.parts.Actions.{Action, AreBegun}
 use Rattle.arj_law_parts.specs.parts.Messages.{FitsAsk, FitsAsked, FitsMessage, IsAsker}
 use Rattle.arj_law_runs.proofs.calls.WorldSteps.{reads_back}
-use Rattle.arj_law_parts.specs.moves.Seen.{In, Post}
+use Rattle.arj_law_parts.specs.moves.Seen.{In}
+use Rattle.arj_promise.specs.Runs.{Post}
 use Rattle.arj_law_runs.proofs.addresses.Lists.{some_is}
 use Rattle.arj_law_lock_view.specs.facts.Uppers.{HoldsObjects}
 use Rattle.arj_law_lock_view.proofs.facts.GoodNaming.{held_objects}

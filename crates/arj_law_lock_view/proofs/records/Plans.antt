@@ -19,7 +19,7 @@ use Rattle.arj_law_parts.proofs.parts.Begun.{begun_tree}
 use Rattle.arj_law_runs.proofs.addresses.BindPlans.{retained, surviving}
 use Rattle.arj_law_parts.proofs.parts.GoodTrees.{found_by}
 use Rattle.arj_law_runs.proofs.calls.CommitPlans.{in_kept}
-use Rattle.arj_law_parts.specs.moves.Seen.{Post}
+use Rattle.arj_promise.specs.Runs.{Post}
 use Rattle.arj_law_runs.proofs.addresses.Lists.{some_is}
 use Rattle.arj_law_lock_view.proofs.facts.Further.{IsFurther}
 use Rattle.arj_law_lock_view.proofs.facts.Kept.{Place}

@@ -25,7 +25,8 @@ use Rattle.arj_law_parts.proofs.parts.Begun.{begun_tree, on_own}
 use Rattle.arj_law_parts.proofs.parts.GoodTrees.{above_of, found_by, over_below, shorter}
 use Rattle.arj_law_runs.specs.calls.Coords.{bare}
 use Rattle.arj_law_runs.proofs.calls.CoordSends.{IsSentBy, SendsSo}
-use Rattle.arj_law_parts.specs.moves.Seen.{In, Post}
+use Rattle.arj_law_parts.specs.moves.Seen.{In}
+use Rattle.arj_promise.specs.Runs.{Post}
 use Rattle.arj_law_runs.proofs.addresses.Lists.{some_is}
 use Rattle.arj_law_lock_view.proofs.facts.LowGrants.{map_in}
 use Rattle.arj_law_lock_view.specs.records.Claims.{AreByOwn, AreFitting, ConfirmsSettle, HasIncluded, IsConfirm, IsMarked, SaysAsk, SentAreKnown}

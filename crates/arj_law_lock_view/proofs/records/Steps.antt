@@ -27,7 +27,7 @@ use Rattle.arj_law_parts.proofs.parts.GoodCoords.{doomed_same}
 use Rattle.arj_law_runs.specs.calls.Coords.{IsSpent}
 use Rattle.arj_law_runs.proofs.calls.CoordCalls.{heard_keeping, step_is}
 use Rattle.arj_law_runs.proofs.calls.CoordKnown.{loose_of}
-use Rattle.arj_law_parts.specs.moves.Seen.{Post}
+use Rattle.arj_promise.specs.Runs.{Post}
 use Rattle.arj_law_runs.specs.addresses.Binds.{AnswersAt}
 use Rattle.arj_law_runs.proofs.addresses.Lists.{some_is}
 use Rattle.arj_law_lock_view.specs.facts.Grants.{is_bind}

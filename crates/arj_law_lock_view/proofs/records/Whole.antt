@@ -26,7 +26,8 @@ use Rattle.arj_law_parts.proofs.parts.GoodCoords.{doing_by}
 use Rattle.arj_law_parts.proofs.parts.GoodTrees.{grown_still}
 use Rattle.arj_law_parts.proofs.parts.TrueSteps.{well_acked, well_acts, well_again, well_heard}
 use Rattle.arj_law_runs.specs.calls.Coords.{IsOfStep, bare}
-use Rattle.arj_law_parts.specs.moves.Seen.{In, Post}
+use Rattle.arj_law_parts.specs.moves.Seen.{In}
+use Rattle.arj_promise.specs.Runs.{Post}
 use Rattle.arj_law_runs.specs.addresses.Binds.{AnswersWaiting}
 use Rattle.arj_law_runs.proofs.addresses.Lists.{some_is}
 use Rattle.arj_law_lock_view.specs.facts.Requests.{IsAskedBy, KnowsRequests}

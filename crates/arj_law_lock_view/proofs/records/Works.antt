@@ -15,7 +15,7 @@ use Rattle.arj_law_parts.proofs.parts.GoodCoords.{doomed_same, uses_same}
 use Rattle.arj_law_parts.proofs.parts.GoodTrees.{get_more}
 use Rattle.arj_law_parts.proofs.parts.Settled.{end_tree_on}
 use Rattle.arj_law_runs.proofs.calls.CoordCalls.{not_both}
-use Rattle.arj_law_parts.specs.moves.Seen.{Post}
+use Rattle.arj_promise.specs.Runs.{Post}
 use Rattle.arj_law_lock_view.proofs.facts.Kept.{Place}
 use Rattle.arj_law_lock_view.proofs.facts.Pieces.{IsPlanned, Pieces}
 use Rattle.arj_law_lock_view.specs.records.Coords.{IsPlanSo, KnowsKept, KnowsSent}

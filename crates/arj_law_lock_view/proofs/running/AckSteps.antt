@@ -18,7 +18,7 @@ use Rattle.arj_law_lock.specs.machine.Machine as machine
 use Rattle.arj_law_lock.specs.machine.Machine.{Run}
 use Rattle.arj_law_lock.specs.machine.State.{State}
 use Rattle.arj_law_parts.proofs.parts.SaidIncs as each
-use Rattle.arj_law_parts.specs.moves.Seen.{Post}
+use Rattle.arj_promise.specs.Runs.{Post}
 use Rattle.arj_law_parts.specs.moves.Walks.{Stops, Up, Walks, halted}
 use Rattle.arj_law_lock_view.specs.view.Inputs.{SeesWhole}
 use Rattle.arj_law_lock_view.specs.view.Telling.{View}

@@ -33,7 +33,8 @@ use Rattle.arj_law_lock_view.proofs.facts.Kept.{Place}
 use Rattle.arj_law_lock_view.proofs.facts.States.{states_heard}
 use Rattle.arj_law_runs.proofs.kept.Walked.{same_number as number_same}
 use Rattle.arj_law_lock_view.proofs.facts.Confirms.{top_own}
-use Rattle.arj_law_parts.specs.moves.Seen.{In, Post}
+use Rattle.arj_law_parts.specs.moves.Seen.{In}
+use Rattle.arj_promise.specs.Runs.{Post}
 use Rattle.arj_law_lock.specs.machine.Machine.{stay}
 use Rattle.arj_law_lock_view.specs.view.Calling.{IsWaiting}
 use Rattle.arj_law_lock_view.specs.view.Handling.{ShowsReply}

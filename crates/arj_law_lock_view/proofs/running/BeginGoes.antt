@@ -19,7 +19,8 @@ use Rattle.arj_law_parts.specs.parts.Actions.{Action, Begins, act_of}
 use Rattle.arj_law_parts.specs.parts.Trees.{MayStand}
 use Rattle.arj_law_parts.proofs.parts.Begun.{on_own}
 use Rattle.arj_law_parts.proofs.parts.GoodTrees.{grown_cases, grown_still, new, new_there}
-use Rattle.arj_law_parts.specs.moves.Seen.{Seen, given, said}
+use Rattle.arj_law_parts.specs.moves.Seen.{given, said}
+use Rattle.arj_promise.specs.Runs.{Seen}
 use Rattle.arj_law_lock_view.specs.view.Begins.{IsBeginning}
 use Rattle.arj_law_lock_view.specs.view.Hearing.{SeesNamingIn}
 use Rattle.arj_law_lock_view.specs.view.Telling.{HasEnded}

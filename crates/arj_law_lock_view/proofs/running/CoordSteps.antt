@@ -13,7 +13,8 @@ use Rattle.arj_law_lock.specs.machine.State.{State}
 use Rattle.arj_law_parts.specs.parts.Actions.{Action, act_of, action_of}
 use Rattle.arj_law_parts.specs.parts.Claims.{GoesOn}
 use Rattle.arj_law_parts.proofs.parts.GoodTrees.{found_by}
-use Rattle.arj_law_parts.specs.moves.Seen.{Post, Seen, Within, posted, said}
+use Rattle.arj_law_parts.specs.moves.Seen.{Within, posted, said}
+use Rattle.arj_promise.specs.Runs.{Post, Seen}
 use Rattle.arj_law_parts.specs.moves.Walks.{Up, Walks}
 use Rattle.arj_law_lock_view.proofs.journal.Pages.{append_nil, append_one}
 use Rattle.arj_law_lock_view.specs.view.Actions.{AreAlike}

@@ -17,7 +17,8 @@ use Rattle.arj_law_parts.specs.parts.Actions.{action_of}
 use Rattle.arj_law_parts.specs.parts.Claims.{GoesOn}
 use Rattle.arj_law_parts.proofs.parts.Keys as keys
 use Rattle.arj_law_parts.proofs.parts.Truths.{put_in}
-use Rattle.arj_law_parts.specs.moves.Seen.{Seen, Within}
+use Rattle.arj_law_parts.specs.moves.Seen.{Within}
+use Rattle.arj_promise.specs.Runs.{Seen}
 use Rattle.arj_law_parts.specs.moves.Walks.{Stops, Up, Walks}
 use Rattle.arj_law_lock_view.specs.journal.Lines.{IsTiedToLines}
 use Rattle.arj_law_lock_view.specs.journal.Steps.{ArePlain}

@@ -10,7 +10,7 @@ use Rattle.arj_law_lock.specs.machine.State as state
 use Rattle.arj_law_lock.specs.machine.State.{State}
 use Rattle.arj_law_lock.proofs.machine.Order.{go_on}
 use Rattle.arj_law_parts.specs.parts.Actions.{Action, owners_of}
-use Rattle.arj_law_parts.specs.moves.Seen.{Seen}
+use Rattle.arj_promise.specs.Runs.{Seen}
 use Rattle.arj_law_lock_view.specs.view.Copies.{OnlyServer}
 use Rattle.arj_law_lock_view.specs.view.Ends.{SeesNothing}
 use Rattle.arj_law_lock_view.specs.view.Going.{Goes, NobodyConfirmed, OnlyNaming}

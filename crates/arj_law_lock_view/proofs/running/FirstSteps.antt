@@ -16,7 +16,8 @@ use Rattle.arj_law_lock.specs.machine.Machine as machine
 use Rattle.arj_law_lock.specs.machine.Machine.{start}
 use Rattle.arj_law_lock.specs.machine.State.{State}
 use Rattle.arj_law_runs.proofs.kept.Starts.{first_at}
-use Rattle.arj_law_parts.specs.moves.Seen.{Post, Seen, see, up}
+use Rattle.arj_law_parts.specs.moves.Seen.{up}
+use Rattle.arj_promise.specs.Runs.{Post, Seen, see}
 use Rattle.arj_law_lock_view.specs.journal.Lines.{AreCallsOf, AreIncludesOf, included_on, said_on}
 use Rattle.arj_law_lock_view.specs.view.Going.{NobodyConfirmed}
 use Rattle.arj_law_lock_view.proofs.view.ServerSteps.{servers_are_down}

@@ -14,7 +14,7 @@ use Rattle.arj_law_lock.specs.machine.State.{State}
 use Rattle.arj_law_lock.proofs.machine.Order.{go_on}
 use Rattle.arj_law_lock.proofs.machine.Paths.{by_cases, on_base, root_is}
 use Rattle.arj_law_parts.specs.parts.Actions.{Action, act_of, action_of}
-use Rattle.arj_law_parts.specs.moves.Seen.{Seen}
+use Rattle.arj_promise.specs.Runs.{Seen}
 use Rattle.arj_law_parts.specs.moves.Walks.{halted}
 use Rattle.arj_law_lock_view.specs.view.Actions.{IsIdle, IsSteady}
 use Rattle.arj_law_lock_view.specs.view.Begins.{IsUntouched}

@@ -25,7 +25,8 @@ use Rattle.arj_law_lock.proofs.machine.Order.{go_on}
 use Rattle.arj_law_parts.specs.parts.Actions.{action_of, owners_of}
 use Rattle.arj_law_parts.specs.parts.Frames.{outs_of}
 use Rattle.arj_law_parts.specs.moves.Seen as seen
-use Rattle.arj_law_parts.specs.moves.Seen.{Post, Seen, Within}
+use Rattle.arj_law_parts.specs.moves.Seen.{Within}
+use Rattle.arj_promise.specs.Runs.{Post, Seen}
 use Rattle.arj_law_parts.specs.moves.Walks.{Up, Walks}
 use Rattle.arj_law_lock_view.specs.view.Actions.{IsSteady}
 use Rattle.arj_law_lock_view.specs.view.Calling.{IsReached}

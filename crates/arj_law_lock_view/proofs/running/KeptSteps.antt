@@ -25,7 +25,8 @@ use Rattle.arj_law_runs.proofs.kept.Begins as begins
 use Rattle.arj_law_runs.specs.journal.Paths.{IsAlikeOf}
 use Rattle.arj_law_runs.proofs.journal.Paths.{IsPathedOf, act_pathed, begin_pathed, first_pathed, message_pathed, quiet_pathed, restart_pathed, stop_pathed, tick_pathed}
 use Rattle.arj_law_parts.specs.moves.Keeps.{MayGive, is_act, label_at}
-use Rattle.arj_law_parts.specs.moves.Seen.{AreQuiet, In, Post, Seen, Within, at, down, given, posted, said, see, up}
+use Rattle.arj_law_parts.specs.moves.Seen.{AreQuiet, In, Within, at, down, given, posted, said, up}
+use Rattle.arj_promise.specs.Runs.{Post, Seen, see}
 use Rattle.arj_law_parts.specs.moves.Walks.{Up, Walks, halted}
 use Rattle.arj_law_parts.proofs.moves.Together.{walks_both, walks_each, walks_to}
 use Rattle.arj_law_lock_view.specs.facts.Acts.{KeepsOf, begins_in}

@@ -16,7 +16,8 @@ use Rattle.arj_law_lock.specs.machine.Actions.{Act, Root, root}
 use Rattle.arj_law_lock.specs.machine.Machine.{Run}
 use Rattle.arj_law_lock.specs.machine.State.{State}
 use Rattle.arj_law_lock.proofs.machine.Later.{Later}
-use Rattle.arj_law_parts.specs.moves.Seen.{Post, Within}
+use Rattle.arj_law_parts.specs.moves.Seen.{Within}
+use Rattle.arj_promise.specs.Runs.{Post}
 use Rattle.arj_law_lock_view.specs.view.Calling.{IsReached}
 use Rattle.arj_law_lock_view.specs.view.Going.{NobodyConfirmed}
 use Rattle.arj_law_lock_view.proofs.view.EverSteps.{Ever, Kept, ever, on_run, reached_kept}

@@ -16,7 +16,8 @@ use Rattle.arj_law_lock.proofs.machine.Order.{go_on}
 use Rattle.arj_law_parts.specs.parts.Actions.{Action, act_of}
 use Rattle.arj_law_runs.proofs.kept.Walked.{other_number, same_number}
 use Rattle.arj_law_parts.specs.moves.Seen as seen
-use Rattle.arj_law_parts.specs.moves.Seen.{Post, Seen, at, posted, said}
+use Rattle.arj_law_parts.specs.moves.Seen.{at, posted, said}
+use Rattle.arj_promise.specs.Runs.{Post, Seen}
 use Rattle.arj_law_lock_view.specs.view.Actions.{IsIdle}
 use Rattle.arj_law_lock_view.specs.view.Begins.{IsUntouched}
 use Rattle.arj_law_lock_view.specs.view.Calling.{IsReached}

@@ -16,7 +16,8 @@ use Rattle.arj_law_lock.specs.machine.State as machine_state
 use Rattle.arj_law_lock.specs.machine.State.{State}
 use Rattle.arj_law_lock.proofs.machine.Claims.{Holds}
 use Rattle.arj_law_parts.specs.parts.Actions.{Action}
-use Rattle.arj_law_parts.specs.moves.Seen.{Post, Within}
+use Rattle.arj_law_parts.specs.moves.Seen.{Within}
+use Rattle.arj_promise.specs.Runs.{Post}
 use Rattle.arj_law_lock_view.specs.view.Calling.{IsReached}
 use Rattle.arj_law_lock_view.specs.view.Going.{ShowsBound, ShowsNoted}
 use Rattle.arj_law_lock_view.specs.view.Handling.{ShowsReply}

@@ -21,7 +21,7 @@ use Rattle.arj_law_parts.specs.parts.Actions.{Action, act_of, action_of}
 use Rattle.arj_law_parts.specs.parts.Coords.{IsGoodCoord}
 use Rattle.arj_law_parts.proofs.parts.Begun.{one_action, serial_alone}
 use Rattle.arj_law_parts.proofs.parts.Keys.{at_in}
-use Rattle.arj_law_parts.specs.moves.Seen.{Post}
+use Rattle.arj_promise.specs.Runs.{Post}
 use Rattle.arj_law_parts.specs.moves.Walks.{Up, Walks}
 use Rattle.arj_law_lock_view.specs.view.Listed.{IsTelling}
 use Rattle.arj_law_lock_view.specs.view.Telling.{AreOneTree, View}

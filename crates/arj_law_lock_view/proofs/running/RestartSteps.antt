@@ -15,7 +15,8 @@ use Rattle.arj_law_lock.specs.machine.State.{State}
 use Rattle.arj_law_lock.proofs.machine.Paths.{by_cases, differ, on_base, root_is, same_is, top_action}
 use Rattle.arj_law_parts.specs.parts.Actions.{Action, act_of}
 use Rattle.arj_law_parts.specs.parts.Messages.{IsTopAction}
-use Rattle.arj_law_parts.specs.moves.Seen.{Seen, said}
+use Rattle.arj_law_parts.specs.moves.Seen.{said}
+use Rattle.arj_promise.specs.Runs.{Seen}
 use Rattle.arj_law_lock_view.specs.view.Acting.{OnlyActed}
 use Rattle.arj_law_lock_view.specs.view.Actions.{IsIdle, IsPlaced}
 use Rattle.arj_law_lock_view.specs.view.Begins.{IsUntouched}

@@ -29,7 +29,8 @@ use Rattle.arj_law_parts.specs.parts.Messages.{AreOfTops, IsTopAction}
 use Rattle.arj_law_parts.proofs.parts.Keys.{at_in}
 use Rattle.arj_law_parts.proofs.parts.SaidIncs as each
 use Rattle.arj_law_runs.proofs.kept.Handled.{place_of}
-use Rattle.arj_law_parts.specs.moves.Seen.{Post, Seen, Within, down, posted, said}
+use Rattle.arj_law_parts.specs.moves.Seen.{Within, down, posted, said}
+use Rattle.arj_promise.specs.Runs.{Post, Seen}
 use Rattle.arj_law_parts.specs.moves.Walks.{Stops, Up, Walks, halted}
 use Rattle.arj_law_lock_view.specs.view.Telling.{AreOneTree, HasEnded, View}
 use Rattle.arj_law_lock_view.specs.running.Beside.{Case, IsSeenIn, KnowsEntry}

@@ -14,7 +14,7 @@ use Rattle.arj_lock.proofs.Members as list
 use Rattle.arj_law_lock.specs.machine.State.{State}
 use Rattle.arj_law_lock.specs.machine.Steps.{IsCurrent, LoadsTheLast}
 use Rattle.arj_law_parts.specs.parts.Actions.{Action}
-use Rattle.arj_law_parts.specs.moves.Seen.{Post}
+use Rattle.arj_promise.specs.Runs.{Post}
 use Rattle.arj_law_lock_view.specs.view.Calling.{IsToCall, ShowsAnswer}
 use Rattle.arj_law_lock_view.specs.view.Copies.{state_code}
 use Rattle.arj_law_lock_view.specs.view.Handling.{ShowsReply}

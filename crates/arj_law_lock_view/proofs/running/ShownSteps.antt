@@ -24,7 +24,7 @@ use Rattle.arj_law_parts.specs.parts.Messages.{FitsAsk, FitsAsked, FitsOther, Fi
 use Rattle.arj_law_parts.specs.parts.Tops.{Owners}
 use Rattle.arj_law_parts.proofs.parts.Begun.{begun_fits}
 use Rattle.arj_law_parts.specs.moves.Seen as seen
-use Rattle.arj_law_parts.specs.moves.Seen.{Post}
+use Rattle.arj_promise.specs.Runs.{Post}
 use Rattle.arj_law_lock_view.specs.view.Actions.{IsPlaced}
 use Rattle.arj_law_lock_view.specs.view.Calling.{IsReached}
 use Rattle.arj_law_lock_view.specs.view.Commits.{IsRightBelow}

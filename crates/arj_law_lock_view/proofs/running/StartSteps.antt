@@ -20,7 +20,7 @@ use Rattle.arj_law_lock.proofs.machine.Order.{go_on}
 use Rattle.arj_law_parts.specs.parts.Actions.{Action, act_of}
 use Rattle.arj_law_parts.proofs.parts.GoodCoords.{doing_by}
 use Rattle.arj_law_parts.proofs.parts.GoodTrees.{found_by, place_in}
-use Rattle.arj_law_parts.specs.moves.Seen.{Seen}
+use Rattle.arj_promise.specs.Runs.{Seen}
 use Rattle.arj_law_lock_view.specs.view.Calling.{IsReached}
 use Rattle.arj_law_lock_view.specs.view.Copies.{OnlyServer}
 use Rattle.arj_law_lock_view.specs.view.Going.{Goes, NobodyConfirmed, OnlyNaming}

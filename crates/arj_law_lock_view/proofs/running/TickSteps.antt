@@ -30,7 +30,7 @@ use Rattle.arj_law_parts.proofs.parts.EndsSaid.{sure_again}
 use Rattle.arj_law_parts.proofs.parts.GoodNodes.{tick_well}
 use Rattle.arj_law_parts.proofs.parts.TrueSteps.{well_again}
 use Rattle.arj_law_runs.specs.kept.Worlds.{IsUp}
-use Rattle.arj_law_parts.specs.moves.Seen.{Post}
+use Rattle.arj_promise.specs.Runs.{Post}
 use Rattle.arj_law_parts.specs.moves.Walks.{Up, Walks}
 use Rattle.arj_law_runs.proofs.calls.CoordOuts.{again_all_tree, again_so, again_work}
 use Rattle.arj_law_runs.proofs.calls.CoordSends.{AllSo, IsSentBy}

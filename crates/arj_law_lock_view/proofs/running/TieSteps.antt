@@ -14,7 +14,8 @@ use Rattle.arj_protocol.specs.Words.kind
 use Rattle.arj_protocol.specs.Tree.{Tree, branch_of}
 use Rattle.arj_protocol.specs.World.{numbered}
 use Rattle.arj_law_parts.specs.parts.Actions.{Action, act_of}
-use Rattle.arj_law_parts.specs.moves.Seen.{AreQuiet, Seen, is_quiet_line}
+use Rattle.arj_law_parts.specs.moves.Seen.{AreQuiet, is_quiet_line}
+use Rattle.arj_promise.specs.Runs.{Seen}
 use Rattle.arj_law_runs.specs.journal.Book.{book, new_book}
 use Rattle.arj_law_runs.specs.journal.Laws.{AreDistinct}
 use Rattle.arj_law_runs.specs.journal.Paths.{AreAlike}

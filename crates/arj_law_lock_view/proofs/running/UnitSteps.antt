@@ -11,7 +11,7 @@ use Rattle.arj_law_lock.specs.machine.Machine.{Run}
 use Rattle.arj_law_lock.specs.machine.State as state
 use Rattle.arj_law_lock.specs.machine.State.{State}
 use Rattle.arj_law_parts.specs.parts.Actions.{Action, act_of}
-use Rattle.arj_law_parts.specs.moves.Seen.{Seen}
+use Rattle.arj_promise.specs.Runs.{Seen}
 use Rattle.arj_law_lock_view.specs.view.Actions.{IsIdle}
 use Rattle.arj_law_lock_view.specs.view.Begins.{IsUntouched}
 use Rattle.arj_law_lock_view.specs.view.Calling.{IsReached, OnlyCalled}

@@ -16,7 +16,8 @@ use Rattle.arj_law_lock.specs.machine.Machine.{Run}
 use Rattle.arj_law_lock.specs.machine.State.{State}
 use Rattle.arj_law_runs.specs.calls.Runs.{VotesAreUsed}
 use Rattle.arj_law_runs.proofs.kept.Walked.{other_number, same_number}
-use Rattle.arj_law_parts.specs.moves.Seen.{In, Seen, at, posted, said, see}
+use Rattle.arj_law_parts.specs.moves.Seen.{In, at, posted, said}
+use Rattle.arj_promise.specs.Runs.{Seen, see}
 use Rattle.arj_law_parts.specs.moves.Walks.{Up, Walks, halted}
 use Rattle.arj_law_lock_view.specs.facts.Votes.{AreVoted, side_at}
 use Rattle.arj_law_lock_view.proofs.facts.VoteCoords.{stays_voted}

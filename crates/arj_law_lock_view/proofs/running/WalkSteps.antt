@@ -14,7 +14,8 @@ use Rattle.arj_law_lock.specs.machine.Machine.{Run}
 use Rattle.arj_law_lock.specs.machine.State.{State}
 use Rattle.arj_law_lock_view.specs.journal.Steps.{is_plain}
 use Rattle.arj_law_parts.specs.parts.Actions.{Action}
-use Rattle.arj_law_parts.specs.moves.Seen.{AreQuiet, Post, Seen, Within, posted, said}
+use Rattle.arj_law_parts.specs.moves.Seen.{AreQuiet, Within, posted, said}
+use Rattle.arj_promise.specs.Runs.{Post, Seen}
 use Rattle.arj_law_parts.specs.moves.Walks.{Up, Walks, halted}
 use Rattle.arj_law_lock_view.specs.running.Fixed.{Fixed, view_of}
 use Rattle.arj_law_lock_view.specs.running.Posts.{IsPostSeen}

@@ -19,7 +19,8 @@ use Rattle.arj_law_lock.proofs.machine.Paths.{by_cases}
 use Rattle.arj_law_lock_view.specs.journal.Steps.{is_plain}
 use Rattle.arj_law_parts.specs.parts.Actions.{Action}
 use Rattle.arj_law_parts.specs.moves.Seen as seen
-use Rattle.arj_law_parts.specs.moves.Seen.{AreQuiet, Post, Seen, Within, posted, said}
+use Rattle.arj_law_parts.specs.moves.Seen.{AreQuiet, Within, posted, said}
+use Rattle.arj_promise.specs.Runs.{Post, Seen}
 use Rattle.arj_law_lock_view.specs.view.Calling.{IsReached}
 use Rattle.arj_law_lock_view.specs.facts.Parted.{names_object}
 use Rattle.arj_law_lock_view.specs.running.Fixed.{Fixed}

@@ -11,7 +11,8 @@ use Rattle.arj_protocol.specs.World.{format, is_serial_kind}
 use Rattle.arj_law_parts.specs.parts.Actions.{Action}
 use Rattle.arj_law_runs.specs.kept.Worlds.{IsGoodOf}
 use Rattle.arj_law_parts.specs.moves.Keeps.{DidKeeps, MayGive, is_act, label_at}
-use Rattle.arj_law_parts.specs.moves.Seen.{AreQuiet, In, Seen, at, down, given, said, see, up}
+use Rattle.arj_law_parts.specs.moves.Seen.{AreQuiet, In, at, down, given, said, up}
+use Rattle.arj_promise.specs.Runs.{Seen, see}
 use Rattle.arj_law_parts.specs.moves.Walks.{Up, Walks, halted}
 
 -- the action that begins in this branch

@@ -6,7 +6,7 @@ use Rattle.arj_protocol.specs.Effect.{Pair, held_at}
 use Rattle.arj_protocol.specs.Order.{at_number}
 use Rattle.arj_protocol.specs.Step.{Node}
 use Rattle.arj_law_parts.specs.moves.Keeps.{Keeps}
-use Rattle.arj_law_parts.specs.moves.Seen.{Seen}
+use Rattle.arj_promise.specs.Runs.{Seen}
 
 -- the header has the object
 abbrev pub HasObject : Header → ℕ → Type 0

@@ -27,7 +27,8 @@ use Rattle.arj_law_parts.specs.parts.Coords.{IsGoodCoord}
 use Rattle.arj_law_parts.specs.parts.Copies.{Paths}
 use Rattle.arj_law_runs.specs.calls.Servers.{AreOneCall}
 use Rattle.arj_law_runs.specs.calls.Worlds.{KnowsNode}
-use Rattle.arj_law_parts.specs.moves.Seen.{In, Post}
+use Rattle.arj_law_parts.specs.moves.Seen.{In}
+use Rattle.arj_promise.specs.Runs.{Post}
 use Rattle.arj_law_lock_view.specs.view.Acting.{IsFirst}
 use Rattle.arj_law_lock_view.specs.view.Actions.{IsLone}
 use Rattle.arj_law_lock_view.specs.view.Inputs.{AreTopped}

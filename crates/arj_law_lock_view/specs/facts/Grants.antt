@@ -18,7 +18,7 @@ use Rattle.arj_law_runs.specs.calls.Coords.{IsSpent}
 use Rattle.arj_law_runs.specs.addresses.Binds.{BindsAreKnown, KnowsBinds}
 use Rattle.arj_law_runs.specs.kept.Worlds.{IsGood}
 use Rattle.arj_law_parts.specs.moves.Keeps.{Keeps}
-use Rattle.arj_law_parts.specs.moves.Seen.{Post, Seen}
+use Rattle.arj_promise.specs.Runs.{Post, Seen}
 use Rattle.arj_law_lock.specs.machine.State.{State}
 use Rattle.arj_law_lock_view.specs.view.Acting.{IsFreeToEnd}
 use Rattle.arj_law_lock_view.specs.view.Acts.{Acts}

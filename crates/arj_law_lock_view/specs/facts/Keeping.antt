@@ -7,7 +7,7 @@ use Rattle.arj_protocol.specs.Tree.{Branch}
 use Rattle.arj_law_runs.specs.addresses.Binds.{KnowsBinds}
 use Rattle.arj_law_lock.specs.machine.State.{State}
 use Rattle.arj_law_parts.specs.parts.Copies.{Paths}
-use Rattle.arj_law_parts.specs.moves.Seen.{Post}
+use Rattle.arj_promise.specs.Runs.{Post}
 use Rattle.arj_law_lock_view.specs.view.Acting.{IsFreeToEnd}
 use Rattle.arj_law_lock_view.specs.view.Acts.{Acts}
 use Rattle.arj_law_lock_view.specs.view.Calling.{IsReached}

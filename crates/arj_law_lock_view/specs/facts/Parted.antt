@@ -13,7 +13,8 @@ use Rattle.arj_protocol.specs.Order.{has}
 use Rattle.arj_protocol.specs.Step.{Node}
 use Rattle.arj_protocol.specs.Tree.{Branch, branch_of, is_own}
 use Rattle.arj_law_parts.specs.parts.Actions.{Action}
-use Rattle.arj_law_parts.specs.moves.Seen.{In, Post, Seen}
+use Rattle.arj_law_parts.specs.moves.Seen.{In}
+use Rattle.arj_promise.specs.Runs.{Post, Seen}
 use Rattle.arj_law_lock_view.specs.facts.Acts.{KeepsOf}
 use Rattle.arj_law_lock_view.specs.facts.Uppers.{IsTopOf}
 

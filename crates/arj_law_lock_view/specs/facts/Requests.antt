@@ -12,7 +12,8 @@ use Rattle.arj_law_runs.specs.addresses.Binds.{BindsAreKnown}
 use Rattle.arj_law_runs.specs.calls.Coords.{IsOfStep}
 use Rattle.arj_law_runs.specs.kept.Worlds.{IsGood}
 use Rattle.arj_law_parts.specs.moves.Keeps.{Keeps}
-use Rattle.arj_law_parts.specs.moves.Seen.{In, Post, Seen}
+use Rattle.arj_law_parts.specs.moves.Seen.{In}
+use Rattle.arj_promise.specs.Runs.{Post, Seen}
 
 -- A request that was sent is of no later number than its action's last one; and if it's that one, it is the request of the step that waits,
 -- or what the commit under way asks of that node.

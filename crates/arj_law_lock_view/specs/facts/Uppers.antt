@@ -16,7 +16,7 @@ use Rattle.arj_law_parts.specs.parts.Objects.{IsGoodObject}
 use Rattle.arj_law_runs.specs.addresses.Addresses.{IsEntry}
 use Rattle.arj_law_runs.specs.kept.Worlds.{IsGoodOf}
 use Rattle.arj_law_parts.specs.moves.Keeps.{Keeps}
-use Rattle.arj_law_parts.specs.moves.Seen.{Seen}
+use Rattle.arj_promise.specs.Runs.{Seen}
 use Rattle.arj_law_lock_view.specs.view.Namings.{HasNothingAt, IsGoodAt}
 use Rattle.arj_law_lock_view.specs.view.Telling.{View}
 

@@ -10,7 +10,8 @@ use Rattle.arj_protocol.specs.Step.{Node}
 use Rattle.arj_law_runs.specs.addresses.Binds.{BindsAreKnown}
 use Rattle.arj_law_runs.specs.kept.Worlds.{IsGood}
 use Rattle.arj_law_parts.specs.moves.Keeps.{Keeps}
-use Rattle.arj_law_parts.specs.moves.Seen.{In, Post, Seen}
+use Rattle.arj_law_parts.specs.moves.Seen.{In}
+use Rattle.arj_promise.specs.Runs.{Post, Seen}
 use Rattle.arj_law_lock_view.specs.facts.Works.{HasNoRoots, KnowsEnds, KnowsWaits}
 
 -- What holds of messages: of each request that was sent, and of each answer to a Bind.

@@ -10,7 +10,8 @@ use Rattle.arj_protocol.specs.Ask.{Reply, actor, answers, asked_by, top_of}
 use Rattle.arj_protocol.specs.Confirm.{Grants, Marks}
 use Rattle.arj_protocol.specs.Effect.{Pair}
 use Rattle.arj_protocol.specs.Order.{binding_less, binding_number, has}
-use Rattle.arj_law_parts.specs.moves.Seen.{In, Post}
+use Rattle.arj_law_parts.specs.moves.Seen.{In}
+use Rattle.arj_promise.specs.Runs.{Post}
 use Rattle.arj_law_lock_view.specs.records.Tests.{Tests}
 
 -- ---- answers

@@ -12,7 +12,8 @@ use Rattle.arj_protocol.specs.Order.{at_number, binding_number, has}
 use Rattle.arj_protocol.specs.Tree.{Branch, branch_of, is_own, root_of}
 use Rattle.arj_law_runs.specs.calls.Coords.{IsSpent}
 use Rattle.arj_law_parts.specs.parts.Claims.{IsSettled}
-use Rattle.arj_law_parts.specs.moves.Seen.{In, Post}
+use Rattle.arj_law_parts.specs.moves.Seen.{In}
+use Rattle.arj_promise.specs.Runs.{Post}
 use Rattle.arj_law_lock_view.specs.records.Tests.{Tests}
 
 -- ---- roots

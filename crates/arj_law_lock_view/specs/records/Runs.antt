@@ -17,8 +17,9 @@ use Rattle.arj_law_parts.specs.parts.Actions.{Action}
 use Rattle.arj_law_runs.specs.kept.Worlds.{IsGood, IsGoodOf}
 use Rattle.arj_law_runs.specs.addresses.Binds.{BindsAreKnown}
 use Rattle.arj_law_parts.specs.moves.Keeps.{Holds, Keeps}
-use Rattle.arj_law_parts.specs.moves.Moves.{Move, journal_by, world_by}
-use Rattle.arj_law_parts.specs.moves.Seen.{In, Post, Seen}
+use Rattle.arj_promise.specs.Runs.{Move, journal_by, world_by}
+use Rattle.arj_law_parts.specs.moves.Seen.{In}
+use Rattle.arj_promise.specs.Runs.{Post, Seen}
 use Rattle.arj_law_lock_view.specs.facts.Requests.{KnowsRequests}
 use Rattle.arj_law_lock_view.specs.facts.Uppers.{AreUppersOf, HoldsObjects}
 use Rattle.arj_law_lock_view.specs.records.Claims.{AreAnswered, AreConfirmed, AreFitting, RecordsAreFirst, SentAreKnown}

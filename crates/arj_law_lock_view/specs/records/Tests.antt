@@ -6,7 +6,7 @@ use Rattle.arj_protocol.specs.Naming.{Naming}
 use Rattle.arj_protocol.specs.Node.{Parts}
 use Rattle.arj_protocol.specs.Order.{at_number, at_uid, binding_number}
 use Rattle.arj_protocol.specs.Step.{Node}
-use Rattle.arj_law_parts.specs.moves.Seen.{Seen}
+use Rattle.arj_promise.specs.Runs.{Seen}
 
 -- Of a number, that naming has given a binding none above it; of an object and a number, that a binding of no lower number was recorded, or
 -- naming is in a later incarnation than that of the binding; of an object, a top and an incarnation, that the top asked the lock by an

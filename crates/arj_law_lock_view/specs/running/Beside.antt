@@ -20,7 +20,8 @@ use Rattle.arj_law_runs.specs.journal.Book.{book}
 use Rattle.arj_law_runs.specs.journal.Knows.{IsWritten}
 use Rattle.arj_law_runs.specs.journal.Paths.{AreAlike}
 use Rattle.arj_law_runs.specs.kept.Worlds.{IsGoodOf}
-use Rattle.arj_law_parts.specs.moves.Seen.{In, Post, Seen, up}
+use Rattle.arj_law_parts.specs.moves.Seen.{In, up}
+use Rattle.arj_promise.specs.Runs.{Post, Seen}
 use Rattle.arj_law_lock_view.specs.facts.Parted.{KnowsParted}
 use Rattle.arj_law_lock_view.specs.view.Namings.{HasNothingAt, IsGoodAt}
 use Rattle.arj_law_lock_view.specs.view.Telling.{HasNoneLeft, View}

@@ -24,7 +24,8 @@ use Rattle.arj_law_parts.specs.parts.Claims.{GoesOn}
 use Rattle.arj_law_parts.specs.parts.Coords.{IsGoodCoord}
 use Rattle.arj_law_parts.specs.parts.Ends.{IsSure}
 use Rattle.arj_law_parts.specs.parts.Trees.{MayStand}
-use Rattle.arj_law_parts.specs.moves.Seen.{Post, Within, given}
+use Rattle.arj_law_parts.specs.moves.Seen.{Within, given}
+use Rattle.arj_promise.specs.Runs.{Post}
 use Rattle.arj_law_parts.specs.moves.Walks.{Up, Walks}
 use Rattle.arj_law_lock_view.specs.facts.Works.{KnowsEnds}
 use Rattle.arj_law_lock_view.specs.view.Acting.{IsFirst, IsFreeToEnd}

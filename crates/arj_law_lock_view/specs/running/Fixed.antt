@@ -5,7 +5,8 @@ use Rattle.arj_model.specs.Serial.{Values}
 use Rattle.arj_protocol.specs.Words.{Ask, Head, asks}
 use Rattle.arj_law_parts.specs.parts.Actions.{Action}
 use Rattle.arj_law_parts.specs.parts.Copies.{Paths}
-use Rattle.arj_law_parts.specs.moves.Seen.{In, Post}
+use Rattle.arj_law_parts.specs.moves.Seen.{In}
+use Rattle.arj_promise.specs.Runs.{Post}
 use Rattle.arj_law_lock_view.specs.view.Acts.{Acts}
 use Rattle.arj_law_lock_view.specs.view.Copies.{Codes}
 use Rattle.arj_law_lock_view.specs.view.Servers.{Wants}

@@ -12,7 +12,8 @@ use Rattle.arj_law_lock.specs.machine.State.{State}
 use Rattle.arj_law_parts.specs.parts.Actions.{Action}
 use Rattle.arj_law_parts.specs.steps.Named.{HasNames}
 use Rattle.arj_law_parts.specs.moves.Keeps.{is_act}
-use Rattle.arj_law_parts.specs.moves.Seen.{In, Seen, down}
+use Rattle.arj_law_parts.specs.moves.Seen.{In, down}
+use Rattle.arj_promise.specs.Runs.{Seen}
 use Rattle.arj_law_lock_view.specs.facts.Works.{KnowsEnds}
 use Rattle.arj_law_lock_view.specs.running.Answers.{KnowsAnswer}
 use Rattle.arj_law_lock_view.specs.running.Asking.{HasWholeRoots, IsAskedAbout, TellsRecords}

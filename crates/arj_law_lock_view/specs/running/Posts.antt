@@ -12,7 +12,8 @@ use Rattle.arj_law_lock.specs.machine.State as machine_state
 use Rattle.arj_law_lock.specs.machine.State.{State}
 use Rattle.arj_law_parts.specs.parts.Actions.{Action}
 use Rattle.arj_law_parts.specs.parts.Ends.{ask_ends}
-use Rattle.arj_law_parts.specs.moves.Seen.{In, Post}
+use Rattle.arj_law_parts.specs.moves.Seen.{In}
+use Rattle.arj_promise.specs.Runs.{Post}
 use Rattle.arj_law_lock_view.specs.view.Asks.{ShowsAsk}
 use Rattle.arj_law_lock_view.specs.view.Handling.{ShowsReply}
 use Rattle.arj_law_lock_view.specs.view.Hearing.{ShowsNamingReply}

@@ -17,7 +17,8 @@ use Rattle.arj_law_lock.specs.machine.Actions.{Act, Root, is_action, is_top, roo
 use Rattle.arj_law_lock.specs.machine.Machine.{Run, start}
 use Rattle.arj_law_lock.specs.machine.State.{State}
 use Rattle.arj_law_parts.specs.parts.Actions.{Action, act_of}
-use Rattle.arj_law_parts.specs.moves.Seen.{In, Post, Seen}
+use Rattle.arj_law_parts.specs.moves.Seen.{In}
+use Rattle.arj_promise.specs.Runs.{Post, Seen}
 use Rattle.arj_law_lock_view.specs.facts.Parted.{names_object}
 use Rattle.arj_law_lock_view.specs.view.Begins.{IsNewUnit, IsUntouched}
 use Rattle.arj_law_lock_view.specs.view.Ends.{SeesNothing}

@@ -4,7 +4,7 @@ use Rattle.std.specs.Prelude.{option_map}
 use Rattle.arj_disk.specs.FileMap.{FileMap}
 use Rattle.arj_disk.specs.Says.{Record, records}
 use Rattle.arj_intent.specs.Records.{said}
-use Rattle.arj_law_serial.specs.joint.Shown.{IsReadingOf, pair_in, record_of}
+use Rattle.arj_promise.specs.Disks.{IsReadingOf, pair_in, record_of}
 use Rattle.arj_law_nodes.specs.nodes.Readings.{reading_of}
 use Rattle.arj_disk.specs.declared.slot.Role.{Role}
 use Rattle.arj_law_nodes.specs.cores.Parts.{PartsRest, PartsStand}

@@ -10,7 +10,7 @@ use Rattle.arj_law_parts.proofs.steps.Spoken.{event_writes}
 use Rattle.arj_law_parts.proofs.steps.Whole.{runs_whole, whole_with}
 use Rattle.arj_journal.specs.ScriptForm.{HeaderInForm}
 use Rattle.arj_law_parts.specs.moves.Keeps.{Holds}
-use Rattle.arj_law_parts.specs.moves.Moves.{Move, moved, world_by}
+use Rattle.arj_promise.specs.Runs.{Move, moved, world_by}
 use Rattle.arj_law_parts.proofs.moves.Happens.{arms_hold}
 use Rattle.arj_law_parts.proofs.moves.Moving.{moves_asked}
 use Rattle.arj_law_runs.specs.addresses.Addresses.{AreAddressed}

@@ -2,7 +2,7 @@
 use Rattle.std.proofs.Common.{◌≡◌, ◌⊎◌, inl, inr, ⊎_elim, ◌<◌, ◌≤◌, ◌++◌, ◌==◌, ◌&&◌, nat_lt, ℕ, zero, suc, Bool, true, false, cond, not, List, [], ◌∷◌, Option, Some, None, map, length, refl, sym, ◌∙◌, ap, subst, append-nil, filter}
 use Rattle.std.specs.Prelude.{Contains, take}
 use Rattle.std.proofs.lemmas.List.{append_assoc}
-use Rattle.arj_law_parts.specs.moves.Moves.{journal_by}
+use Rattle.arj_promise.specs.Runs.{journal_by}
 use Rattle.std.specs.List.{AllByRecursion, filter_map, list_all, list_any}
 use Rattle.arj_base.specs.Rows.{Row, is_on, last_uid}
 use Rattle.arj_base.specs.State.{state_bytes}
@@ -10,10 +10,10 @@ use Rattle.arj_base.specs.Uid.{entry, object, uid_eq}
 use Rattle.arj_base.specs.declared.state.Class.TheVariants as class
 use Rattle.arj_base.specs.declared.state.ObjectState.{ObjectState}
 use Rattle.arj_base.specs.declared.uid.Uid.{Uid}
-use Rattle.arj_law.specs.Book.{IsAnsweredBy, OfEachTwo, is_conflict}
+use Rattle.arj_model.specs.Book.{IsAnsweredBy, OfEachTwo, is_conflict}
 use Rattle.arj_law.specs.Growth.{is_quiet, more}
-use Rattle.arj_law.specs.Held.{IsHeldAt, holder_root, locks_for, root_of_call, tables_of, unit_end}
-use Rattle.arj_law.specs.Nested.{IsFreedFor, commit_place, nested_less}
+use Rattle.arj_model.specs.Held.{IsHeldAt, holder_root, locks_for, root_of_call, tables_of, unit_end}
+use Rattle.arj_model.specs.Nested.{IsFreedFor, commit_place, nested_less}
 use Rattle.arj_law.proofs.Common.{all_map}
 use Rattle.arj_law.proofs.Reading.{quiet_calls, quiet_serial, quiet_tops, read_none}
 use Rattle.arj_model.specs.Actions.{Act, Placed, acts, acts_after, committed, committed_of, is_committed, recovered, recovered_of, top_in, chain_in, has_end, root_in}
@@ -26,19 +26,20 @@ use Rattle.arj_model.specs.Table.{table_from, table_step, up_step, path_by}
 use Rattle.arj_model.proofs.Read.{acts-append}
 use Rattle.arj_protocol.specs.Words.{Body, Header, Line}
 use Rattle.arj_protocol.specs.Words.body
-use Rattle.arj_law_serial.specs.order.Seen.{IsSerialBy}
+use Rattle.arj_promise.specs.Serial.{IsSerialBy}
 use Rattle.arj_law_serial.specs.joint.Booked.{KeepsTheBook}
-use Rattle.arj_law_serial.specs.joint.Outcome.{ShowsOneOutcome, each_behind, has_cause_to_abort, is_behind_decision, is_said}
+use Rattle.arj_model.specs.Outcome.{has_cause_to_abort, is_behind_decision, is_said}
+use Rattle.arj_promise.specs.Outcome.{ShowsOneOutcome, each_behind}
 use Rattle.arj_class.specs.Table.{is_write, writes}
 use Rattle.arj_disk.specs.declared.disk.Disk as disk
 use Rattle.arj_journal.specs.declared.event.Event.{Event}
 use Rattle.arj_nodes.specs.AllNodes.{Task}
-use Rattle.arj_law_promise.specs.statement.Resting.{HoldAllStates}
+use Rattle.arj_promise.specs.Resting.{HoldAllStates}
 use Rattle.arj_disk.specs.declared.slot.Role.TheVariants as role
-use Rattle.arj_law_serial.specs.holding.Along.{HoldsEach}
-use Rattle.arj_law_serial.specs.order.Locked.{IsWrittenIn, caller_at, is_number, joins_top, joins_with, locks_call, locks_entry, writes_entry}
-use Rattle.arj_law_serial.specs.joint.Excluded.{lines_before, uid_of}
-use Rattle.arj_law_serial.specs.joint.DisksInTime.{DiskTakesOut, DisksAreInTime, HasPrepared}
+use Rattle.arj_promise.specs.Held.{HoldsEach}
+use Rattle.arj_promise.specs.Held.{IsWrittenIn, caller_at, is_number, joins_top, joins_with, locks_call, locks_entry, writes_entry}
+use Rattle.arj_promise.specs.Excluded.{lines_before, uid_of}
+use Rattle.arj_promise.specs.Excluded.{DiskTakesOut, DisksAreInTime, HasPrepared}
 use Rattle.arj_law_nodes.specs.nodes.Last.{EndsBehind, IsLast, ends_run}
 use Rattle.arj_law_nodes.specs.nodes.Promised.{EndsIdle, PromisesStay, ShowsThePromise}
 use Rattle.arj_law_nodes.specs.nodes.Readings.{Reads, readings_of}

@@ -1,7 +1,7 @@
 -- A core says what its parts say.
 use Rattle.std.proofs.Common.{Option, Some, None, sym, subst}
 use Rattle.arj_disk.specs.FileMap.{FileMap}
-use Rattle.arj_law_serial.specs.joint.Shown.{IsReadingOf}
+use Rattle.arj_promise.specs.Disks.{IsReadingOf}
 use Rattle.arj_node.specs.Lives.{IsLive, IsNode}
 use Rattle.arj_node.specs.declared.node.NodeCore.{NodeCore}
 use Rattle.arj_node.specs.declared.parts.Parts as parts

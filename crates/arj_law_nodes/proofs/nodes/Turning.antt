@@ -24,31 +24,31 @@ use Rattle.arj_protocol.specs.World.{World, format, is_quiet}
 use Rattle.arj_script.specs.Grammar.{Place, Start}
 use Rattle.arj_script.specs.Input.{events_of}
 use Rattle.arj_script.specs.declared.limits.TheConstants.{SCRIPT_LINES}
-use Rattle.arj_law_parts.specs.moves.Moves.{Move, all_moved, journal_by, moved, world_by}
-use Rattle.arj_law_parts.specs.moves.Seen.{see}
+use Rattle.arj_promise.specs.Runs.{Move, all_moved, journal_by, moved, world_by}
+use Rattle.arj_promise.specs.Runs.{see}
 use Rattle.arj_world.specs.Stands.{Hand, Stands, hand}
 use Rattle.arj_world.specs.Turns.{FallsAtWorks, Turn, all_turned, turned}
 use Rattle.arj_world.proofs.Stepping.{is_there}
-use Rattle.arj_law_runs.specs.bindings.Scripts.{most_events}
-use Rattle.arj_law_serial.specs.joint.FitRuns.{AreMovesInForm, AreStopsInForm}
-use Rattle.arj_law_serial.specs.joint.Shown.{DisksAre, IsReadingOf}
+use Rattle.arj_promise.specs.Runs.{most_events}
+use Rattle.arj_promise.specs.Runs.{AreMovesInForm, AreStopsInForm}
+use Rattle.arj_promise.specs.Disks.{DisksAre, IsReadingOf}
 use Rattle.arj_law_nodes.proofs.nodes.Ending.{one_behind, promises_stay, two_behind}
 use Rattle.arj_law_nodes.proofs.nodes.Reading.{events_in_form, few_events, header_in_form}
 use Rattle.arj_protocol.specs.Words.event
 use Rattle.arj_protocol.specs.Words.body
-use Rattle.arj_law_promise.specs.statement.Promise.{EndsAtRest, KeepsThePromise}
+use Rattle.arj_promise.specs.Promise.{EndsAtRest, KeepsThePromise}
 use Rattle.arj_law_runs.proofs.resting.GiveUps.{over_before}
 use Rattle.arj_law_promise.proofs.settling.Idle.{quiesce_said}
 use Rattle.arj_law_parts.proofs.moves.Moving.{more_moves}
-use Rattle.arj_law_serial.specs.order.Seen.{IsSerialBy}
+use Rattle.arj_promise.specs.Serial.{IsSerialBy}
 use Rattle.arj_law_serial.specs.joint.Booked.{KeepsTheBook}
-use Rattle.arj_law_serial.specs.joint.DisksInTime.{DisksAreInTime}
-use Rattle.arj_law_serial.specs.joint.Outcome.{ShowsOneOutcome}
-use Rattle.arj_law_serial.specs.holding.Along.{HoldsEach}
+use Rattle.arj_promise.specs.Excluded.{DisksAreInTime}
+use Rattle.arj_promise.specs.Outcome.{ShowsOneOutcome}
+use Rattle.arj_promise.specs.Held.{HoldsEach}
 use Rattle.arj_model.specs.Clean.{Clean}
 use Rattle.arj_model.specs.Disks.{Disks}
 use Rattle.arj_model.specs.Last.{first_values}
-use Rattle.arj_law_promise.specs.statement.Resting.{HoldAllStates}
+use Rattle.arj_promise.specs.Resting.{HoldAllStates}
 use Rattle.arj_law_promise.proofs.statement.Keeping.{quiet_end, runs_keep}
 use Rattle.arj_law_nodes.specs.nodes.Cores.{SaysReadings}
 use Rattle.arj_law_nodes.specs.nodes.Last.{EndsBehind, IsLast, ends_run}

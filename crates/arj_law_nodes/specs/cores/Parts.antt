@@ -1,7 +1,7 @@
 -- What the files of parts over an object store say.
 use Rattle.std.specs.Prelude.{ℕ}
 use Rattle.arj_disk.specs.FileMap.{FileMap}
-use Rattle.arj_law_serial.specs.joint.Shown.{IsReadingOf}
+use Rattle.arj_promise.specs.Disks.{IsReadingOf}
 use Rattle.arj_law_nodes.specs.nodes.Readings.{reading_of}
 use Rattle.arj_parts.specs.Kept.{Kept, RestsOn, StandsOn}
 use Rattle.arj_protocol.specs.Effect.{Disk}

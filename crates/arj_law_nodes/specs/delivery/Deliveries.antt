@@ -7,7 +7,7 @@ use Rattle.arj_protocol.specs.Words.event
 use Rattle.arj_protocol.specs.World.{Frame, World, format, frame_number, is_frame, is_node}
 use Rattle.arj_law_parts.specs.steps.Writes.{Owes, Writes, has_own}
 use Rattle.arj_journal.specs.ScriptForm.{HeaderInForm}
-use Rattle.arj_law_parts.specs.moves.Moves.{Move, moved, world_by}
+use Rattle.arj_promise.specs.Runs.{Move, moved, world_by}
 use Rattle.arj_world.specs.Turns.{Turn, all_turned, turned}
 
 -- each frame is for a node of the world

@@ -7,7 +7,7 @@ use Rattle.arj_protocol.specs.Effect.{Disk}
 use Rattle.arj_protocol.specs.Node.{Here}
 use Rattle.arj_protocol.specs.Step.{Node}
 use Rattle.arj_protocol.specs.Words.{Header}
-use Rattle.arj_law_serial.specs.joint.Shown.{IsReadingOf}
+use Rattle.arj_promise.specs.Disks.{IsReadingOf}
 use Rattle.arj_law_nodes.specs.nodes.Readings.{Reads}
 
 -- where a core with some files is a node, the files, read so, say that node's disk

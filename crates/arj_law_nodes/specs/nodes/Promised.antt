@@ -2,23 +2,23 @@
 use Rattle.std.specs.Prelude.{◌≡◌, ◌++◌, ℕ, Bool, true, false, List, [], ◌∷◌, length, map}
 use Rattle.std.specs.List.{AllByRecursion}
 use Rattle.arj_disk.specs.declared.disk.Disk as disk
-use Rattle.arj_law_serial.specs.holding.Along.{HoldsEach}
+use Rattle.arj_promise.specs.Held.{HoldsEach}
 use Rattle.arj_law_serial.specs.joint.Booked.{KeepsTheBook}
-use Rattle.arj_law_serial.specs.joint.DisksInTime.{DisksAreInTime}
-use Rattle.arj_law_serial.specs.joint.FitRuns.{IsInForm}
-use Rattle.arj_law_serial.specs.joint.Outcome.{ShowsOneOutcome}
-use Rattle.arj_law_serial.specs.joint.Shown.{DisksAre}
+use Rattle.arj_promise.specs.Excluded.{DisksAreInTime}
+use Rattle.arj_promise.specs.Runs.{IsInForm}
+use Rattle.arj_promise.specs.Outcome.{ShowsOneOutcome}
+use Rattle.arj_promise.specs.Disks.{DisksAre}
 use Rattle.arj_journal.specs.declared.event.Event.{Event}
 use Rattle.arj_model.specs.Clean.{Clean}
 use Rattle.arj_model.specs.Last.{first_values}
 use Rattle.arj_nodes.specs.AllNodes.{Task}
-use Rattle.arj_law_promise.specs.statement.Resting.{HoldAllStates}
+use Rattle.arj_promise.specs.Resting.{HoldAllStates}
 use Rattle.arj_protocol.specs.Words.{Line}
 use Rattle.arj_protocol.specs.Words.body
 use Rattle.arj_protocol.specs.Words.event
-use Rattle.arj_law_serial.specs.order.Seen.{IsSerialBy}
-use Rattle.arj_law_parts.specs.moves.Moves.{Move, journal_by, world_by}
-use Rattle.arj_law_parts.specs.moves.Seen.{see}
+use Rattle.arj_promise.specs.Serial.{IsSerialBy}
+use Rattle.arj_promise.specs.Runs.{Move, journal_by, world_by}
+use Rattle.arj_promise.specs.Runs.{see}
 use Rattle.arj_law_nodes.specs.nodes.Last.{EndsBehind, IsLast, ends_run}
 use Rattle.arj_law_nodes.specs.nodes.Readings.{Reads, readings_of}
 

@@ -16,13 +16,13 @@ use Rattle.arj_nodes.specs.declared.all_nodes.AllNodes.{AllNodes}
 use Rattle.arj_protocol.specs.Words.{Line}
 use Rattle.arj_script.specs.Grammar.{Place}
 use Rattle.arj_script.specs.Input.{events_of}
-use Rattle.arj_law_parts.specs.moves.Moves.{Move, journal_by, world_by}
-use Rattle.arj_law_parts.specs.moves.Seen.{see}
+use Rattle.arj_promise.specs.Runs.{Move, journal_by, world_by}
+use Rattle.arj_promise.specs.Runs.{see}
 use Rattle.arj_world.specs.Stands.{Hand, hand}
 use Rattle.arj_world.specs.Turns.{Turn, asked}
-use Rattle.arj_law_runs.specs.bindings.Scripts.{most_events}
-use Rattle.arj_law_serial.specs.joint.FitRuns.{IsInForm}
-use Rattle.arj_law_serial.specs.joint.Shown.{DisksAre}
+use Rattle.arj_promise.specs.Runs.{most_events}
+use Rattle.arj_promise.specs.Runs.{IsInForm}
+use Rattle.arj_promise.specs.Disks.{DisksAre}
 use Rattle.arj_law_nodes.specs.nodes.Cores.{SaysReadings}
 use Rattle.arj_law_nodes.specs.nodes.Last.{EndsBehind, IsLast}
 use Rattle.arj_law_nodes.specs.nodes.Promised.{ShowsThePromise, event_of}

@@ -8,7 +8,8 @@ use Rattle.arj_protocol.specs.Words.body
 use Rattle.arj_protocol.specs.Ask.{frame_kind}
 use Rattle.arj_protocol.specs.Effect.{Disk, Effect, Say, Send, Do, Stop, worked}
 use Rattle.arj_protocol.specs.World.{Frame, Cut, sends, bodies, sent_line, numbered, cut, halted_outs, most_frames}
-use Rattle.arj_law_parts.specs.moves.Seen.{Post, Seen, Within, AreQuiet, said, posted, with_sent, down}
+use Rattle.arj_law_parts.specs.moves.Seen.{Within, AreQuiet, said, posted, with_sent, down}
+use Rattle.arj_promise.specs.Runs.{Post, Seen}
 use Rattle.arj_law_parts.specs.moves.Walks.{halted}
 use Rattle.arj_law_parts.specs.moves.Keeps.{IsSent}
 use Rattle.arj_law_parts.proofs.moves.Flat.{Flat}

@@ -5,7 +5,8 @@ use Rattle.std.specs.Prelude.{if◌then◌else◌}
 use Rattle.arj_protocol.specs.Words.{Body, Message}
 use Rattle.arj_protocol.specs.Effect.{Disk, Effect, Say, Send, Do, Stop, worked, stopped}
 use Rattle.arj_protocol.specs.Node.{Parts, Ran, ran, first_queued, first_done}
-use Rattle.arj_law_parts.specs.moves.Seen.{Post, Seen, In, Within, AreQuiet, said, posted, with_sent}
+use Rattle.arj_law_parts.specs.moves.Seen.{In, Within, AreQuiet, said, posted, with_sent}
+use Rattle.arj_promise.specs.Runs.{Post, Seen}
 use Rattle.arj_law_parts.specs.moves.Walks.{Walks, halted}
 
 -- what holds for something that was sent besides

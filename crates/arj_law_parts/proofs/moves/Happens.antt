@@ -23,7 +23,8 @@ use Rattle.arj_protocol.specs.Step.{Node, Input, Step, step, step_unless, refusa
 use Rattle.arj_protocol.specs.Step as input
 use Rattle.arj_protocol.specs.World.{World, Frame, Arm, Giving, Labelled, Asked, most_frames, sends, bodies, numbered, put, says, steps, step_node, step_with, done_step, halted_at, halted_outs, set_node, armed, disarmed, count_works, cut, change_frame, as_delivered, as_lost, deliver_frame, deliver, lose_frame, lowest, settle_for, settle, tick_up, tick_all, is_up_at, node_numbers, is_quiet, quiesce, show_up, show_all, junk_fits, new_frame, labels_unless, gives_label, refused_at, begins, giving, happens, limited, counted, no_labels, lacks_labels, run_unless, run_event, run_all, reasons, node_of, node_in, kind_in, labelled, is_given, is_node, frame_number, is_serial_kind, format, reads_whole}
 use Rattle.arj_protocol.proofs.Maps.{place_other}
-use Rattle.arj_law_parts.specs.moves.Seen.{Post, Seen, In, Within, AreQuiet, see, at, with_node, with_sent}
+use Rattle.arj_law_parts.specs.moves.Seen.{In, Within, AreQuiet, at, with_node, with_sent}
+use Rattle.arj_promise.specs.Runs.{Post, Seen, see}
 use Rattle.arj_law_parts.specs.moves.Walks.{halted}
 use Rattle.arj_law_parts.specs.moves.Keeps.{Keeps, KeepsAsked, KeepsFrom, HasPlace, Holds, Stands, IsSent, MayGive, label_at}
 use Rattle.arj_law_parts.proofs.moves.Cuts.{Besides, with_lines, flat_done, flat_cut}

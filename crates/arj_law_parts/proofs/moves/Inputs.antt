@@ -15,7 +15,8 @@ use Rattle.arj_protocol.specs.Step as input
 use Rattle.arj_protocol.specs.World.{Labelled, is_serial_kind}
 use Rattle.arj_protocol.proofs.PartSays.{all_both}
 use Rattle.arj_protocol.proofs.Taken.{taken_took}
-use Rattle.arj_law_parts.specs.moves.Seen.{Seen, In, at, up, down, with_node, said, given, is_quiet_line}
+use Rattle.arj_law_parts.specs.moves.Seen.{In, at, up, down, with_node, said, given, is_quiet_line}
+use Rattle.arj_promise.specs.Runs.{Seen}
 use Rattle.arj_law_parts.specs.moves.Walks.{Walks, Up, halted}
 use Rattle.arj_law_parts.specs.moves.Keeps.{AsksNode, KeepsFrom, MayGive, label_at, is_act}
 use Rattle.arj_law_parts.proofs.moves.Flat.{Flat, Behind, within_same, flat_to}

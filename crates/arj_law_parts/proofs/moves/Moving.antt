@@ -3,8 +3,8 @@ use Rattle.std.proofs.Common.{◌≡◌, List, [], ◌∷◌, ◌++◌, refl}
 use Rattle.arj_protocol.specs.Words.{Header}
 use Rattle.arj_protocol.specs.World.{Asked, World, format, run_all, run_event}
 use Rattle.arj_law_parts.specs.moves.Keeps.{Holds, KeepsAsked}
-use Rattle.arj_law_parts.specs.moves.Seen.{Seen}
-use Rattle.arj_law_parts.specs.moves.Moves.{Move, all_moved, as_moves, moved, moves_of, world_by}
+use Rattle.arj_promise.specs.Runs.{Seen}
+use Rattle.arj_promise.specs.Runs.{Move, all_moved, as_moves, moved, moves_of, world_by}
 use Rattle.arj_law_parts.proofs.moves.Happens.{arms_hold, event_asked, first_asked}
 
 -- ---- what is kept

@@ -16,7 +16,8 @@ use Rattle.arj_protocol.specs.Coord.{Coord}
 use Rattle.arj_protocol.specs.Asking.{heard}
 use Rattle.arj_protocol.specs.Ending.{acked}
 use Rattle.arj_protocol.specs.Node.{Parts, Handled, Void, Took, Here, Ran, ran, ran_handled, handle_all, next_round, rounds, whole, most_rounds, handle, is_meant, taken, handle_ask, handle_answer, handle_other, handle_ends, coord_heard, by_reply, serve, served, sends_answer, if_naming, load_by, load_held, prepare_by, prepare_states, with_naming, with_server, with_coord}
-use Rattle.arj_law_parts.specs.moves.Seen.{Seen, In, at, up}
+use Rattle.arj_law_parts.specs.moves.Seen.{In, at, up}
+use Rattle.arj_promise.specs.Runs.{Seen}
 use Rattle.arj_law_parts.specs.moves.Walks.{Walks, Stops, Up}
 use Rattle.arj_law_parts.specs.moves.Keeps.{KeepsFrom}
 use Rattle.arj_protocol.proofs.Taken.{taken_as, taken_took}

@@ -1,7 +1,8 @@
 -- Relations together: where a node's effects are walked through with each of them, they are with all.
 use Rattle.std.proofs.Common.{ℕ, List, [], ◌∷◌}
 use Rattle.arj_protocol.specs.Effect.{Disk, Effect, Say, Send, Do, worked}
-use Rattle.arj_law_parts.specs.moves.Seen.{Seen, said, posted}
+use Rattle.arj_law_parts.specs.moves.Seen.{said, posted}
+use Rattle.arj_promise.specs.Runs.{Seen}
 use Rattle.arj_law_parts.specs.moves.Walks.{Walks}
 
 -- two relations

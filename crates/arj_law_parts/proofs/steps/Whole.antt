@@ -23,7 +23,7 @@ use Rattle.arj_protocol.specs.Words.event
 use Rattle.arj_protocol.specs.Words.frame_no
 use Rattle.arj_protocol.specs.Words.kind
 use Rattle.arj_protocol.specs.World.{World, Arm, Asked, Frame, Giving, Labelled, armed, gives_label, is_given, is_serial_kind, kind_below, labels_unless, node_of, refused_at, giving, as_delivered, begins, change_frame, count_works, counted, cut, deliver, deliver_frame, disarmed, done_step, format, halted_at, happens, is_node, is_quiet, is_up_at, junk_fits, lacks_labels, limited, lose, lose_frame, lowest, most_frames, no_labels, node_numbers, quiesce, quiet_line, reasons, run_event, run_unless, says, settle, settle_for, show_all, show_up, step_node, step_with, steps, tick_all, tick_up}
-use Rattle.arj_law_parts.specs.moves.Moves.{Move, all_moved, moved, world_by}
+use Rattle.arj_promise.specs.Runs.{Move, all_moved, moved, world_by}
 
 -- ---- a step keeps the node's number
 

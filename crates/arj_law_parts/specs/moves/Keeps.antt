@@ -15,7 +15,8 @@ use Rattle.arj_protocol.specs.Step.{Node, Input, acts, begin_refusal, refusal_up
 use Rattle.arj_protocol.specs.Step as input
 use Rattle.arj_protocol.specs.Tree.{at_place}
 use Rattle.arj_protocol.specs.World.{World, Frame, Labelled, format, is_serial_kind}
-use Rattle.arj_law_parts.specs.moves.Seen.{Post, Seen, In, see, at, up, down, said, given, AreQuiet}
+use Rattle.arj_law_parts.specs.moves.Seen.{In, at, up, down, said, given, AreQuiet}
+use Rattle.arj_promise.specs.Runs.{Post, Seen, see}
 use Rattle.arj_law_parts.specs.moves.Walks.{Walks, Up, halted}
 
 -- what a label stands for

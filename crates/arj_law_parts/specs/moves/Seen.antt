@@ -10,19 +10,7 @@ use Rattle.arj_protocol.specs.Node.{Parts}
 use Rattle.arj_protocol.specs.Step.{Node}
 use Rattle.arj_protocol.specs.Tree.{at_place}
 use Rattle.arj_protocol.specs.World.{World, Labelled, numbered}
-
--- a message that was sent, also by a node to itself
-pub record Post : Type 0 where
-  pub from : ℕ
-  pub to : ℕ
-  pub message : Message
-
--- What is seen of a world: all that was sent, the journal, the labels, and each node.
-pub record Seen : Type 0 where
-  pub sent : List Post
-  pub lines : List Line
-  pub labels : List (Label × Labelled)
-  pub nodes : ℕ → Option Node
+use Rattle.arj_promise.specs.Runs.{Post, Seen}
 
 -- the post is among these
 abbrev pub In : Post → List Post → Type 0
@@ -32,10 +20,6 @@ In p (q ∷ qs) = (q ≡ p) ⊎ In p qs
 -- all of these are among those
 abbrev pub Within : List Post → List Post → Type 0
 Within few many = (p : Post) → In p few → In p many
-
--- a world, with all that was sent
-abbrev pub see : List Post → World → Seen
-see sent w = record { sent = sent; lines = w.lines; labels = w.labels; nodes = λ m. at_place m w.nodes }
 
 -- a node in another state
 abbrev pub with_node : ℕ → Node → Seen → Seen

@@ -4,7 +4,8 @@ use Rattle.arj_protocol.specs.Words.{Body}
 use Rattle.arj_protocol.specs.Words.body
 use Rattle.arj_protocol.specs.Effect.{Disk, Work, Effect, Say, Send, Do, Stop, worked, stopped}
 use Rattle.arj_protocol.specs.Node.{Parts}
-use Rattle.arj_law_parts.specs.moves.Seen.{Seen, AreQuiet, down, up, said, posted}
+use Rattle.arj_law_parts.specs.moves.Seen.{AreQuiet, down, up, said, posted}
+use Rattle.arj_promise.specs.Runs.{Seen}
 
 -- the node has stopped
 abbrev pub halted : ℕ → ℕ → Disk → Seen → Seen

@@ -11,7 +11,7 @@ use Rattle.arj_protocol.specs.Words.frame
 use Rattle.arj_protocol.specs.Words.which
 use Rattle.arj_protocol.specs.World.{Asked, Frame, Giving, Labelled, World, frame_number, format, giving, is_node, kind_below, lacks_labels, most_frames, node_of, reasons, refused_at, run_event}
 use Rattle.arj_protocol.specs.Words.kind
-use Rattle.arj_law_parts.specs.moves.Moves.{Move, world_by}
+use Rattle.arj_promise.specs.Runs.{Move, world_by}
 
 -- the world has each node of its header at its number's place, and labels are of actions of these
 pub record IsWhole (w : World) : Type 0 where

@@ -17,7 +17,7 @@ use Rattle.arj_model.specs.Actions.{Act, acts, committed, is_committed, recovere
 use Rattle.arj_journal.specs.declared.header.Header.{Header}
 use Rattle.arj_protocol.specs.World.{World}
 use Rattle.arj_law_parts.specs.moves.Keeps.{Holds}
-use Rattle.arj_law_parts.specs.moves.Moves.{Move, world_by}
+use Rattle.arj_promise.specs.Runs.{Move, world_by}
 use Rattle.arj_law_parts.proofs.moves.Happens.{keeps_asked}
 use Rattle.arj_law_parts.proofs.moves.Moving.{moves_asked}
 use Rattle.arj_law_runs.specs.journal.Book.{book, is_decided, new_book}
@@ -25,7 +25,8 @@ use Rattle.arj_law_runs.specs.journal.Right.{AreRight}
 use Rattle.arj_law_runs.proofs.journal.Tops.{is_sound}
 use Rattle.arj_law_runs.specs.journal.Knows.{IsKept}
 use Rattle.arj_law_runs.proofs.journal.Runs.{lines_keep}
-use Rattle.arj_law_serial.specs.joint.Outcome.{ShowsOneOutcome, has_cause_to_abort, is_said, may_abort}
+use Rattle.arj_model.specs.Outcome.{has_cause_to_abort, is_said, may_abort}
+use Rattle.arj_promise.specs.Outcome.{ShowsOneOutcome}
 use Rattle.arj_law_serial.proofs.joint.Behind.{each_from, right_commits}
 use Rattle.arj_law_serial.proofs.joint.Called.{right_front}
 use Rattle.arj_law_promise.specs.settling.Outcomes.{AbortsNoneDecided, NamingAbortsNoneDecided, RunsShowOneOutcome, StoresAbortByCauses, StoresHaveCauses}

@@ -21,7 +21,8 @@ use Rattle.arj_law_parts.specs.parts.Messages.{AreOfTops}
 use Rattle.arj_law_parts.proofs.parts.Begun.{one_action}
 use Rattle.arj_law_parts.proofs.parts.TrueSteps.{top_in}
 use Rattle.arj_law_parts.proofs.parts.Keys.{at_in, put_other, put_same, without_cases, without_other}
-use Rattle.arj_law_parts.specs.moves.Seen.{Post, Seen, up}
+use Rattle.arj_law_parts.specs.moves.Seen.{up}
+use Rattle.arj_promise.specs.Runs.{Post, Seen}
 use Rattle.arj_law_parts.specs.moves.Walks.{Up, Walks, halted}
 use Rattle.arj_law_disk_view.specs.view.Sees.{is_awaited_by}
 use Rattle.arj_law_disk_view.proofs.view.Marks.{has_without}

@@ -40,7 +40,8 @@ use Rattle.arj_law_parts.proofs.parts.SaidIncs.{all_both, all_flat, all_map}
 use Rattle.arj_law_runs.specs.calls.Coords.{bare}
 use Rattle.arj_law_runs.proofs.calls.CoordSends.{AllSo, IsSentBy}
 use Rattle.arj_law_runs.proofs.calls.WorldSteps.{no_request}
-use Rattle.arj_law_parts.specs.moves.Seen.{In, Post}
+use Rattle.arj_law_parts.specs.moves.Seen.{In}
+use Rattle.arj_promise.specs.Runs.{Post}
 use Rattle.arj_law_disk_view.proofs.view.HeardWalks.{is_say}
 use Rattle.arj_law_disk_view.proofs.view.ConfirmWalks.{locks_say}
 use Rattle.arj_law_disk_view.proofs.view.ServedWalks.{bind_says, note_says}

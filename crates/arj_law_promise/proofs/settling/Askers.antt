@@ -15,7 +15,7 @@ use Rattle.arj_law_parts.specs.parts.Actions.{paths_of}
 use Rattle.arj_law_parts.specs.parts.Claims.{GoesOn, IsSettled}
 use Rattle.arj_law_parts.proofs.parts.Begun.{begun_tree, on_own}
 use Rattle.arj_law_parts.proofs.parts.TrueSteps.{claim_begins, well_acked, well_acts, well_again, well_heard}
-use Rattle.arj_law_parts.specs.moves.Seen.{Post}
+use Rattle.arj_promise.specs.Runs.{Post}
 use Rattle.arj_law_runs.proofs.calls.CoordSends.{IsSentBy, SendsSo}
 use Rattle.arj_law_lock_view.proofs.facts.CoordRuns.{IsKeptBy, Sender}
 use Rattle.arj_law_lock_view.proofs.facts.Kept.{Place}

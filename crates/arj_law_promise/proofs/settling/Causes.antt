@@ -30,7 +30,7 @@ use Rattle.arj_law_runs.proofs.journal.Ties.{named_label}
 use Rattle.arj_law_runs.proofs.journal.Tops.{is_sound}
 use Rattle.arj_law_serial.proofs.order.Order.{own}
 use Rattle.arj_law_serial.proofs.joint.Called.{right_front}
-use Rattle.arj_law_serial.specs.joint.Outcome.{has_halted_since, has_uid, is_commit_by, is_top_of, may_abort, was_committed_at, was_excluded}
+use Rattle.arj_model.specs.Outcome.{has_halted_since, has_uid, is_commit_by, is_top_of, may_abort, was_committed_at, was_excluded}
 use Rattle.arj_law_serial.proofs.joint.Behind.{any_in, both as and_both}
 
 -- ---- tests of lists

@@ -12,7 +12,8 @@ use Rattle.arj_protocol.specs.Order.{at_uid, has, without_number, without_uid}
 use Rattle.arj_protocol.specs.Tree.{branch_of}
 use Rattle.arj_law_parts.specs.parts.Objects.{AreSorted}
 use Rattle.arj_law_parts.proofs.parts.Keys.{without_cases, without_other}
-use Rattle.arj_law_parts.specs.moves.Seen.{Post, Seen, up}
+use Rattle.arj_law_parts.specs.moves.Seen.{up}
+use Rattle.arj_promise.specs.Runs.{Post, Seen}
 use Rattle.arj_law_parts.specs.moves.Walks.{Up, Walks, halted}
 use Rattle.arj_law_disk_view.specs.running.Records.{IsRecorded}
 use Rattle.arj_law_serial.specs.whole.Acks.{HasAcked, IsDemanded}

@@ -15,7 +15,8 @@ use Rattle.arj_protocol.specs.Node.{Parts}
 use Rattle.arj_protocol.specs.Step.{Node}
 use Rattle.arj_law_parts.specs.parts.Claims.{AreTrue, is_of_coord}
 use Rattle.arj_law_runs.proofs.calls.WorldSteps.{no_answer}
-use Rattle.arj_law_parts.specs.moves.Seen.{Post, Seen, is_quiet_line, up}
+use Rattle.arj_law_parts.specs.moves.Seen.{is_quiet_line, up}
+use Rattle.arj_promise.specs.Runs.{Post, Seen}
 use Rattle.arj_law_parts.specs.moves.Walks.{Up, Walks}
 use Rattle.arj_law_parts.proofs.moves.Together.{walks_both}
 use Rattle.arj_law_runs.specs.journal.Book.{book, is_decided}

@@ -17,7 +17,8 @@ use Rattle.arj_protocol.specs.Step.{Node}
 use Rattle.arj_protocol.specs.Tree.{Branch, branch_of, is_own, root_of}
 use Rattle.arj_law_parts.proofs.parts.GoodCoords.{doing_by}
 use Rattle.arj_law_parts.proofs.parts.Keys.{put_cases, put_other, put_same}
-use Rattle.arj_law_parts.specs.moves.Seen.{Post, Seen, up}
+use Rattle.arj_law_parts.specs.moves.Seen.{up}
+use Rattle.arj_promise.specs.Runs.{Post, Seen}
 use Rattle.arj_law_parts.specs.moves.Walks.{Up, Walks, halted}
 use Rattle.arj_law_runs.specs.journal.Book.{book, is_decided}
 use Rattle.arj_law_lock_view.specs.facts.Parted.{IsPart, IsSought, KnowsParts, asks_part}

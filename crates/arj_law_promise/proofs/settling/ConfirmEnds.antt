@@ -23,7 +23,8 @@ use Rattle.arj_protocol.specs.Step.{Node}
 use Rattle.arj_law_parts.specs.parts.Actions.{Action, act_of}
 use Rattle.arj_law_parts.specs.parts.Ends.{told_by}
 use Rattle.arj_law_runs.specs.kept.Worlds.{IsGoodOf}
-use Rattle.arj_law_parts.specs.moves.Seen.{In, Post, Seen, up}
+use Rattle.arj_law_parts.specs.moves.Seen.{In, up}
+use Rattle.arj_promise.specs.Runs.{Post, Seen}
 use Rattle.arj_law_parts.specs.moves.Walks.{Up, Walks}
 use Rattle.arj_law_parts.proofs.moves.Together.{walks_both, walks_to}
 use Rattle.arj_law_disk_view.specs.running.Places.{AreEntryRows, AreNamesRows, IsEntryRow}

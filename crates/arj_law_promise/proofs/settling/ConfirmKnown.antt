@@ -18,7 +18,8 @@ use Rattle.arj_law_parts.specs.parts.Actions.{Action}
 use Rattle.arj_law_parts.specs.parts.Ends.{told_by}
 use Rattle.arj_law_parts.proofs.parts.Keys.{at_in, in_at}
 use Rattle.arj_law_runs.specs.kept.Worlds.{IsGoodOf, IsMemory, IsUp}
-use Rattle.arj_law_parts.specs.moves.Seen.{In, Post, Seen}
+use Rattle.arj_law_parts.specs.moves.Seen.{In}
+use Rattle.arj_promise.specs.Runs.{Post, Seen}
 use Rattle.arj_law_disk_view.specs.view.Pairs.{AreSorted}
 use Rattle.arj_law_disk_view.specs.running.Records.{AreRecorded}
 use Rattle.arj_law_runs.proofs.journal.Paths.{IsPathedOf}

@@ -21,7 +21,8 @@ use Rattle.arj_law_parts.proofs.parts.CoordInputs.{named_found, off}
 use Rattle.arj_law_parts.proofs.parts.GoodTrees.{found_by}
 use Rattle.arj_law_parts.proofs.parts.TrueSteps.{well_again}
 use Rattle.arj_law_parts.specs.moves.Keeps.{is_act}
-use Rattle.arj_law_parts.specs.moves.Seen.{In, Seen, up}
+use Rattle.arj_law_parts.specs.moves.Seen.{In, up}
+use Rattle.arj_promise.specs.Runs.{Seen}
 use Rattle.arj_law_parts.specs.moves.Walks.{Up, Walks}
 use Rattle.arj_law_lock_view.specs.facts.Parted.{IsPart, KnowsParts}
 use Rattle.arj_law_lock_view.proofs.facts.PartSends.{AllSeek, acts_seeks, again_seeks, heard_seeks, seek_both}

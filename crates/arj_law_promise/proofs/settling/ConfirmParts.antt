@@ -14,7 +14,8 @@ use Rattle.arj_protocol.specs.Node.{Parts}
 use Rattle.arj_protocol.specs.Order.{at_uid, has}
 use Rattle.arj_protocol.specs.Step.{Node}
 use Rattle.arj_protocol.specs.Tree.{branch_of, is_open}
-use Rattle.arj_law_parts.specs.moves.Seen.{Post, Seen, at, is_quiet_line, up}
+use Rattle.arj_law_parts.specs.moves.Seen.{at, is_quiet_line, up}
+use Rattle.arj_promise.specs.Runs.{Post, Seen}
 use Rattle.arj_law_parts.specs.moves.Walks.{Up, Walks, halted}
 use Rattle.arj_law_runs.specs.journal.Book.{book, is_decided}
 use Rattle.arj_law_lock_view.specs.facts.Parted.{asks_part}

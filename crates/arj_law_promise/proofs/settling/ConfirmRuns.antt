@@ -16,8 +16,9 @@ use Rattle.arj_protocol.specs.World as world
 use Rattle.arj_protocol.specs.World.{format, is_serial_kind, numbered}
 use Rattle.arj_law_parts.specs.parts.Actions.{Action}
 use Rattle.arj_law_parts.specs.moves.Keeps.{Holds, Keeps}
-use Rattle.arj_law_parts.specs.moves.Moves.{Move, world_by}
-use Rattle.arj_law_parts.specs.moves.Seen.{AreQuiet, In, Seen, given, is_quiet_line, said, see, up}
+use Rattle.arj_promise.specs.Runs.{Move, world_by}
+use Rattle.arj_law_parts.specs.moves.Seen.{AreQuiet, In, given, is_quiet_line, said, up}
+use Rattle.arj_promise.specs.Runs.{Seen, see}
 use Rattle.arj_law_parts.specs.moves.Walks.{Up, Walks}
 use Rattle.arj_law_parts.proofs.moves.Happens.{keeps_asked}
 use Rattle.arj_law_parts.proofs.moves.Moving.{moves_asked}

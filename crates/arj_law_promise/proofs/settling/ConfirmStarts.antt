@@ -17,7 +17,8 @@ use Rattle.arj_protocol.specs.Step.{naming_at, naming_back, parts_in, recovered_
 use Rattle.arj_law_parts.specs.parts.Objects.{AreSorted}
 use Rattle.arj_law_parts.proofs.parts.Keys.{in_at}
 use Rattle.arj_law_parts.proofs.parts.SaidIncs.{all_both, all_flat, all_map}
-use Rattle.arj_law_parts.specs.moves.Seen.{Post, Seen, down}
+use Rattle.arj_law_parts.specs.moves.Seen.{down}
+use Rattle.arj_promise.specs.Runs.{Post, Seen}
 use Rattle.arj_law_parts.specs.moves.Walks.{Up, Walks}
 use Rattle.arj_law_disk_view.specs.running.Records.{IsRecorded}
 use Rattle.arj_law_runs.specs.journal.Book.{book, is_decided}

@@ -8,7 +8,8 @@ use Rattle.arj_protocol.specs.Effect.{Disk, is_prepared}
 use Rattle.arj_protocol.specs.Node.{Parts}
 use Rattle.arj_protocol.specs.Order.{at_uid}
 use Rattle.arj_protocol.specs.Step.{Node}
-use Rattle.arj_law_parts.specs.moves.Seen.{Post, Seen, at}
+use Rattle.arj_law_parts.specs.moves.Seen.{at}
+use Rattle.arj_promise.specs.Runs.{Post, Seen}
 use Rattle.arj_law_runs.specs.journal.Book.{book, is_decided}
 use Rattle.arj_law_lock_view.specs.facts.Parted.{asks_part}
 use Rattle.arj_law_serial.specs.whole.Acks.{HasAcked, WasRecorded, acked_in, records_in}

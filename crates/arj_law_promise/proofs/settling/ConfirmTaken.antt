@@ -22,7 +22,8 @@ use Rattle.arj_protocol.proofs.Messages.{response_reads_back}
 use Rattle.arj_law_runs.proofs.calls.WorldSteps.{no_request}
 use Rattle.arj_law_parts.proofs.parts.Begun.{path_length}
 use Rattle.arj_law_parts.proofs.parts.SaidIncs.{all_both}
-use Rattle.arj_law_parts.specs.moves.Seen.{In, Post, Seen, up}
+use Rattle.arj_law_parts.specs.moves.Seen.{In, up}
+use Rattle.arj_promise.specs.Runs.{Post, Seen}
 use Rattle.arj_law_parts.specs.moves.Walks.{Up, Walks}
 use Rattle.arj_law_lock_view.specs.facts.Parted.{asks_part}
 use Rattle.arj_law_serial.specs.whole.Acks.{HasAcked, acked_in}

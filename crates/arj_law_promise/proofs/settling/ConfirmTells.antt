@@ -19,7 +19,8 @@ use Rattle.arj_protocol.specs.Order.{at_uid}
 use Rattle.arj_protocol.specs.Says.{AreAll, is_server_effect}
 use Rattle.arj_law_parts.specs.parts.Ends.{told_by}
 use Rattle.arj_law_parts.proofs.parts.Keys.{on_drop, with_on}
-use Rattle.arj_law_parts.specs.moves.Seen.{In, Post, Seen, posted, said, up}
+use Rattle.arj_law_parts.specs.moves.Seen.{In, posted, said, up}
+use Rattle.arj_promise.specs.Runs.{Post, Seen}
 use Rattle.arj_law_parts.specs.moves.Walks.{Up, Walks}
 use Rattle.arj_law_disk_view.specs.view.Pairs.{AreSorted}
 use Rattle.arj_law_disk_view.proofs.view.Keys as keys

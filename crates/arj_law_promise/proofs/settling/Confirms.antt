@@ -15,7 +15,8 @@ use Rattle.arj_protocol.specs.Effect.{Intent, is_prepared}
 use Rattle.arj_protocol.specs.Naming.{Naming}
 use Rattle.arj_protocol.specs.Node.{Parts}
 use Rattle.arj_protocol.specs.Step.{Node}
-use Rattle.arj_law_parts.specs.moves.Seen.{In, Post, Seen}
+use Rattle.arj_law_parts.specs.moves.Seen.{In}
+use Rattle.arj_promise.specs.Runs.{Post, Seen}
 use Rattle.arj_law_runs.specs.journal.Book.{book, is_decided}
 use Rattle.arj_law_serial.specs.whole.Aborts.{IsPartAsked}
 use Rattle.arj_law_serial.specs.whole.Acks.{HasAcked, IsDemanded, WasRecorded, record_in, records_in}

@@ -16,11 +16,12 @@ use Rattle.arj_protocol.specs.Order.{at_uid, has}
 use Rattle.arj_protocol.specs.Step.{Node}
 use Rattle.arj_law_parts.specs.parts.Coords.{IsCommitting}
 use Rattle.arj_law_parts.specs.parts.Ends.{told_by}
-use Rattle.arj_law_parts.specs.moves.Seen.{In, Post, Seen}
+use Rattle.arj_law_parts.specs.moves.Seen.{In}
+use Rattle.arj_promise.specs.Runs.{Post, Seen}
 use Rattle.arj_law_disk_view.specs.view.Sees.{is_awaited_by}
 use Rattle.arj_law_runs.specs.journal.Book.{book, is_decided}
 use Rattle.arj_law_lock_view.proofs.facts.CommitCoords.{AreAt}
-use Rattle.arj_law_serial.specs.joint.Outcome.{was_excluded}
+use Rattle.arj_model.specs.Outcome.{was_excluded}
 use Rattle.arj_law_promise.proofs.settling.Causes.{HasCause, cause_more, excluded_more}
 use Rattle.arj_law_promise.proofs.settling.Yeses.{AskedFrom, IsMarked, SaidYes, Votes}
 

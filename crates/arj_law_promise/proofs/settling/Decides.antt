@@ -25,13 +25,14 @@ use Rattle.arj_law_parts.proofs.parts.GoodCoords.{actor_is}
 use Rattle.arj_law_parts.proofs.parts.Keys.{put_cases, put_other, put_same}
 use Rattle.arj_law_parts.proofs.parts.Tellings.{doing_telling, ended_telling}
 use Rattle.arj_law_runs.specs.kept.Worlds.{IsGoodOf}
-use Rattle.arj_law_parts.specs.moves.Seen.{Post, Seen, up}
+use Rattle.arj_law_parts.specs.moves.Seen.{up}
+use Rattle.arj_promise.specs.Runs.{Post, Seen}
 use Rattle.arj_law_parts.specs.moves.Walks.{Up, Walks, halted}
 use Rattle.arj_law_disk_view.specs.view.Sees.{is_awaited_by}
 use Rattle.arj_law_disk_view.proofs.view.Planned.{has_both, has_set}
 use Rattle.arj_law_runs.specs.journal.Book.{book, is_decided, uid_in}
 use Rattle.arj_law_runs.specs.journal.Knows.{IsKnown}
-use Rattle.arj_law_serial.specs.joint.Outcome.{was_excluded}
+use Rattle.arj_model.specs.Outcome.{was_excluded}
 use Rattle.arj_law_promise.proofs.settling.Causes.{excluded_more}
 use Rattle.arj_law_serial.proofs.joint.Comes.{IsAt, came_decide}
 use Rattle.arj_law_promise.proofs.settling.Cores.{HasMarks, IsAcked, IsAsked, IsCore, IsDone, IsHeld, IsSafe, IsWatched, TellsAbort, WasTold, marks_on}

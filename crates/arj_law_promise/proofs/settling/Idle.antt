@@ -8,17 +8,19 @@ use Rattle.arj_protocol.specs.Step.{Node, first_reason, is_idle}
 use Rattle.arj_protocol.specs.World.{Asked, World, counted, is_quiet, limited, node_numbers, numbered, quiesce, quiet_line, reasons, run_event, run_unless, says, settle, tick_all}
 use Rattle.arj_law_runs.specs.kept.Worlds.{IsGood}
 use Rattle.arj_law_parts.specs.moves.Keeps.{Holds, KeepsAsked}
-use Rattle.arj_law_parts.specs.moves.Moves.{Move, all_moved, moved, world_by}
-use Rattle.arj_law_parts.specs.moves.Seen.{Seen}
+use Rattle.arj_promise.specs.Runs.{Move, all_moved, moved, world_by}
+use Rattle.arj_promise.specs.Runs.{Seen}
 use Rattle.arj_law_parts.proofs.moves.Moving.{move_asked, moves_asked, moves_go_on}
 use Rattle.arj_law_runs.specs.addresses.Addresses.{AreAddressed, IsNode}
 use Rattle.arj_law_runs.proofs.addresses.Runs.{kept}
-use Rattle.arj_law_runs.specs.resting.Quiet.{AreQuiet, SettlesAll}
+use Rattle.arj_law_runs.specs.resting.Quiet.{SettlesAll}
+use Rattle.arj_promise.specs.Resting.{AreQuiet}
 use Rattle.arj_law_runs.proofs.resting.Fits.{runs_few}
 use Rattle.arj_law_runs.proofs.resting.GiveUps.{over_before, over_front, round_settles}
 use Rattle.arj_law_runs.proofs.resting.Quiesces.{asked_both, keeps_good}
 use Rattle.arj_law_runs.proofs.resting.Quiets.{move_settles}
-use Rattle.arj_law_promise.specs.settling.Settled.{EndsQuiet, KnowsPrepared, QuiescesIdle, RoundsIdle}
+use Rattle.arj_law_promise.specs.settling.Settled.{KnowsPrepared, QuiescesIdle, RoundsIdle}
+use Rattle.arj_promise.specs.Resting.{EndsQuiet}
 use Rattle.arj_law_promise.proofs.settling.Settled.{handlers_settle}
 use Rattle.arj_law_promise.proofs.settling.Waiting.{AllKnown, all_answer, all_kept}
 use Rattle.std.specs.Prelude.{◌&&◌, nat_le, slice_get}

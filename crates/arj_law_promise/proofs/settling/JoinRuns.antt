@@ -26,7 +26,8 @@ use Rattle.arj_law_parts.proofs.parts.Begun.{begun_tree}
 use Rattle.arj_law_parts.proofs.parts.CoordInputs.{named_found, off}
 use Rattle.arj_law_parts.proofs.parts.GoodTrees.{found_by}
 use Rattle.arj_law_parts.specs.moves.Keeps.{Keeps}
-use Rattle.arj_law_parts.specs.moves.Seen.{In, Post, Seen}
+use Rattle.arj_law_parts.specs.moves.Seen.{In}
+use Rattle.arj_promise.specs.Runs.{Post, Seen}
 use Rattle.arj_law_runs.proofs.calls.CoordSends.{IsSentBy, SendsSo}
 use Rattle.arj_law_disk_view.specs.running.States.{CoordIsSo, Fits, MayKeep, NowIsSo, ReplyIsSo}
 use Rattle.arj_law_disk_view.proofs.running.StateCoords as states

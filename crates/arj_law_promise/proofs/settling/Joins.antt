@@ -17,7 +17,8 @@ use Rattle.arj_protocol.specs.Commit.{CommitStep, Confirming, Machine, Plan, Pre
 use Rattle.arj_protocol.specs.Confirm.{Grants, Marks}
 use Rattle.arj_protocol.specs.Coord.{Coord, Root, plan_for}
 use Rattle.arj_protocol.specs.Order.{has, with_number, without_number}
-use Rattle.arj_law_parts.specs.moves.Seen.{In, Post}
+use Rattle.arj_law_parts.specs.moves.Seen.{In}
+use Rattle.arj_promise.specs.Runs.{Post}
 use Rattle.arj_law_disk_view.specs.running.States.{OwnOf, Fits, PlanIsSo}
 use Rattle.arj_law_disk_view.proofs.view.Planned.{has_set, has_with}
 use Rattle.arj_law_lock_view.proofs.facts.CommitCoords.{IsNext}

@@ -25,7 +25,7 @@ use Rattle.arj_law_parts.proofs.parts.GoodTrees.{found_by}
 use Rattle.arj_law_parts.proofs.parts.Keys.{at_in}
 use Rattle.arj_law_parts.proofs.parts.TrueSteps.{work_there}
 use Rattle.arj_law_runs.specs.kept.Worlds.{AreCommittedIn, IsGood, IsGoodOf, IsGoodPlace, IsMemory, IsUp}
-use Rattle.arj_law_parts.specs.moves.Seen.{Seen}
+use Rattle.arj_promise.specs.Runs.{Seen}
 use Rattle.arj_law_runs.specs.addresses.Binds.{BindsAreKnown}
 use Rattle.arj_law_disk_view.proofs.view.TopFrames.{branch_at}
 use Rattle.arj_law_runs.specs.journal.Book.{book, is_decided, is_over}

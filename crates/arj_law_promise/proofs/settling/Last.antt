@@ -7,7 +7,7 @@ use Rattle.arj_base.specs.Uid.{entry, object}
 use Rattle.arj_disk.specs.Says.{names}
 use Rattle.arj_disk.specs.declared.slot.Role.{Role}
 use Rattle.arj_disk.specs.declared.slot.Role.TheVariants.{Names, Store}
-use Rattle.arj_law_serial.specs.joint.Shown.{IsReadingOf, record_of}
+use Rattle.arj_promise.specs.Disks.{IsReadingOf, record_of}
 use Rattle.arj_model.specs.Disks.{InDoubt, Reading}
 use Rattle.arj_protocol.specs.Node.{Parts}
 use Rattle.arj_protocol.specs.Order.{at_uid}
@@ -15,7 +15,8 @@ use Rattle.arj_protocol.specs.Step.{Node, has_none, is_idle, is_idle_with, is_se
 use Rattle.arj_protocol.specs.Tree.{at_place}
 use Rattle.arj_protocol.specs.Words.{Header, Uid}
 use Rattle.arj_store.specs.Pair.{packed}
-use Rattle.arj_law_promise.specs.settling.Last.{HasNothingLeft, IdleDisksHoldTheLast}
+use Rattle.arj_law_promise.specs.settling.Last.{IdleDisksHoldTheLast}
+use Rattle.arj_promise.specs.Resting.{HasNothingLeft}
 
 -- nothing is prepared on the disk of an idle node, and it has no record
 idle_free : (a : Node) → is_idle a ≡ true → (has_none (let d = a.disk in let p = d.store in p.pend) ≡ true) × (has_none (let d = a.disk in let p = d.names in p.pend) ≡ true) × (has_none (let d = a.disk in d.intents) ≡ true)

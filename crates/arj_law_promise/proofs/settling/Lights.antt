@@ -16,7 +16,8 @@ use Rattle.arj_protocol.specs.Order.{at_uid}
 use Rattle.arj_law_parts.specs.parts.Ends.{told_by}
 use Rattle.arj_law_parts.specs.parts.Coords.{IsCommitting}
 use Rattle.arj_law_parts.specs.moves.Walks.{halted}
-use Rattle.arj_law_parts.specs.moves.Seen.{Post, Seen, at, is_quiet_line}
+use Rattle.arj_law_parts.specs.moves.Seen.{at, is_quiet_line}
+use Rattle.arj_promise.specs.Runs.{Post, Seen}
 use Rattle.arj_law_runs.specs.journal.Book.{Book, book, book_from, is_decided, new_book, turned}
 use Rattle.arj_law_runs.proofs.journal.Books.{book_more}
 use Rattle.arj_law_promise.proofs.settling.Causes.{HasCause}

@@ -41,7 +41,8 @@ use Rattle.arj_law_runs.specs.kept.Worlds.{IsGoodOf, IsUp}
 use Rattle.arj_law_runs.proofs.kept.Handled.{good_coord, it}
 use Rattle.arj_law_runs.proofs.kept.Walked.{same_number}
 use Rattle.arj_law_parts.specs.moves.Keeps.{Keeps, is_act}
-use Rattle.arj_law_parts.specs.moves.Seen.{In, Post, Seen, at, down, given, said, see, up}
+use Rattle.arj_law_parts.specs.moves.Seen.{In, at, down, given, said, up}
+use Rattle.arj_promise.specs.Runs.{Post, Seen, see}
 use Rattle.arj_law_parts.specs.moves.Walks.{Up, Walks, halted}
 use Rattle.arj_law_parts.proofs.moves.Together.{walks_to}
 use Rattle.arj_law_runs.specs.addresses.Binds.{BindsAreKnown}

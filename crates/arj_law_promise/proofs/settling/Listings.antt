@@ -27,7 +27,7 @@ use Rattle.arj_law_runs.proofs.addresses.Lists.{some_is}
 use Rattle.arj_law_disk_view.proofs.running.Lists.{all_each}
 use Rattle.arj_law_lock_view.proofs.facts.Asked.{waiting_acked, waiting_acts, waiting_again, waiting_begins, waiting_heard, waiting_new}
 use Rattle.arj_law_lock_view.proofs.facts.Kept.{Place}
-use Rattle.arj_law_parts.specs.moves.Seen.{Post}
+use Rattle.arj_promise.specs.Runs.{Post}
 use Rattle.arj_law_promise.specs.waiting.Asked.{IsAnsweredBy}
 use Rattle.arj_law_promise.proofs.waiting.Stepping.{IsOn, bound_so, inc_so}
 

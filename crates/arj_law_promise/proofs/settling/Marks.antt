@@ -23,7 +23,7 @@ use Rattle.arj_law_runs.specs.journal.Right.{AreRight, Right}
 use Rattle.arj_law_runs.proofs.journal.Books.{book_more, still_named}
 use Rattle.arj_law_runs.proofs.journal.Tops.{is_sound}
 use Rattle.arj_law_serial.proofs.joint.Called.{right_front}
-use Rattle.arj_law_serial.specs.joint.Outcome.{was_excluded}
+use Rattle.arj_model.specs.Outcome.{was_excluded}
 use Rattle.arj_law_lock_view.proofs.facts.CommitCoords.{IsNext}
 use Rattle.arj_law_promise.proofs.settling.Causes.{excluded_more, excluded_said}
 use Rattle.arj_law_promise.proofs.settling.Cores.{HasMarks}

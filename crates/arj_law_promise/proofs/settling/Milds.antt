@@ -15,7 +15,8 @@ use Rattle.arj_protocol.specs.Order.{at_uid, has}
 use Rattle.arj_protocol.specs.Step.{Node}
 use Rattle.arj_law_parts.specs.parts.Coords.{IsCommitting}
 use Rattle.arj_law_parts.specs.parts.Ends.{told_by}
-use Rattle.arj_law_parts.specs.moves.Seen.{In, Post, Seen, at}
+use Rattle.arj_law_parts.specs.moves.Seen.{In, at}
+use Rattle.arj_promise.specs.Runs.{Post, Seen}
 use Rattle.arj_law_disk_view.specs.view.Sees.{is_awaited_by}
 use Rattle.arj_law_runs.proofs.kept.Walked.{same_number}
 use Rattle.arj_law_runs.specs.journal.Book.{book, is_decided}

@@ -33,12 +33,13 @@ use Rattle.arj_law_parts.proofs.parts.Tellings.{asks_telling}
 use Rattle.arj_law_parts.proofs.parts.TrueSteps.{well_acts, well_again, well_heard}
 use Rattle.arj_law_runs.specs.kept.Worlds.{IsGoodOf}
 use Rattle.arj_law_parts.specs.moves.Keeps.{is_act}
-use Rattle.arj_law_parts.specs.moves.Seen.{In, Seen, up}
+use Rattle.arj_law_parts.specs.moves.Seen.{In, up}
+use Rattle.arj_promise.specs.Runs.{Seen}
 use Rattle.arj_law_parts.specs.moves.Walks.{Up, Walks}
 use Rattle.arj_law_runs.specs.journal.Book.{book, is_top, new_book}
 use Rattle.arj_law_runs.specs.journal.Knows.{IsKnown}
 use Rattle.arj_law_runs.specs.journal.Right.{AreRight}
-use Rattle.arj_law_serial.specs.joint.Outcome.{was_excluded}
+use Rattle.arj_model.specs.Outcome.{was_excluded}
 use Rattle.arj_law_lock_view.proofs.facts.CommitCoords.{AreAt, IsNext, at_again, at_heard}
 use Rattle.arj_law_serial.proofs.joint.Comes.{came_acts, waits_not}
 use Rattle.arj_law_promise.proofs.settling.Calms.{AllCalm, Decided, Goes, IsYes, Still, acts_goes, again_calm, calm_both, calm_tells, heard_goes}

@@ -25,7 +25,8 @@ use Rattle.arj_law_parts.proofs.parts.Keys.{put_other, put_same, without_other}
 use Rattle.arj_law_runs.proofs.calls.WorldSteps.{no_request}
 use Rattle.arj_law_disk_view.specs.running.Places.{AsksBegun}
 use Rattle.arj_law_serial.specs.past.Told.{EndsArePast}
-use Rattle.arj_law_parts.specs.moves.Seen.{In, Post, Seen, at, said, up}
+use Rattle.arj_law_parts.specs.moves.Seen.{In, at, said, up}
+use Rattle.arj_promise.specs.Runs.{Post, Seen}
 use Rattle.arj_law_parts.specs.moves.Walks.{Up, Walks, halted}
 use Rattle.arj_law_runs.specs.journal.Book.{book, is_decided, new_book}
 use Rattle.arj_law_runs.specs.journal.Right.{AreRight}

@@ -27,8 +27,9 @@ use Rattle.arj_law_parts.proofs.parts.Keys.{at_in, in_at}
 use Rattle.arj_law_runs.specs.kept.Worlds.{IsGood}
 use Rattle.arj_law_runs.specs.addresses.Binds.{BindsAreKnown}
 use Rattle.arj_law_parts.specs.moves.Keeps.{Holds, Keeps}
-use Rattle.arj_law_parts.specs.moves.Moves.{Move, world_by}
-use Rattle.arj_law_parts.specs.moves.Seen.{AreQuiet, In, Post, Seen, down, given, is_quiet_line, said, see, up}
+use Rattle.arj_promise.specs.Runs.{Move, world_by}
+use Rattle.arj_law_parts.specs.moves.Seen.{AreQuiet, In, down, given, is_quiet_line, said, up}
+use Rattle.arj_promise.specs.Runs.{Post, Seen, see}
 use Rattle.arj_law_parts.specs.moves.Walks.{Up, Walks}
 use Rattle.arj_law_parts.proofs.moves.Happens.{keeps_asked}
 use Rattle.arj_law_parts.proofs.moves.Moving.{moves_asked}

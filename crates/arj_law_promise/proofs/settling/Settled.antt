@@ -25,7 +25,8 @@ use Rattle.arj_law_parts.proofs.parts.Begun.{one_action, serial_alone, where_sta
 use Rattle.arj_law_parts.proofs.parts.Keys.{in_at, order_exact}
 use Rattle.arj_law_runs.specs.kept.Worlds.{IsGood, IsGoodOf}
 use Rattle.arj_law_runs.proofs.kept.Walked.{same_number}
-use Rattle.arj_law_parts.specs.moves.Seen.{In, Post, Seen, up}
+use Rattle.arj_law_parts.specs.moves.Seen.{In, up}
+use Rattle.arj_promise.specs.Runs.{Post, Seen}
 use Rattle.arj_law_parts.proofs.moves.Happens.{keeps_asked}
 use Rattle.arj_law_runs.specs.addresses.Addresses.{AreAddressed}
 use Rattle.arj_law_runs.specs.addresses.Binds.{BindsAreKnown}

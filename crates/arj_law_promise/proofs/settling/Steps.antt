@@ -5,7 +5,8 @@ use Rattle.arj_protocol.specs.Words.{Body}
 use Rattle.arj_protocol.specs.Words.body
 use Rattle.arj_protocol.specs.Effect.{Disk, Effect}
 use Rattle.arj_protocol.specs.Node.{Parts}
-use Rattle.arj_law_parts.specs.moves.Seen.{Post, Seen, is_quiet_line, up}
+use Rattle.arj_law_parts.specs.moves.Seen.{is_quiet_line, up}
+use Rattle.arj_promise.specs.Runs.{Post, Seen}
 use Rattle.arj_law_parts.specs.moves.Walks.{Up, Walks, halted}
 use Rattle.arj_law_parts.proofs.moves.Together.{walks_both, walks_to}
 use Rattle.arj_law_promise.proofs.settling.Trails.{Down, FitsSo, UpBy, Went, halt_went, went}

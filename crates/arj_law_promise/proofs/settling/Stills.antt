@@ -23,7 +23,8 @@ use Rattle.arj_law_parts.specs.parts.Claims.{is_of_coord}
 use Rattle.arj_law_parts.specs.parts.Coords.{IsCommitting}
 use Rattle.arj_law_parts.specs.parts.Ends.{told_by}
 use Rattle.arj_law_parts.specs.parts.Messages.{IsDecided}
-use Rattle.arj_law_parts.specs.moves.Seen.{Post, Seen, at, posted, said, up}
+use Rattle.arj_law_parts.specs.moves.Seen.{at, posted, said, up}
+use Rattle.arj_promise.specs.Runs.{Post, Seen}
 use Rattle.arj_law_parts.specs.moves.Walks.{Up, Walks}
 use Rattle.arj_law_parts.proofs.moves.Together.{walks_both}
 use Rattle.arj_law_runs.proofs.calls.WorldSteps.{no_answer}

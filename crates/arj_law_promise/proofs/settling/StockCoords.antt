@@ -27,7 +27,8 @@ use Rattle.arj_law_parts.proofs.parts.TrueSteps.{well_again}
 use Rattle.arj_law_runs.proofs.calls.CoordOuts.{acts_so, again_so, heard_so, tolds_so}
 use Rattle.arj_law_runs.proofs.calls.CoordSends.{AllSo, so_both}
 use Rattle.arj_law_parts.specs.moves.Keeps.{is_act}
-use Rattle.arj_law_parts.specs.moves.Seen.{In, Post, Seen, at, up}
+use Rattle.arj_law_parts.specs.moves.Seen.{In, at, up}
+use Rattle.arj_promise.specs.Runs.{Post, Seen}
 use Rattle.arj_law_parts.specs.moves.Walks.{Up, Walks, halted}
 use Rattle.arj_law_runs.specs.journal.Book.{book, is_decided}
 use Rattle.arj_law_promise.proofs.settling.Acks as acks

@@ -24,7 +24,8 @@ use Rattle.arj_law_parts.specs.parts.Ends.{told_by}
 use Rattle.arj_law_parts.specs.parts.Objects as objects
 use Rattle.arj_law_parts.proofs.parts.Keys.{put_cases, put_other, put_same, without_cases, without_other}
 use Rattle.arj_law_runs.proofs.calls.WorldSteps.{no_request}
-use Rattle.arj_law_parts.specs.moves.Seen.{In, Post, Seen, is_quiet_line, up}
+use Rattle.arj_law_parts.specs.moves.Seen.{In, is_quiet_line, up}
+use Rattle.arj_promise.specs.Runs.{Post, Seen}
 use Rattle.arj_law_parts.specs.moves.Walks.{Up, Walks, halted}
 use Rattle.arj_law_runs.specs.journal.Book.{book, is_decided}
 use Rattle.arj_law_promise.specs.settling.Prepared.{IsAskedNode, PreparedWereAsked}

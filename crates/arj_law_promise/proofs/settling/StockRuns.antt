@@ -15,7 +15,8 @@ use Rattle.arj_protocol.specs.Order.{at_uid, has}
 use Rattle.arj_protocol.specs.Step.{Node, parent_of, parts_in, restart_outs}
 use Rattle.arj_protocol.specs.World.{Labelled, format, is_serial_kind, numbered}
 use Rattle.arj_law_parts.specs.moves.Keeps.{Keeps}
-use Rattle.arj_law_parts.specs.moves.Seen.{AreQuiet, In, Post, Seen, down, given, is_quiet_line, said, see, up}
+use Rattle.arj_law_parts.specs.moves.Seen.{AreQuiet, In, down, given, is_quiet_line, said, up}
+use Rattle.arj_promise.specs.Runs.{Post, Seen, see}
 use Rattle.arj_law_parts.specs.moves.Walks.{Up, Walks}
 use Rattle.arj_law_runs.proofs.addresses.Lists.{all_at_uid, some_is}
 use Rattle.arj_law_runs.proofs.calls.Given.{KeepsGiven, keeps_given, kept_both}

@@ -12,7 +12,8 @@ use Rattle.arj_protocol.specs.Effect.{Disk, Effect, held_at, is_prepared}
 use Rattle.arj_protocol.specs.Node.{Parts}
 use Rattle.arj_protocol.specs.Order.{at_uid}
 use Rattle.arj_protocol.specs.Step.{Node}
-use Rattle.arj_law_parts.specs.moves.Seen.{Post, Seen, at, is_quiet_line, up}
+use Rattle.arj_law_parts.specs.moves.Seen.{at, is_quiet_line, up}
+use Rattle.arj_promise.specs.Runs.{Post, Seen}
 use Rattle.arj_law_parts.specs.moves.Walks.{Up, Walks, halted}
 use Rattle.arj_law_parts.proofs.moves.Together.{walks_both, walks_to}
 use Rattle.arj_law_promise.proofs.settling.Cores.{IsAcked, IsDone, IsHeld, Lists}

@@ -19,7 +19,8 @@ use Rattle.arj_law_runs.proofs.addresses.Lists.{all_at_uid, some_is}
 use Rattle.arj_law_disk_view.specs.running.States.{Own}
 use Rattle.arj_law_disk_view.proofs.running.Lists.{all_each}
 use Rattle.arj_law_serial.specs.joint.Forms.{kind_of, stored}
-use Rattle.arj_law_parts.specs.moves.Seen.{Seen, up}
+use Rattle.arj_law_parts.specs.moves.Seen.{up}
+use Rattle.arj_promise.specs.Runs.{Seen}
 use Rattle.arj_law_promise.specs.waiting.Waits.{HasStored, LoadsFind}
 use Rattle.arj_law_promise.proofs.waiting.Gives.{IsAt, at_of}
 use Rattle.arj_law_promise.proofs.settling.Joins.{PreparedFrom, names_number}

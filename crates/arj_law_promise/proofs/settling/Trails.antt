@@ -15,7 +15,8 @@ use Rattle.arj_protocol.specs.Words.role
 use Rattle.arj_protocol.specs.Effect.{Disk, Do, Effect, Say, Send, stopped, worked, After, Stop}
 use Rattle.arj_protocol.specs.Node.{Parts}
 use Rattle.arj_protocol.specs.World.{numbered}
-use Rattle.arj_law_parts.specs.moves.Seen.{AreQuiet, In, Post, Seen, at, is_quiet_line, posted, said, up}
+use Rattle.arj_law_parts.specs.moves.Seen.{AreQuiet, In, at, is_quiet_line, posted, said, up}
+use Rattle.arj_promise.specs.Runs.{Post, Seen}
 use Rattle.arj_law_parts.specs.moves.Walks.{Walks, halted}
 use Rattle.arj_law_parts.proofs.moves.Together.{walks_to}
 use Rattle.arj_law_runs.proofs.kept.Walked.{same_number}

@@ -10,7 +10,7 @@ use Rattle.arj_law_parts.specs.parts.Actions.{Action, act_of}
 use Rattle.arj_protocol.specs.Words.{Body, Line, Uid, name}
 use Rattle.arj_protocol.specs.Words.body
 use Rattle.arj_protocol.specs.Words.kind
-use Rattle.arj_law_parts.specs.moves.Seen.{Seen}
+use Rattle.arj_promise.specs.Runs.{Seen}
 use Rattle.arj_law_runs.specs.journal.Book.{Book, book, book_from, is_decided, is_top, new_book, turned}
 use Rattle.arj_law_runs.specs.journal.Paths.{AreAlike, IsAlikeOf}
 use Rattle.arj_law_runs.specs.journal.Right.{AreRight, Right}

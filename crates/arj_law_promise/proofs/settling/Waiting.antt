@@ -10,13 +10,13 @@ use Rattle.arj_law_parts.specs.parts.Requests.{IsNumbered}
 use Rattle.arj_law_runs.proofs.kept.AllRuns.{all_keep}
 use Rattle.arj_law_runs.specs.kept.Worlds.{IsGood}
 use Rattle.arj_law_parts.specs.moves.Keeps.{Holds, KeepsAsked}
-use Rattle.arj_law_parts.specs.moves.Moves.{moved, world_by}
-use Rattle.arj_law_parts.specs.moves.Seen.{Seen, see}
+use Rattle.arj_promise.specs.Runs.{moved, world_by}
+use Rattle.arj_promise.specs.Runs.{Seen, see}
 use Rattle.arj_law_parts.proofs.moves.Happens.{keeps_asked}
 use Rattle.arj_law_parts.proofs.moves.Moving.{move_asked, moves_asked}
-use Rattle.arj_law_runs.specs.resting.Answered.{StillWaits}
+use Rattle.arj_promise.specs.Waiting.{StillWaits}
 use Rattle.arj_law_runs.specs.resting.Rounds.{AnswersWaits, WaitOvertaken}
-use Rattle.arj_law_runs.specs.resting.Waits.{coord_in}
+use Rattle.arj_promise.specs.Waiting.{coord_in}
 use Rattle.arj_law_runs.proofs.resting.Ended.{same_waits}
 use Rattle.arj_law_runs.proofs.resting.GiveUps.{over_before}
 use Rattle.arj_law_runs.proofs.resting.PlainRuns.{quiesces_answer_or_leave}
@@ -25,7 +25,8 @@ use Rattle.arj_law_promise.specs.waiting.Waits.{WaitsAreKnown}
 use Rattle.arj_law_promise.proofs.waiting.Gives.{at_of, known_give_by}
 use Rattle.arj_law_promise.proofs.waiting.Keeping.{waits_keep}
 use Rattle.arj_law_promise.proofs.waiting.Untold.{its_up}
-use Rattle.arj_law_promise.specs.settling.Overtaken.{QuiescesAnswerTheRest, RunsLeaveOvertaken, WaitsOvertaken}
+use Rattle.arj_law_promise.specs.settling.Overtaken.{QuiescesAnswerTheRest, RunsLeaveOvertaken}
+use Rattle.arj_promise.specs.Waiting.{WaitsOvertaken}
 use Rattle.arj_law_promise.proofs.settling.ListingRuns.{ListsAreKnown, lists_keep}
 use Rattle.arj_law_promise.proofs.settling.Stored.{loads_given}
 

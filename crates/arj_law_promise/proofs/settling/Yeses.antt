@@ -16,7 +16,8 @@ use Rattle.arj_protocol.specs.Commit as commit
 use Rattle.arj_protocol.specs.Commit.{CommitStep, Confirming, Machine, Plan, Preparing, Used, Voting, begin_confirm, begin_prepare, begin_vote, left_of, marks_at, marks_store, marks_stores, servers_of, state_by, state_for, states_for, stores_by, targets_of, with_mark, with_marks}
 use Rattle.arj_protocol.specs.Coord.{Coord, Joined, Root, joins_on, later_state, latest_of, objects_in, or_kept_state, plan_for, used_of}
 use Rattle.arj_protocol.specs.Order.{at_number, has, number_set, with_number, without_number}
-use Rattle.arj_law_parts.specs.moves.Seen.{In, Post}
+use Rattle.arj_law_parts.specs.moves.Seen.{In}
+use Rattle.arj_promise.specs.Runs.{Post}
 use Rattle.arj_law_disk_view.proofs.view.Marks.{has_without}
 use Rattle.arj_law_disk_view.proofs.view.Planned.{has_with}
 use Rattle.arj_law_lock_view.proofs.facts.CommitCoords.{IsNext}

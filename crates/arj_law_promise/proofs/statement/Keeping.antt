@@ -5,9 +5,9 @@ use Rattle.arj_journal.specs.ScriptForm.{EventInForm}
 use Rattle.arj_protocol.specs.Words.{Header, Line}
 use Rattle.arj_protocol.specs.World.{World, format}
 use Rattle.arj_law_parts.specs.moves.Keeps.{Holds}
-use Rattle.arj_law_parts.specs.moves.Moves.{Move, all_moved, journal_by, moved, world_by}
+use Rattle.arj_promise.specs.Runs.{Move, all_moved, journal_by, moved, world_by}
 use Rattle.arj_law_parts.proofs.moves.Moving.{more_moves, moves_asked, scripts_are_moves}
-use Rattle.arj_law_runs.specs.bindings.Scripts.{most_events}
+use Rattle.arj_promise.specs.Runs.{most_events}
 use Rattle.arj_law_runs.proofs.bindings.Events.{as_many}
 use Rattle.arj_law_runs.proofs.calls.Reaching.{moves_keep}
 use Rattle.arj_law_serial.proofs.joint.BookRuns.{lists_nodes, runs_keep_the_book}
@@ -15,22 +15,23 @@ use Rattle.arj_law_serial.proofs.joint.Clean.{joined_runs_are_serial, runs_are_c
 use Rattle.arj_law_serial.proofs.joint.DisksInTime.{runs_exclude_on_disks}
 use Rattle.arj_law_serial.proofs.joint.FitRuns.{scripts_in_form}
 use Rattle.arj_law_serial.proofs.joint.FitStops.{script_stops}
-use Rattle.arj_law_serial.specs.joint.FitRuns.{IsInForm, IsStoppedInForm}
+use Rattle.arj_promise.specs.Runs.{IsInForm, IsStoppedInForm}
 use Rattle.arj_law_serial.proofs.holding.AlongMoves.{runs_hold_each}
-use Rattle.arj_law_runs.specs.resting.Quiet.{AreGivenUp, NobodyWaits}
-use Rattle.arj_law_runs.specs.resting.Answered.{HasAnswer, IsPlainIn}
-use Rattle.arj_law_runs.specs.resting.Rounds.{AreUp}
+use Rattle.arj_promise.specs.Resting.{AreGivenUp, NobodyWaits}
+use Rattle.arj_promise.specs.Waiting.{HasAnswer, IsPlainIn}
+use Rattle.arj_promise.specs.Resting.{AreUp}
 use Rattle.arj_law_runs.proofs.resting.PlainRuns.{quiesces_give_nothing_up}
 use Rattle.arj_law_runs.proofs.resting.GiveUps.{over_before}
 use Rattle.arj_law_promise.specs.settling.Last.{HoldTheLast}
-use Rattle.arj_law_promise.specs.settling.Overtaken.{OnlyOvertakenWait, WaitsOvertaken}
-use Rattle.arj_law_promise.specs.settling.Settled.{EndsQuiet, KnowsPrepared}
+use Rattle.arj_promise.specs.Waiting.{OnlyOvertakenWait, WaitsOvertaken}
+use Rattle.arj_law_promise.specs.settling.Settled.{KnowsPrepared}
+use Rattle.arj_promise.specs.Resting.{EndsQuiet}
 use Rattle.arj_law_promise.proofs.settling.Aborting.{runs_show}
 use Rattle.arj_law_promise.proofs.settling.Idle.{line_tells, quiesces_idle, rounds_idle}
 use Rattle.arj_law_promise.proofs.settling.Last.{idle_disks_hold}
 use Rattle.arj_law_promise.proofs.settling.Settled.{handlers_settle}
 use Rattle.arj_law_promise.proofs.settling.Waiting.{quiesces_answer_the_rest, runs_leave_overtaken}
-use Rattle.arj_law_promise.specs.statement.Promise.{CalmQuiescesEndAtRest, EndsAtRest, EndsInQuiesce, EndsInRound, KeptAfterEveryEvent, QuiescesAnswerWhoWaits, QuiescesGiveUpNothing, QuiescesLeaveOvertaken, QuietDisksHoldAll, QuietLinesTell, RoundsEndAtRest, RunsKeepThePromise, ScriptsAreRuns}
+use Rattle.arj_promise.specs.Promise.{CalmQuiescesEndAtRest, EndsAtRest, EndsInQuiesce, EndsInRound, KeptAfterEveryEvent, QuiescesAnswerWhoWaits, QuiescesGiveUpNothing, QuiescesLeaveOvertaken, QuietDisksHoldAll, QuietLinesTell, RoundsEndAtRest, RunsKeepThePromise, ScriptsAreRuns}
 
 -- ---- the promise
 

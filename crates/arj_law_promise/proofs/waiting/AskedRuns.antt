@@ -30,7 +30,8 @@ use Rattle.arj_law_runs.proofs.kept.Handled.{good_coord, it, own_of_disk, tops_o
 use Rattle.arj_law_runs.proofs.kept.Starts.{first_at}
 use Rattle.arj_law_runs.proofs.kept.Walked.{other_number, same_number}
 use Rattle.arj_law_parts.specs.moves.Keeps.{is_act}
-use Rattle.arj_law_parts.specs.moves.Seen.{In, Post, Seen, at, down, given, posted, said, see, up}
+use Rattle.arj_law_parts.specs.moves.Seen.{In, at, down, given, posted, said, up}
+use Rattle.arj_promise.specs.Runs.{Post, Seen, see}
 use Rattle.arj_law_parts.specs.moves.Walks.{Up, Walks, halted}
 use Rattle.arj_law_runs.proofs.addresses.Lists.{some_is}
 use Rattle.arj_law_parts.proofs.parts.SaidIncs.{all_map, truly_handled}
@@ -45,7 +46,7 @@ use Rattle.arj_law_runs.proofs.calls.CoordOuts.{acked_so, acts_so, again_so, hea
 use Rattle.arj_law_runs.proofs.calls.CoordSends.{AllSo, SendsSo, so_both}
 use Rattle.arj_protocol.specs.Call.{At, AtActivate, AtBind, AtInvoke, AtLoad, AtNote, Steps}
 use Rattle.arj_law_runs.specs.addresses.Binds.{BindsAreKnown}
-use Rattle.arj_law_runs.specs.resting.Waits.{IsSaid}
+use Rattle.arj_promise.specs.Waiting.{IsSaid}
 use Rattle.arj_protocol.specs.Coord.{Calling, Coord, Doing, doing_of}
 use Rattle.arj_law_lock_view.specs.facts.Requests.{AreAsked, RequestsAreKnown}
 use Rattle.arj_law_runs.specs.calls.Coords.{IsOfStep}

@@ -16,7 +16,8 @@ use Rattle.arj_law_parts.proofs.parts.Keys.{order_exact}
 use Rattle.arj_law_parts.proofs.parts.LivesNamed.{keyed_each, keyed_found, keyed_put}
 use Rattle.arj_law_parts.proofs.parts.ServerRuns.{ask_binding, end_binding}
 use Rattle.arj_law_runs.proofs.addresses.Lists.{all_without}
-use Rattle.arj_law_parts.specs.moves.Seen.{In, Post}
+use Rattle.arj_law_parts.specs.moves.Seen.{In}
+use Rattle.arj_promise.specs.Runs.{Post}
 use Rattle.arj_law_promise.specs.waiting.Asked.{ServerWasAsked, WasAsked, WasBrought}
 
 -- one more in a map, under its own key

@@ -21,13 +21,15 @@ use Rattle.arj_law_parts.specs.parts.Coords.{IsAsking, IsBusy}
 use Rattle.arj_law_parts.specs.parts.Requests.{AreOnce, IsNumbered}
 use Rattle.arj_law_runs.specs.calls.Coords.{IsOfStep, bare, head_of}
 use Rattle.arj_law_runs.specs.kept.Worlds.{IsGoodOf, IsUp}
-use Rattle.arj_law_parts.specs.moves.Seen.{In, Post, Seen, up}
+use Rattle.arj_law_parts.specs.moves.Seen.{In, up}
+use Rattle.arj_promise.specs.Runs.{Post, Seen}
 use Rattle.arj_law_disk_view.proofs.view.Frames.{node_here}
 use Rattle.arj_law_runs.proofs.addresses.Lists.{all_at_uid, never, some_is}
 use Rattle.arj_law_parts.proofs.parts.LivesNamed.{keyed_found}
 use Rattle.arj_law_lock_view.specs.facts.Requests.{IsAskedBy}
 use Rattle.arj_law_runs.specs.resting.Rounds.{AnswersWaits, HasCome, IsVoid}
-use Rattle.arj_law_runs.specs.resting.Waits.{IsOvertaken, IsSaid, IsToSettle, coord_in, coord_of, want_of_call, want_of_commit}
+use Rattle.arj_law_runs.specs.resting.Waits.{want_of_call, want_of_commit}
+use Rattle.arj_promise.specs.Waiting.{IsOvertaken, IsSaid, IsToSettle, coord_in, coord_of}
 use Rattle.arj_law_disk_view.specs.running.Entries.{IsEntryNode, KnowsEntries}
 use Rattle.arj_law_lock_view.specs.facts.Entries.{HasObject}
 use Rattle.arj_protocol.specs.Order.{at_number, at_uid, binding_eq, binding_less, binding_number, has, unbound}

@@ -6,7 +6,7 @@ use Rattle.arj_protocol.specs.Coord.{Coord, Doing}
 use Rattle.arj_law_parts.specs.parts.Claims.{GoesOn}
 use Rattle.arj_law_parts.specs.parts.Copies.{IsTree}
 use Rattle.arj_law_parts.specs.moves.Keeps.{Keeps}
-use Rattle.arj_law_parts.specs.moves.Seen.{Post}
+use Rattle.arj_promise.specs.Runs.{Post}
 use Rattle.arj_law_promise.specs.waiting.Asked.{AreHome, RequestsAreHome}
 use Rattle.arj_protocol.specs.Effect.{Send}
 use Rattle.arj_law_runs.proofs.calls.CoordSends.{SendsSo}

@@ -15,7 +15,8 @@ use Rattle.arj_protocol.specs.Node.{Parts, with_coord}
 use Rattle.arj_protocol.specs.Step.{acts, parent_of, parts_in, restart_outs}
 use Rattle.arj_protocol.specs.World.{is_serial_kind}
 use Rattle.arj_law_parts.specs.moves.Keeps.{Keeps, KeepsAsked}
-use Rattle.arj_law_parts.specs.moves.Seen.{Seen, given}
+use Rattle.arj_law_parts.specs.moves.Seen.{given}
+use Rattle.arj_promise.specs.Runs.{Seen}
 use Rattle.arj_law_parts.specs.moves.Walks.{Up, Walks}
 use Rattle.arj_law_parts.proofs.moves.Happens.{keeps_asked}
 use Rattle.arj_law_runs.proofs.kept.AllRuns.{all_keep}

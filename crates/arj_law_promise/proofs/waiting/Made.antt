@@ -21,7 +21,7 @@ use Rattle.arj_protocol.specs.Order.{at_number, at_uid, binding_eq, binding_less
 use Rattle.arj_law_parts.proofs.parts.LivesNamed.{keyed_each, keyed_found, keyed_put}
 use Rattle.arj_law_runs.proofs.addresses.Lists.{all_at_uid, all_put, all_without}
 use Rattle.arj_law_disk_view.proofs.running.Lists.{all_each}
-use Rattle.arj_law_runs.specs.resting.Waits.{IsSaid}
+use Rattle.arj_promise.specs.Waiting.{IsSaid}
 use Rattle.arj_law_promise.specs.waiting.Asked.{MadeWasSaid, NamedWasSaid}
 use Rattle.arj_protocol.specs.Words.confirmed
 

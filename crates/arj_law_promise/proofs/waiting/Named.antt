@@ -12,7 +12,7 @@ use Rattle.arj_protocol.specs.Step.{Input, acts, parent_of, refusal_up}
 use Rattle.arj_protocol.specs.Effect.{Intent, Send, Served}
 use Rattle.arj_law_runs.proofs.calls.CoordSends.{IsSentBy, SendsSo}
 use Rattle.arj_law_lock_view.proofs.facts.Kept.{Place}
-use Rattle.arj_law_parts.specs.moves.Seen.{Post}
+use Rattle.arj_promise.specs.Runs.{Post}
 use Rattle.arj_protocol.specs.Ask.{Reply, actor}
 use Rattle.arj_protocol.specs.Ending.{acked}
 use Rattle.arj_protocol.specs.Asking.{again_all, begin_action, doomed_by, heard, heard_by, heard_call, heard_doing, heard_none, heard_now, kept_at, root_heard, root_moved, step_call, waits_for_call}

@@ -17,7 +17,8 @@ use Rattle.arj_protocol.specs.Effect.{Disk}
 use Rattle.arj_protocol.specs.Node.{Parts}
 use Rattle.arj_protocol.specs.Order.{binding_eq, binding_less}
 use Rattle.arj_protocol.specs.Tree.{is_own}
-use Rattle.arj_law_parts.specs.moves.Seen.{Post, Seen, up}
+use Rattle.arj_law_parts.specs.moves.Seen.{up}
+use Rattle.arj_promise.specs.Runs.{Post, Seen}
 use Rattle.arj_law_promise.specs.waiting.Asked.{IsAnsweredBy}
 use Rattle.arj_law_promise.proofs.waiting.Known.{waits_req}
 

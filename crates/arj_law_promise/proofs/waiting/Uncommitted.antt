@@ -14,7 +14,7 @@ use Rattle.arj_law_parts.specs.parts.Actions.{Action}
 use Rattle.arj_law_parts.specs.parts.Coords.{IsAsking}
 use Rattle.arj_law_parts.proofs.parts.Begun.{on_own}
 use Rattle.arj_law_runs.specs.kept.Worlds.{IsGoodOf}
-use Rattle.arj_law_parts.specs.moves.Seen.{Seen}
+use Rattle.arj_promise.specs.Runs.{Seen}
 use Rattle.arj_law_runs.proofs.addresses.Lists.{all_at_uid}
 use Rattle.arj_law_serial.specs.past.Told.{ArePastIn, IsPast, live_in}
 use Rattle.arj_law_promise.specs.waiting.Writers.{ArePastWriters, IsBy, IsPastWriter}

@@ -17,7 +17,7 @@ use Rattle.arj_law_parts.specs.parts.Copies.{IsTree}
 use Rattle.arj_law_parts.proofs.parts.Begun.{begun_tree, path_found}
 use Rattle.arj_law_parts.proofs.parts.GoodTrees.{above_of, found_by, over_below, shorter}
 use Rattle.arj_law_runs.specs.kept.Worlds.{IsGoodOf, IsMemory, IsUp}
-use Rattle.arj_law_parts.specs.moves.Seen.{Seen}
+use Rattle.arj_promise.specs.Runs.{Seen}
 use Rattle.arj_law_serial.specs.past.Told.{ArePastIn, IsClosedAt, IsPast, ToldPast, live_in}
 
 -- who passes the test stands in the list

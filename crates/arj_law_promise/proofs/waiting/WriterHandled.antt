@@ -26,7 +26,7 @@ use Rattle.arj_protocol.specs.Order.{next_version}
 use Rattle.arj_protocol.specs.Server as server
 use Rattle.arj_protocol.specs.Server.{Server, changed_states}
 use Rattle.arj_law_parts.specs.parts.Ends.{told_by}
-use Rattle.arj_law_parts.specs.moves.Seen.{Post}
+use Rattle.arj_promise.specs.Runs.{Post}
 use Rattle.arj_law_runs.proofs.addresses.Lists.{all_at_uid, all_some}
 use Rattle.arj_law_promise.specs.waiting.Writers.{AskIsBy, AskedIsBy, HasToldEnd, IsBy, IsPastWriter, PairIsBy, ReplyIsBy}
 use Rattle.arj_law_promise.proofs.waiting.WriterCommits.{IsTold, plainly}

@@ -29,7 +29,8 @@ use Rattle.arj_law_parts.proofs.parts.TrueSteps.{true_query, well_acked, well_ac
 use Rattle.arj_law_runs.specs.kept.Worlds.{IsGood, IsGoodOf, IsUp}
 use Rattle.arj_law_runs.proofs.kept.Handled.{it, own_of_disk, tops_of_disk}
 use Rattle.arj_law_parts.specs.moves.Keeps.{is_act}
-use Rattle.arj_law_parts.specs.moves.Seen.{In, Post, Seen, at, given, posted, said, see, up}
+use Rattle.arj_law_parts.specs.moves.Seen.{In, at, given, posted, said, up}
+use Rattle.arj_promise.specs.Runs.{Post, Seen, see}
 use Rattle.arj_law_parts.specs.moves.Walks.{Up, Walks, halted}
 use Rattle.arj_law_runs.proofs.calls.CoordOuts.{acked_so, acts_so, again_so, heard_so, query_so}
 use Rattle.arj_law_runs.proofs.calls.Given.{KeepsGiven}

@@ -11,14 +11,10 @@ use Rattle.arj_model.specs.Last.{entry_state, is_among, last_state, listed, obje
 use Rattle.arj_protocol.specs.Words.{Header, Line, Uid}
 use Rattle.arj_protocol.specs.World.{World}
 use Rattle.arj_law_parts.specs.moves.Keeps.{Stands}
-use Rattle.arj_law_parts.specs.moves.Seen.{Post, see}
-use Rattle.arj_law_runs.specs.resting.Quiet.{AreQuiet}
-use Rattle.arj_law_serial.specs.joint.Shown.{DisksAre}
-
--- by its reading nothing is prepared on a disk, for either role, and it has no record
-pub record HasNothingLeft (read : Reading) : Type 0 where
-  pub prepared : (r : Role) (act : Uid) → (let d = read in d.pend r act) ≡ None
-  pub records : (top : Uid) → (let d = read in d.records top) ≡ None
+use Rattle.arj_promise.specs.Runs.{Post, see}
+use Rattle.arj_promise.specs.Resting.{AreQuiet}
+use Rattle.arj_promise.specs.Disks.{DisksAre}
+use Rattle.arj_promise.specs.Resting.{HasNothingLeft}
 
 -- Naming holds each entry as the journal gives it, and each listed store that is a node of the header the object's last committed state; and on
 -- the disks of the header's nodes nothing is left.

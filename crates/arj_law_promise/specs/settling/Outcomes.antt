@@ -7,8 +7,9 @@ use Rattle.arj_journal.specs.declared.body.Body.TheVariants as body
 use Rattle.arj_journal.specs.declared.body.Line.{Line}
 use Rattle.arj_journal.specs.declared.body.Role.TheVariants as role
 use Rattle.arj_journal.specs.declared.header.Header.{Header}
-use Rattle.arj_law_parts.specs.moves.Moves.{Move, journal_by}
-use Rattle.arj_law_serial.specs.joint.Outcome.{ShowsOneOutcome, is_said, may_abort}
+use Rattle.arj_promise.specs.Runs.{Move, journal_by}
+use Rattle.arj_model.specs.Outcome.{is_said, may_abort}
+use Rattle.arj_promise.specs.Outcome.{ShowsOneOutcome}
 
 -- what a store aborts of a decided top has a cause
 abbrev pub StoresHaveCauses : List Line → Type 0

@@ -12,7 +12,8 @@ use Rattle.arj_protocol.specs.Step.{Node}
 use Rattle.arj_protocol.specs.Tree.{is_own}
 use Rattle.arj_law_parts.specs.parts.Actions.{Action}
 use Rattle.arj_law_parts.specs.parts.Claims.{IsSettled}
-use Rattle.arj_law_parts.specs.moves.Seen.{In, Post, Seen}
+use Rattle.arj_law_parts.specs.moves.Seen.{In}
+use Rattle.arj_promise.specs.Runs.{Post, Seen}
 use Rattle.arj_law_disk_view.specs.view.Pairs.{AreSorted}
 use Rattle.arj_law_disk_view.specs.running.Places.{HasNaming}
 use Rattle.arj_law_lock_view.specs.facts.Uppers.{IsTopOf}

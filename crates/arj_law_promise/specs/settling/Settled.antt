@@ -11,14 +11,16 @@ use Rattle.arj_protocol.specs.World.{World, is_quiet, lowest_from}
 use Rattle.arj_law_parts.specs.parts.Actions.{Action}
 use Rattle.arj_law_runs.specs.kept.Worlds.{IsGood, IsGoodOf}
 use Rattle.arj_law_parts.specs.moves.Keeps.{KeepsAsked}
-use Rattle.arj_law_parts.specs.moves.Moves.{Move, all_moved, moved, world_by}
-use Rattle.arj_law_parts.specs.moves.Seen.{Seen}
+use Rattle.arj_promise.specs.Runs.{Move, all_moved, moved, world_by}
+use Rattle.arj_promise.specs.Runs.{Seen}
 use Rattle.arj_law_runs.specs.addresses.Addresses.{AreAddressed}
 use Rattle.arj_law_runs.specs.addresses.Binds.{BindsAreKnown}
 use Rattle.arj_law_disk_view.specs.running.Records.{AreRecorded}
-use Rattle.arj_law_runs.specs.resting.Quiet.{AreGivenUp, AreQuiet, IsGiveUp, NobodyWaits, SettlesAll}
-use Rattle.arj_law_runs.specs.resting.Rounds.{AreUp}
+use Rattle.arj_law_runs.specs.resting.Quiet.{SettlesAll}
+use Rattle.arj_promise.specs.Resting.{AreGivenUp, AreQuiet, IsGiveUp, NobodyWaits}
+use Rattle.arj_promise.specs.Resting.{AreUp}
 use Rattle.arj_law_promise.specs.settling.Prepared.{AskersAreSettled, PreparedWereAsked}
+use Rattle.arj_promise.specs.Resting.{EndsQuiet}
 
 -- records are as records are, and whoever has something prepared was asked for it, for the actions that were begun
 abbrev pub DisksAreKnown : Seen → Type 0
@@ -35,12 +37,6 @@ KnowsPrepared hd M = (DisksAreKnown M × ((IsGood M × BindsAreKnown M) × Asker
 -- each handler keeps it, and it gives all that a quiesce takes of records and of what is prepared
 abbrev pub HandlersSettle : Type 0
 HandlersSettle = (hd : Header) → HeaderInForm hd → KeepsAsked hd (KnowsPrepared hd) × SettlesAll hd (KnowsPrepared hd)
-
--- Every node of the world is idle, up and with no action that waits, no prepared action and no record; and the journal's last line says so.
-pub record EndsQuiet (w : World) : Type 0 where
-  pub idle : AreQuiet w
-  pub quiet : is_quiet w ≡ true
-  pub line : (before : List Line) × (w.lines ≡ before ++ record { event = w.event; body = body.Quiet true } ∷ [])
 
 -- In every run a quiesce that begins where nobody waits and no frame is open, at whose end every node is up, whatever stops fall, and in
 -- which no limit is met, leaves every node idle, and its line says so.

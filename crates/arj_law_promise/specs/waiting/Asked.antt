@@ -13,7 +13,8 @@ use Rattle.arj_protocol.specs.Server.{Kept, Server}
 use Rattle.arj_protocol.specs.Step.{Node}
 use Rattle.arj_law_runs.specs.addresses.Binds.{BindsAreKnown}
 use Rattle.arj_law_runs.specs.kept.Worlds.{IsGood}
-use Rattle.arj_law_parts.specs.moves.Seen.{In, Post, Seen}
+use Rattle.arj_law_parts.specs.moves.Seen.{In}
+use Rattle.arj_promise.specs.Runs.{Post, Seen}
 use Rattle.arj_law_serial.specs.joint.Forms.{AreSo, kind_of}
 use Rattle.arj_protocol.specs.Call.{At, AtActivate, AtLoad, AtNote, Goal, Run, Steps}
 use Rattle.arj_protocol.specs.Coord.{Calling, Coord, Doing, doing_of}
@@ -21,7 +22,7 @@ use Rattle.arj_protocol.specs.Words.body
 use Rattle.arj_protocol.specs.Words.bound
 use Rattle.arj_protocol.specs.Named.{Made, Named}
 use Rattle.arj_protocol.specs.Naming.{Naming}
-use Rattle.arj_law_runs.specs.resting.Waits.{IsSaid}
+use Rattle.arj_promise.specs.Waiting.{IsSaid}
 use Rattle.arj_protocol.specs.Order.{at_number, at_uid, binding_number}
 
 -- ---- requests

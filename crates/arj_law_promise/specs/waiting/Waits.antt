@@ -15,7 +15,8 @@ use Rattle.arj_law_runs.specs.kept.Worlds.{IsGood}
 use Rattle.arj_law_lock_view.specs.facts.Requests.{RequestsAreKnown}
 use Rattle.arj_law_lock_view.specs.facts.Uppers.{ObjectsAreHeld}
 use Rattle.arj_law_parts.specs.moves.Keeps.{KeepsAsked}
-use Rattle.arj_law_parts.specs.moves.Seen.{Seen, up}
+use Rattle.arj_law_parts.specs.moves.Seen.{up}
+use Rattle.arj_promise.specs.Runs.{Seen}
 use Rattle.arj_law_runs.specs.resting.Rounds.{AnswersWaits, HasCome}
 use Rattle.arj_law_runs.specs.resting.Waits.{want_of_call}
 use Rattle.arj_law_promise.specs.waiting.Asked.{HaveForms, RequestsAreHome, WereAsked}

@@ -21,7 +21,8 @@ use Rattle.arj_law_parts.proofs.parts.Decided.{stand_ended}
 use Rattle.arj_law_parts.proofs.parts.GoodCoords.{IsSameTree, doomed_same, uses_same}
 use Rattle.arj_law_parts.proofs.parts.GoodTrees.{after, at_others, at_u, ended_b}
 use Rattle.arj_law_parts.proofs.parts.Settled.{doing_other, doing_put, end_tree_on}
-use Rattle.arj_law_parts.specs.moves.Seen.{In, Post}
+use Rattle.arj_law_parts.specs.moves.Seen.{In}
+use Rattle.arj_promise.specs.Runs.{Post}
 use Rattle.arj_law_runs.specs.calls.Coords.{IsSpent}
 use Rattle.arj_law_runs.proofs.calls.CoordCalls.{not_idle, went_keeping}
 use Rattle.arj_law_runs.proofs.calls.CoordEnds.{aborts_ended}

@@ -26,7 +26,8 @@ use Rattle.arj_protocol.specs.Says.{AreAll, is_naming_effect, is_server_effect}
 use Rattle.arj_protocol.specs.Server as server
 use Rattle.arj_protocol.proofs.PartSays.{activate_own, bind_own, confirm_own, ends_own, invoke_own, note_own, told_own, vote_own}
 use Rattle.arj_law_parts.specs.parts.Claims.{AreTrue}
-use Rattle.arj_law_parts.specs.moves.Seen.{In, Post}
+use Rattle.arj_law_parts.specs.moves.Seen.{In}
+use Rattle.arj_promise.specs.Runs.{Post}
 use Rattle.arj_law_runs.proofs.calls.CoordOuts.{query_so}
 use Rattle.arj_law_runs.proofs.calls.CoordSends.{AllSo, IsSentBy}
 use Rattle.arj_law_runs.proofs.calls.WorldSteps.{no_answer, no_request, reads_back}

@@ -17,7 +17,7 @@ use Rattle.arj_law_parts.specs.parts.Copies.{IsTree, Paths}
 use Rattle.arj_law_parts.specs.parts.Messages.{IsDecided}
 use Rattle.arj_law_parts.proofs.parts.Begun.{on_more, path_some}
 use Rattle.arj_law_parts.proofs.parts.GoodTrees.{above_of, over_below, own_is, shorter}
-use Rattle.arj_law_parts.specs.moves.Seen.{Post}
+use Rattle.arj_promise.specs.Runs.{Post}
 use Rattle.arj_law_runs.proofs.calls.CoordKnown.{root_own}
 use Rattle.arj_law_runs.specs.addresses.Binds.{IsSaid, IsThere, KeepsCalled, KnowsBinds}
 use Rattle.arj_law_runs.proofs.addresses.Lists.{never}

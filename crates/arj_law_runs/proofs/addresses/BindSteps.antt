@@ -35,7 +35,7 @@ use Rattle.arj_law_parts.proofs.parts.Decided.{stand_begins}
 use Rattle.arj_law_parts.proofs.parts.GoodCoords.{IsStepOf, actor_is, answer_step, giveup_step, on_tree, vote_step}
 use Rattle.arj_law_parts.proofs.parts.GoodTrees.{get_more, grown_still}
 use Rattle.arj_law_parts.proofs.parts.Pairs.{each_at}
-use Rattle.arj_law_parts.specs.moves.Seen.{Post}
+use Rattle.arj_promise.specs.Runs.{Post}
 use Rattle.arj_law_runs.proofs.calls.CommitPlans.{IsNextOf, answer_next, giveup_next, heard_plan, heard_same, vote_next}
 use Rattle.arj_law_runs.proofs.calls.CoordCalls.{heard_keeping, kept_put, not_idle, step_is}
 use Rattle.arj_law_runs.proofs.calls.CoordCommits.{not_calling}

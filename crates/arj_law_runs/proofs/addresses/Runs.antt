@@ -19,8 +19,9 @@ use Rattle.arj_protocol.specs.Step.{Input, Node, acts, entries_at, first_disk, f
 use Rattle.arj_protocol.specs.World.{Asked, Frame, World, format, is_serial_kind, run_event}
 use Rattle.arj_protocol.proofs.Payloads.{entry_back}
 use Rattle.arj_law_parts.specs.moves.Keeps.{AsksNode, HasPlace, Holds, IsSent, KeepsAsked, is_act}
-use Rattle.arj_law_parts.specs.moves.Moves.{Move, world_by}
-use Rattle.arj_law_parts.specs.moves.Seen.{In, Post, Seen, at, given, posted, said, see, up}
+use Rattle.arj_promise.specs.Runs.{Move, world_by}
+use Rattle.arj_law_parts.specs.moves.Seen.{In, at, given, posted, said, up}
+use Rattle.arj_promise.specs.Runs.{Post, Seen, see}
 use Rattle.arj_law_parts.specs.moves.Walks.{Up, Walks}
 use Rattle.arj_law_parts.proofs.moves.Happens.{event_asked, first_asked, keeps_asked}
 use Rattle.arj_law_parts.proofs.moves.Moving.{moves_asked}

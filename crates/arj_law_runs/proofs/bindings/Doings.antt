@@ -23,7 +23,8 @@ use Rattle.arj_protocol.specs.World.{Labelled, is_serial_kind}
 use Rattle.arj_law_runs.proofs.kept.Starts.{first_at}
 use Rattle.arj_law_runs.proofs.kept.Walked.{other_number, same_number}
 use Rattle.arj_law_parts.specs.moves.Keeps.{Keeps, is_act, label_at}
-use Rattle.arj_law_parts.specs.moves.Seen.{Seen, at, given, posted, said, up}
+use Rattle.arj_law_parts.specs.moves.Seen.{at, given, posted, said, up}
+use Rattle.arj_promise.specs.Runs.{Seen}
 use Rattle.arj_law_parts.specs.moves.Walks.{Up, Walks, halted}
 use Rattle.arj_law_parts.proofs.steps.CoordNames.{SameNames, same_acked, same_acts, same_again, same_heard}
 use Rattle.arj_law_runs.proofs.calls.ServerCalls.{never, some_is}

@@ -20,14 +20,15 @@ use Rattle.arj_protocol.specs.World.{Arm, Asked, Frame, Giving, Labelled, World,
 use Rattle.arj_law_parts.proofs.steps.Frames.{length_marked, over, over_few, over_more, steps_add}
 use Rattle.arj_law_parts.proofs.steps.Settled.{uses_up}
 use Rattle.arj_law_parts.specs.moves.Keeps.{Holds, KeepsAsked}
-use Rattle.arj_law_parts.specs.moves.Moves.{Move, all_moved, as_moves, moved, world_by}
+use Rattle.arj_promise.specs.Runs.{Move, all_moved, as_moves, moved, world_by}
 use Rattle.arj_law_parts.proofs.moves.Happens.{arms_hold, deliver_holds, first_holds, keeps_asked, steps_hold}
 use Rattle.arj_law_parts.proofs.moves.Moving.{move_asked}
 use Rattle.arj_law_runs.specs.calls.Bindings.{bindings_made}
 use Rattle.arj_law_runs.specs.calls.Reached.{IsReached}
 use Rattle.arj_law_runs.proofs.calls.MadeLines.{lines_both}
 use Rattle.arj_law_runs.proofs.calls.Reaching.{moves_keep}
-use Rattle.arj_law_runs.specs.bindings.Scripts.{MovesMakeFew, most_events}
+use Rattle.arj_law_runs.specs.bindings.Scripts.{MovesMakeFew}
+use Rattle.arj_promise.specs.Runs.{most_events}
 use Rattle.arj_law_runs.proofs.bindings.CoordBinds.{at_naming}
 use Rattle.arj_law_runs.proofs.bindings.Doings.{HaveLabels, labels_go}
 use Rattle.arj_law_runs.proofs.bindings.Worlds.{cost_at, made, steps_labels, steps_made}

@@ -15,7 +15,8 @@ use Rattle.arj_law_parts.specs.parts.Copies.{IsTree, Paths}
 use Rattle.arj_law_parts.specs.parts.Ends.{IsSaidSo}
 use Rattle.arj_law_parts.specs.parts.Messages.{FitsMessage, Seals}
 use Rattle.arj_law_parts.proofs.parts.Begun.{begun_tree, on_own, path_found, path_some}
-use Rattle.arj_law_parts.specs.moves.Seen.{In, Post, Seen}
+use Rattle.arj_law_parts.specs.moves.Seen.{In}
+use Rattle.arj_promise.specs.Runs.{Post, Seen}
 use Rattle.arj_law_runs.specs.calls.Coords.{IsCalledBy, KnowsCalls}
 use Rattle.arj_law_runs.specs.calls.Runs.{AllChangesAreCalled, KnowsRun, Trees}
 use Rattle.arj_law_runs.proofs.calls.CommitPlans.{any_in}

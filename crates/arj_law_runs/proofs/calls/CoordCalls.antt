@@ -21,7 +21,7 @@ use Rattle.arj_law_parts.specs.parts.Actions.{Action}
 use Rattle.arj_law_parts.specs.parts.Coords.{IsAsking, IsGoodCoord}
 use Rattle.arj_law_parts.specs.parts.Copies.{IsTree, Paths}
 use Rattle.arj_law_parts.proofs.parts.GoodCoords.{doomed_same}
-use Rattle.arj_law_parts.specs.moves.Seen.{Post}
+use Rattle.arj_promise.specs.Runs.{Post}
 use Rattle.arj_law_runs.specs.calls.Calls.{Call, call_in, is_refusal}
 use Rattle.arj_law_runs.specs.calls.Coords.{AreOfPaths, IsOver, IsOwn, IsTied, IsTiedAt, KnowsCalls, head_of}
 use Rattle.arj_law_runs.proofs.calls.CoordKnown.{doing_here, knows_of, paths_root, paths_same, roots_work, same_root, went_root, went_said}

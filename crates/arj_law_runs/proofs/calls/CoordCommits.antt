@@ -24,7 +24,8 @@ use Rattle.arj_law_parts.proofs.parts.Begun.{on_own}
 use Rattle.arj_law_parts.proofs.parts.Decided.{stand_ended}
 use Rattle.arj_law_parts.proofs.parts.GoodCoords.{IsStepOf, on_tree, vote_step}
 use Rattle.arj_law_parts.proofs.parts.GoodTrees.{all_over}
-use Rattle.arj_law_parts.specs.moves.Seen.{In, Post}
+use Rattle.arj_law_parts.specs.moves.Seen.{In}
+use Rattle.arj_promise.specs.Runs.{Post}
 use Rattle.arj_law_runs.specs.calls.Calls.{Call}
 use Rattle.arj_law_runs.specs.calls.Coords.{Answered, AreVoted, IsCalledBy, Doomed, HasNoServer, IsCovered, IsDoomed, IsFree, IsOver, IsOwn, IsPlanned, IsSaid, IsThere, IsUsed, IsWaiting, KnowsCalls, Nowhere, Refused, Spent, WasRefused, WasSpent}
 use Rattle.arj_law_runs.proofs.calls.CommitPlans.{IsLater, IsNextOf, is_used, unmerged, vote_next}

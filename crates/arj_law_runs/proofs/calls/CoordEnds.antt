@@ -19,7 +19,7 @@ use Rattle.arj_law_parts.proofs.parts.GoodCoords.{on_tree}
 use Rattle.arj_law_parts.proofs.parts.GoodTrees.{at_others, at_u, ended_b, after}
 use Rattle.arj_law_parts.proofs.parts.Pairs.{each_at}
 use Rattle.arj_law_parts.proofs.parts.Settled.{end_tree_on, node_on}
-use Rattle.arj_law_parts.specs.moves.Seen.{Post}
+use Rattle.arj_promise.specs.Runs.{Post}
 use Rattle.arj_law_runs.specs.calls.Calls.{Call}
 use Rattle.arj_law_runs.specs.calls.Coords.{IsFree, IsOver, IsOwn, IsWaiting, KnowsCalls, Spent}
 use Rattle.arj_law_runs.proofs.calls.CoordCalls.{idle_not, not_idle}

@@ -17,7 +17,7 @@ use Rattle.arj_law_parts.specs.parts.Coords.{IsAsking, IsGoodCoord}
 use Rattle.arj_law_parts.specs.parts.Copies.{IsTree, Paths}
 use Rattle.arj_law_parts.proofs.parts.Decided.{stand_goes, stand_step_call}
 use Rattle.arj_law_parts.proofs.parts.GoodCoords.{on_tree}
-use Rattle.arj_law_parts.specs.moves.Seen.{Post}
+use Rattle.arj_promise.specs.Runs.{Post}
 use Rattle.arj_law_runs.specs.calls.Calls.{Call, IsRefused, call_in, is_refusal}
 use Rattle.arj_law_runs.specs.calls.Coords.{Answered, AreOfPaths, Doomed, IsDoomed, IsOver, IsOwn, IsTie, IsTiedAt, IsWaiting, KnowsCalls, Nowhere, Refused, head_of}
 use Rattle.arj_law_runs.proofs.calls.CallAnswers.{IsWellMoved, TiesNext, answer_well}

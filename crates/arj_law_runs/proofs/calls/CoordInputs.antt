@@ -32,7 +32,8 @@ use Rattle.arj_law_parts.proofs.parts.Decided.{stand_begins}
 use Rattle.arj_law_parts.proofs.parts.GoodCoords.{IsStepOf, actor_is, answer_step, doing_by, giveup_step}
 use Rattle.arj_law_parts.proofs.parts.GoodTrees.{found_by, get_more, own_is}
 use Rattle.arj_law_parts.proofs.parts.TrueSteps.{work_there}
-use Rattle.arj_law_parts.specs.moves.Seen.{In, Post}
+use Rattle.arj_law_parts.specs.moves.Seen.{In}
+use Rattle.arj_promise.specs.Runs.{Post}
 use Rattle.arj_law_runs.specs.calls.Calls.{Call, IsRefused, is_refusal, refused_by as refusal_by}
 use Rattle.arj_law_runs.specs.calls.Coords.{IsCalledBy, IsOwn, IsPlanned, IsUsed, KnowsCalls, head_of}
 use Rattle.arj_law_runs.specs.calls.Homes.{NamesIn}

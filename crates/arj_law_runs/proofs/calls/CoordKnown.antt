@@ -22,7 +22,7 @@ use Rattle.arj_law_parts.specs.parts.Copies.{IsTree, Paths}
 use Rattle.arj_law_parts.specs.parts.Messages.{IsDecided}
 use Rattle.arj_law_parts.proofs.parts.GoodTrees.{found_by, own_is, place_in, shorter}
 use Rattle.arj_law_parts.proofs.parts.Settled.{doing_put}
-use Rattle.arj_law_parts.specs.moves.Seen.{Post}
+use Rattle.arj_promise.specs.Runs.{Post}
 use Rattle.arj_law_runs.specs.calls.Calls.{Call}
 use Rattle.arj_law_runs.specs.calls.Coords.{AreOfPaths, IsCounted, IsCovered, IsOver, IsOwn, IsSpent, IsTied, IsWaiting, KnowsCalls}
 use Rattle.arj_law_runs.proofs.calls.CoordSteps.{Goes, IsLoose, IsStill, KeepsAborts, Knowing, goes_root}

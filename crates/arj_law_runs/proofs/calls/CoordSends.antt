@@ -25,7 +25,8 @@ use Rattle.arj_law_parts.specs.parts.Actions.{Action}
 use Rattle.arj_law_parts.specs.parts.Ends.{ask_ends}
 use Rattle.arj_law_parts.specs.parts.Coords.{IsAsking, IsBusy, IsGoodCoord, IsVoting}
 use Rattle.arj_law_parts.specs.parts.Copies.{Paths}
-use Rattle.arj_law_parts.specs.moves.Seen.{In, Post}
+use Rattle.arj_law_parts.specs.moves.Seen.{In}
+use Rattle.arj_promise.specs.Runs.{Post}
 use Rattle.arj_law_runs.specs.calls.Calls.{Call, IsAsked, IsRefused, call_by, call_in, call_of}
 use Rattle.arj_law_runs.specs.calls.Coords.{Answered, Doomed, HasNoServer, IsCounted, IsCalledBy, IsCovered, IsOfStep, IsOver, IsOwn, IsPlanned, IsThere, IsVotedIn, IsWaiting, KnowsCalls, Nowhere, Refused, Spent, WasRefused, WasSpent, bare, head_of}
 use Rattle.arj_law_runs.proofs.calls.CoordCalls.{not_both, step_is}

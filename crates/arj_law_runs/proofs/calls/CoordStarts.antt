@@ -22,7 +22,7 @@ use Rattle.arj_law_parts.specs.parts.Copies.{IsTree, Paths}
 use Rattle.arj_law_parts.specs.parts.Messages.{IsDecided}
 use Rattle.arj_law_parts.proofs.parts.Decided.{stand_goes, stand_same}
 use Rattle.arj_law_parts.proofs.parts.GoodCoords.{on_tree, uses_same}
-use Rattle.arj_law_parts.specs.moves.Seen.{Post}
+use Rattle.arj_promise.specs.Runs.{Post}
 use Rattle.arj_law_runs.specs.calls.Calls.{Call, IsAsked}
 use Rattle.arj_law_runs.specs.calls.Coords.{Answered, AreOfPaths, Doomed, IsCovered, IsDoomed, IsOver, IsOwn, IsSpent, IsTied, IsTiedAt, IsWaiting, KnowsCalls, Nowhere, Refused, Spent}
 use Rattle.arj_law_runs.proofs.calls.CoordCalls.{goes_known, kept_put, kept_same, not_idle, went_keeping}

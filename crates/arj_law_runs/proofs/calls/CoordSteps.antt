@@ -17,7 +17,8 @@ use Rattle.arj_protocol.proofs.RowSteps.{one_or_two}
 use Rattle.arj_law_parts.specs.parts.Copies.{Paths}
 use Rattle.arj_law_parts.specs.parts.Messages.{IsDecided}
 use Rattle.arj_law_parts.proofs.parts.Settled.{doing_other}
-use Rattle.arj_law_parts.specs.moves.Seen.{In, Post}
+use Rattle.arj_law_parts.specs.moves.Seen.{In}
+use Rattle.arj_promise.specs.Runs.{Post}
 use Rattle.arj_law_runs.specs.calls.Calls.{Call, IsAsked}
 use Rattle.arj_law_runs.specs.calls.Coords.{Answered, IsAnswered, IsCalledBy, Doomed, IsCovered, IsDoomed, IsFree, IsOver, IsOwn, IsPlanned, IsSpent, IsTie, IsTied, IsTiedAt, IsWaiting, HasNoServer, IsThere, KnowsCalls, Nowhere, Refused, Spent, WasRefused, WasSpent}
 

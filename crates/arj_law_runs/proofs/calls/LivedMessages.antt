@@ -26,7 +26,8 @@ use Rattle.arj_law_parts.specs.parts.Lives.{AllName, FitsCall, Homes, IsNamingSo
 use Rattle.arj_law_parts.proofs.parts.LivesCoords.{know_acked, know_heard}
 use Rattle.arj_law_parts.proofs.parts.LivesNamed.{bind_so, confirm_so, hello_so, note_so, told_so}
 use Rattle.arj_law_parts.proofs.parts.SaidIncs.{activate_inc, all_both, all_quiet}
-use Rattle.arj_law_parts.specs.moves.Seen.{In, Post}
+use Rattle.arj_law_parts.specs.moves.Seen.{In}
+use Rattle.arj_promise.specs.Runs.{Post}
 use Rattle.arj_law_runs.specs.calls.Lived.{HasServers, NamesPost, Passes}
 use Rattle.arj_law_runs.proofs.calls.CoordOuts.{quiet_query}
 use Rattle.arj_law_runs.proofs.calls.CoordSends.{AllQuiet}

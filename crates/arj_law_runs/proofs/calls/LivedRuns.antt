@@ -42,7 +42,8 @@ use Rattle.arj_law_runs.proofs.kept.Starts.{first_at}
 use Rattle.arj_law_runs.proofs.kept.Walked.{other_number, same_number}
 use Rattle.arj_law_parts.specs.moves.Keeps.{DidKeeps, is_act}
 use Rattle.arj_law_parts.specs.moves.Seen as seen
-use Rattle.arj_law_parts.specs.moves.Seen.{In, Seen, at, down, said, see, up}
+use Rattle.arj_law_parts.specs.moves.Seen.{In, at, down, said, up}
+use Rattle.arj_promise.specs.Runs.{Seen, see}
 use Rattle.arj_law_parts.specs.moves.Walks.{Up, Walks, halted}
 use Rattle.arj_law_parts.proofs.moves.Together.{walks_to}
 use Rattle.arj_law_runs.specs.calls.Coords.{IsCounted, IsOfStep, KnowsCalls, bare}

@@ -13,7 +13,8 @@ use Rattle.arj_law_parts.specs.parts.Incs.{AreOfInc}
 use Rattle.arj_law_parts.specs.parts.Lives.{Homes, IsPastZero, Reach}
 use Rattle.arj_law_parts.proofs.parts.SaidIncs.{stopped_inc, worked_inc}
 use Rattle.arj_law_runs.proofs.kept.Walked.{other_number, same_number}
-use Rattle.arj_law_parts.specs.moves.Seen.{In, Post, Seen, Within, at, posted, said, up}
+use Rattle.arj_law_parts.specs.moves.Seen.{In, Within, at, posted, said, up}
+use Rattle.arj_promise.specs.Runs.{Post, Seen}
 use Rattle.arj_law_parts.specs.moves.Walks.{Up, Walks}
 use Rattle.arj_law_runs.specs.calls.Lived.{AreApart, AreBelow, Gifts, HasGiven, HasServers, IsHome, LivesWith, NamesPost, Passes}
 use Rattle.arj_law_runs.proofs.calls.ServerCalls.{some_is}

@@ -13,7 +13,8 @@ use Rattle.arj_protocol.specs.World.{is_serial_kind, numbered}
 use Rattle.arj_law_runs.proofs.kept.Starts.{first_at}
 use Rattle.arj_law_runs.proofs.kept.Walked.{other_number, same_number}
 use Rattle.arj_law_parts.specs.moves.Keeps.{Keeps}
-use Rattle.arj_law_parts.specs.moves.Seen.{Seen, at, down, given, posted, said, up}
+use Rattle.arj_law_parts.specs.moves.Seen.{at, down, given, posted, said, up}
+use Rattle.arj_promise.specs.Runs.{Seen}
 use Rattle.arj_law_parts.specs.moves.Walks.{Up, Walks, halted}
 use Rattle.arj_law_runs.specs.calls.Bindings.{AreSaid, IsSaidBy, bindings_made, bound_by}
 use Rattle.arj_law_runs.proofs.calls.LivedCounts.{GrowsBy, made_in, message_grows}

@@ -18,7 +18,7 @@ use Rattle.arj_law_parts.proofs.parts.InTurn.{told_stays}
 use Rattle.arj_law_parts.proofs.parts.Keys.{put_same, put_other, without_other}
 use Rattle.arj_law_parts.proofs.parts.Pairs.{at_each, each_at}
 use Rattle.arj_law_parts.proofs.parts.ServerRuns.{activate_follows, end_binding, one_follows, invoke_follows}
-use Rattle.arj_law_parts.specs.moves.Seen.{Post}
+use Rattle.arj_promise.specs.Runs.{Post}
 use Rattle.arj_law_runs.specs.calls.Calls.{Call, IsSaidToCommit, is_refusal}
 use Rattle.arj_law_runs.specs.calls.Servers.{AreFromCalls, HasDone, HasReached, IsPast, IsSource}
 

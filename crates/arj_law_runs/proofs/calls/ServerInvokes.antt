@@ -22,7 +22,8 @@ use Rattle.arj_law_parts.proofs.parts.GoodServers.{open_after}
 use Rattle.arj_law_parts.proofs.parts.Keys.{put_same}
 use Rattle.arj_law_parts.proofs.parts.Pairs.{each_at}
 use Rattle.arj_law_parts.proofs.parts.ServerRuns.{end_binding}
-use Rattle.arj_law_parts.specs.moves.Seen.{In, Post}
+use Rattle.arj_law_parts.specs.moves.Seen.{In}
+use Rattle.arj_promise.specs.Runs.{Post}
 use Rattle.arj_law_runs.specs.calls.Calls.{Call, IsAsked, IsRefused, IsSaidToCommit, call_by, is_refusal}
 use Rattle.arj_law_runs.specs.calls.Servers.{AreFromCalls, AreOneCall, AreRefusals, HasDone, HasReached, IsPast, IsRefusal, IsSource, Since}
 use Rattle.arj_law_runs.proofs.calls.ServerCalls.{Each, From, GoesOn, each_written, from_before, from_put, from_told, goes_invoke, never, some_is}

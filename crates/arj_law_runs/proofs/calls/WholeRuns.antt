@@ -23,8 +23,9 @@ use Rattle.arj_law_runs.specs.kept.Worlds.{IsGood}
 use Rattle.arj_law_runs.proofs.kept.AllRuns.{all_keep}
 use Rattle.arj_law_runs.proofs.kept.Walked.{same_number}
 use Rattle.arj_law_parts.specs.moves.Keeps.{Holds, Keeps}
-use Rattle.arj_law_parts.specs.moves.Moves.{world_by}
-use Rattle.arj_law_parts.specs.moves.Seen.{Seen, see, up}
+use Rattle.arj_promise.specs.Runs.{world_by}
+use Rattle.arj_law_parts.specs.moves.Seen.{up}
+use Rattle.arj_promise.specs.Runs.{Seen, see}
 use Rattle.arj_law_runs.specs.calls.Bindings.{AreSaid, HasFewBindings, bindings_made}
 use Rattle.arj_law_runs.specs.calls.Calls.{Call, call_in}
 use Rattle.arj_law_runs.specs.calls.Homes.{NamesIn}

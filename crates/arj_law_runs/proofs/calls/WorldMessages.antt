@@ -33,7 +33,8 @@ use Rattle.arj_law_parts.specs.parts.Claims.{AreTrue}
 use Rattle.arj_law_parts.specs.parts.Copies.{IsTree, Paths}
 use Rattle.arj_law_parts.specs.parts.Ends.{ask_ends, brought_by}
 use Rattle.arj_law_parts.specs.parts.Messages.{FitsAsk, FitsMessage, SealsAsked}
-use Rattle.arj_law_parts.specs.moves.Seen.{In, Post}
+use Rattle.arj_law_parts.specs.moves.Seen.{In}
+use Rattle.arj_promise.specs.Runs.{Post}
 use Rattle.arj_law_runs.specs.calls.Calls.{Call, IsSaidToCommit, call_by, is_refusal, refusal_of, refused_by, refuses}
 use Rattle.arj_law_runs.specs.calls.Coords.{IsVotedIn, KnowsCalls}
 use Rattle.arj_law_runs.specs.calls.Servers.{AreFromCalls, AreOneCall, HaveReached}

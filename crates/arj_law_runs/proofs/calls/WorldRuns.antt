@@ -46,7 +46,8 @@ use Rattle.arj_law_runs.proofs.kept.Handled.{act_good, counted_of, message_good,
 use Rattle.arj_law_runs.proofs.kept.Starts.{first_of, restart_good}
 use Rattle.arj_law_runs.proofs.kept.Walked.{other_number, same_number}
 use Rattle.arj_law_parts.specs.moves.Keeps.{DidKeeps, is_act}
-use Rattle.arj_law_parts.specs.moves.Seen.{In, Post, Seen, at, down, given, said, see, up}
+use Rattle.arj_law_parts.specs.moves.Seen.{In, at, down, given, said, up}
+use Rattle.arj_promise.specs.Runs.{Post, Seen, see}
 use Rattle.arj_law_parts.specs.moves.Walks.{Up, Walks, halted}
 use Rattle.arj_law_parts.proofs.moves.Together.{walks_both, walks_each, walks_to}
 use Rattle.arj_law_runs.specs.calls.Calls.{Call}

@@ -17,7 +17,8 @@ use Rattle.arj_law_parts.specs.parts.Copies.{Paths}
 use Rattle.arj_law_parts.specs.parts.Incs.{KeepsInc}
 use Rattle.arj_law_parts.proofs.parts.GoodCoords.{doing_by}
 use Rattle.arj_law_parts.proofs.parts.SaidIncs.{all_both, all_quiet, stopped_inc, worked_inc}
-use Rattle.arj_law_parts.specs.moves.Seen.{In, Post}
+use Rattle.arj_law_parts.specs.moves.Seen.{In}
+use Rattle.arj_promise.specs.Runs.{Post}
 use Rattle.arj_law_runs.specs.calls.Calls.{refusal_of, refused_by, refuses}
 use Rattle.arj_law_runs.specs.calls.Worlds.{vote_by, vote_in, vote_of}
 use Rattle.arj_law_runs.proofs.calls.CoordSends.{AllSo, SendsSo}

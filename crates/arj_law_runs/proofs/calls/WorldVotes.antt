@@ -29,7 +29,8 @@ use Rattle.arj_law_parts.specs.parts.Messages.{FitsAsk, FitsAsked, FitsMessage, 
 use Rattle.arj_law_parts.proofs.parts.Begun.{on_own}
 use Rattle.arj_law_parts.proofs.parts.GoodCoords.{doing_by}
 use Rattle.arj_law_parts.proofs.parts.GoodTrees.{found_by, over_below}
-use Rattle.arj_law_parts.specs.moves.Seen.{In, Post}
+use Rattle.arj_law_parts.specs.moves.Seen.{In}
+use Rattle.arj_promise.specs.Runs.{Post}
 use Rattle.arj_law_runs.specs.calls.Calls.{Call, IsAsked, IsSaidToCommit, call_in}
 use Rattle.arj_law_runs.specs.calls.Coords.{HasNoServer, IsAnswered, IsCalledBy, IsCovered, IsOwn, IsPlanned, IsSpent, IsThere, IsUsed, IsVotedIn, KnowsCalls, WasRefused, WasSpent}
 use Rattle.arj_law_runs.specs.calls.Servers.{AreFromCalls, IsSource}

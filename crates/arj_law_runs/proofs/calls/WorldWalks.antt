@@ -22,7 +22,8 @@ use Rattle.arj_law_parts.specs.parts.Copies.{Paths}
 use Rattle.arj_law_parts.specs.parts.Messages.{Seals}
 use Rattle.arj_law_parts.proofs.parts.GoodCoords.{doing_by}
 use Rattle.arj_law_runs.proofs.kept.Walked.{other_number, same_number}
-use Rattle.arj_law_parts.specs.moves.Seen.{In, Post, Seen, at, posted, said, up}
+use Rattle.arj_law_parts.specs.moves.Seen.{In, at, posted, said, up}
+use Rattle.arj_promise.specs.Runs.{Post, Seen}
 use Rattle.arj_law_parts.specs.moves.Walks.{Up, Walks}
 use Rattle.arj_law_runs.specs.calls.Calls.{Call, IsAsked, IsRefused, IsSaidToCommit, call_in, call_of, refusal_of}
 use Rattle.arj_law_runs.specs.calls.Coords.{IsOfStep, IsVotedIn, IsWaiting, KnowsCalls, head_of}

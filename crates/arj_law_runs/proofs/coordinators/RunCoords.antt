@@ -32,8 +32,9 @@ use Rattle.arj_law_runs.proofs.coordinators.CoordRooms.{Room, room_acked, room_a
 use Rattle.arj_law_runs.proofs.coordinators.TreeRooms.{room_new}
 use Rattle.arj_law_parts.specs.told.Sends.{HasFewEnds}
 use Rattle.arj_law_parts.specs.moves.Keeps.{Holds, Keeps, is_act}
-use Rattle.arj_law_parts.specs.moves.Moves.{Move, world_by}
-use Rattle.arj_law_parts.specs.moves.Seen.{Seen, at, given, posted, said, see, up}
+use Rattle.arj_promise.specs.Runs.{Move, world_by}
+use Rattle.arj_law_parts.specs.moves.Seen.{at, given, posted, said, up}
+use Rattle.arj_promise.specs.Runs.{Seen, see}
 use Rattle.arj_law_parts.specs.moves.Walks.{Up, Walks, halted}
 use Rattle.arj_law_parts.proofs.moves.Happens.{keeps_asked}
 use Rattle.arj_law_parts.proofs.moves.Moving.{moves_asked}

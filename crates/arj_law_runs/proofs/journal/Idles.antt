@@ -27,7 +27,8 @@ use Rattle.arj_protocol.specs.Words.ending
 use Rattle.arj_protocol.specs.Words.kind
 use Rattle.arj_law_runs.proofs.kept.Handled.{good_coord, one_tree}
 use Rattle.arj_text.specs.Label.{name}
-use Rattle.arj_law_parts.specs.moves.Seen.{Seen, up}
+use Rattle.arj_law_parts.specs.moves.Seen.{up}
+use Rattle.arj_promise.specs.Runs.{Seen}
 use Rattle.arj_law_runs.specs.journal.Book.{Access, Book, book, book_from, is_top, new_book, turned, with_access}
 use Rattle.arj_law_runs.specs.journal.Idle.{IsIdle, IsLeftAlone}
 use Rattle.arj_law_runs.specs.journal.Knows.{HasNoted, IsEnd, IsKept, IsKnown, KnowsUp, root_in}

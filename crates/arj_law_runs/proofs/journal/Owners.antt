@@ -12,7 +12,7 @@ use Rattle.arj_protocol.specs.Tree.{at_place}
 use Rattle.arj_protocol.specs.Words.{Header, Label, label_cmp}
 use Rattle.arj_protocol.specs.World.{Labelled, World}
 use Rattle.arj_law_parts.specs.moves.Keeps.{label_at}
-use Rattle.arj_law_parts.specs.moves.Seen.{see}
+use Rattle.arj_promise.specs.Runs.{see}
 use Rattle.arj_law_runs.specs.calls.Reached.{Keeping}
 use Rattle.arj_law_runs.proofs.calls.Reaching.{kept_holds}
 use Rattle.arj_law_runs.specs.journal.Book.{Book, book}

@@ -29,7 +29,8 @@ use Rattle.arj_law_runs.proofs.kept.Starts.{first_of, restart_good}
 use Rattle.arj_law_runs.proofs.kept.Walked.{same_number}
 use Rattle.arj_law_parts.specs.moves.Keeps.{Keeps, MayGive, is_act, label_at}
 use Rattle.arj_law_parts.specs.moves.Seen as seen
-use Rattle.arj_law_parts.specs.moves.Seen.{AreQuiet, Post, Seen, at, down, given, posted, said, see, up}
+use Rattle.arj_law_parts.specs.moves.Seen.{AreQuiet, at, down, given, posted, said, up}
+use Rattle.arj_promise.specs.Runs.{Post, Seen, see}
 use Rattle.arj_law_parts.specs.moves.Walks.{Up, Walks, halted}
 use Rattle.arj_law_runs.specs.calls.Reached.{Keeping}
 use Rattle.arj_law_runs.proofs.calls.Reaching.{kept_holds}

@@ -38,7 +38,8 @@ use Rattle.arj_law_runs.proofs.kept.Labels.{one_name, put_label}
 use Rattle.arj_law_runs.proofs.kept.Parted.{IsLeft, coord_kept}
 use Rattle.arj_law_runs.proofs.kept.Walked.{other_number}
 use Rattle.arj_law_parts.specs.moves.Keeps.{Keeps, MayGive, is_act, label_at}
-use Rattle.arj_law_parts.specs.moves.Seen.{AreQuiet, Post, Seen, at, down, given, said, see, up}
+use Rattle.arj_law_parts.specs.moves.Seen.{AreQuiet, at, down, given, said, up}
+use Rattle.arj_promise.specs.Runs.{Post, Seen, see}
 use Rattle.arj_law_parts.specs.moves.Seen as seen
 use Rattle.arj_law_parts.specs.moves.Walks.{Up, Walks, halted}
 use Rattle.arj_law_runs.specs.calls.Reached.{Keeping}

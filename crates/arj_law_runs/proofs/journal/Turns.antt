@@ -8,7 +8,8 @@ use Rattle.arj_protocol.specs.Words.{Body, Uid}
 use Rattle.arj_protocol.specs.Words.body
 use Rattle.arj_protocol.specs.Effect.{Disk, Do, Effect, Say, Send}
 use Rattle.arj_protocol.specs.World.{numbered}
-use Rattle.arj_law_parts.specs.moves.Seen.{Post, Seen, posted, said}
+use Rattle.arj_law_parts.specs.moves.Seen.{posted, said}
+use Rattle.arj_promise.specs.Runs.{Post, Seen}
 use Rattle.arj_law_parts.specs.moves.Walks.{Walks}
 use Rattle.arj_law_runs.specs.journal.Book.{Book, book, is_decided, new_book, turned, uid_in}
 use Rattle.arj_law_runs.specs.journal.Knows.{AreIdle, AreLate, decides}

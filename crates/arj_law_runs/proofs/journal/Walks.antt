@@ -21,7 +21,8 @@ use Rattle.arj_law_parts.proofs.parts.TrueSteps.{without_in}
 use Rattle.arj_law_parts.proofs.parts.Truths.{put_in}
 use Rattle.arj_law_runs.proofs.kept.Walked.{other_number, same_number}
 use Rattle.arj_law_parts.specs.moves.Seen as seen
-use Rattle.arj_law_parts.specs.moves.Seen.{AreQuiet, Post, Seen, at, posted, said, up}
+use Rattle.arj_law_parts.specs.moves.Seen.{AreQuiet, at, posted, said, up}
+use Rattle.arj_promise.specs.Runs.{Post, Seen}
 use Rattle.arj_law_parts.specs.moves.Walks.{Up, Walks, halted}
 use Rattle.arj_model.specs.Actions.{is_serial}
 use Rattle.arj_law_runs.specs.journal.Book.{Book, book, is_decided, new_book, turned}

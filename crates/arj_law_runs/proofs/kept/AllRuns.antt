@@ -14,7 +14,8 @@ use Rattle.arj_law_runs.proofs.kept.Begins.{begin_good}
 use Rattle.arj_law_runs.proofs.kept.Handled.{act_good, message_good, stopped_good, tick_good}
 use Rattle.arj_law_runs.proofs.kept.Starts.{first_good, restart_good}
 use Rattle.arj_law_parts.specs.moves.Keeps.{Keeps}
-use Rattle.arj_law_parts.specs.moves.Seen.{Seen, given}
+use Rattle.arj_law_parts.specs.moves.Seen.{given}
+use Rattle.arj_promise.specs.Runs.{Seen}
 use Rattle.arj_law_parts.specs.moves.Walks.{Walks, Up}
 use Rattle.arj_law_parts.proofs.moves.Together.{walks_to}
 

@@ -39,7 +39,8 @@ use Rattle.arj_law_runs.proofs.kept.Handled.{begun_of, good_coord, it, one_tree,
 use Rattle.arj_law_runs.proofs.kept.Labels.{one_name, put_label}
 use Rattle.arj_law_runs.proofs.kept.Walked.{IsMine, Others, others_said, up_good}
 use Rattle.arj_law_parts.specs.moves.Keeps.{DidKeeps, MayGive, kind_below, label_at}
-use Rattle.arj_law_parts.specs.moves.Seen.{In, Post, Seen, given, said, up}
+use Rattle.arj_law_parts.specs.moves.Seen.{In, given, said, up}
+use Rattle.arj_promise.specs.Runs.{Post, Seen}
 
 -- ---- labels
 

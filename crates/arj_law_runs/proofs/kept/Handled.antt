@@ -46,7 +46,8 @@ use Rattle.arj_law_runs.specs.kept.Worlds.{IsUp, IsMemory, IsGoodPlace, IsSo, Is
 use Rattle.arj_law_runs.proofs.kept.Parted.{IsLeft, coord_kept}
 use Rattle.arj_law_runs.proofs.kept.Walked.{same_number, other_number, IsMine, Others, are_kept, walked, down_good}
 use Rattle.arj_law_parts.specs.moves.Keeps.{DidKeeps, is_act}
-use Rattle.arj_law_parts.specs.moves.Seen.{In, Post, Seen, at, up}
+use Rattle.arj_law_parts.specs.moves.Seen.{In, at, up}
+use Rattle.arj_promise.specs.Runs.{Post, Seen}
 use Rattle.arj_law_parts.specs.moves.Walks.{Walks, Up, halted}
 
 -- a commit that is told is among what the message says committed

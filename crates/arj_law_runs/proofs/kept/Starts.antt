@@ -34,7 +34,8 @@ use Rattle.arj_law_parts.proofs.parts.TrueSteps.{faithful_new, later_home, true_
 use Rattle.arj_law_runs.specs.kept.Worlds.{IsGood, IsGoodOf, IsGoodDisk, IsGoodPlace, IsUp}
 use Rattle.arj_law_runs.proofs.kept.Handled.{counted_of, mine_anew, others_of, place_of, stopped_good}
 use Rattle.arj_law_runs.proofs.kept.Walked.{Others, are_kept, down_good, walked}
-use Rattle.arj_law_parts.specs.moves.Seen.{Seen, down, see}
+use Rattle.arj_law_parts.specs.moves.Seen.{down}
+use Rattle.arj_promise.specs.Runs.{Seen, see}
 use Rattle.arj_law_parts.specs.moves.Walks.{Stops, Up, Walks}
 
 -- ---- a restart

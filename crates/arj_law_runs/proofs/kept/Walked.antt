@@ -25,7 +25,8 @@ use Rattle.arj_law_parts.proofs.parts.SaidIncs.{worked_inc, stopped_inc}
 use Rattle.arj_law_parts.proofs.parts.Tellings.{worked_tops, stopped_tops}
 use Rattle.arj_law_parts.proofs.parts.TrueSteps.{worked_home, stopped_home, without_in}
 use Rattle.arj_law_runs.specs.kept.Worlds.{IsGoodDisk, IsUp, IsMemory, IsGoodPlace, IsSettledIn, IsSo, IsGoodWorld, IsGoodOf, AreCommittedIn, IsSaidIn}
-use Rattle.arj_law_parts.specs.moves.Seen.{In, Post, Seen, said, posted}
+use Rattle.arj_law_parts.specs.moves.Seen.{In, said, posted}
+use Rattle.arj_promise.specs.Runs.{Post, Seen}
 use Rattle.arj_law_parts.specs.moves.Walks.{Walks, Up, halted}
 
 pub same_number : (n : ℕ) → (n == n) ≡ true

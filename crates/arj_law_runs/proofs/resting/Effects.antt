@@ -6,10 +6,11 @@ use Rattle.arj_lock.proofs.Members.{in_from, in_to}
 use Rattle.arj_protocol.specs.Words.{Body, Line, Message}
 use Rattle.arj_protocol.specs.Effect.{Abort, Commit, Disk, Do, Effect, Look, Prepare, PutInc, PutIntent, RemoveIntent, Say, Send, worked}
 use Rattle.arj_protocol.specs.Node.{Parts, first_done, first_queued, ran}
-use Rattle.arj_law_parts.specs.moves.Seen.{In, Seen, Within, posted, said}
+use Rattle.arj_law_parts.specs.moves.Seen.{In, Within, posted, said}
+use Rattle.arj_promise.specs.Runs.{Seen}
 use Rattle.arj_law_parts.specs.moves.Walks.{Walks}
 use Rattle.arj_law_parts.proofs.moves.Rounds.{AreLooks}
-use Rattle.arj_law_runs.specs.resting.Waits.{IsSaid}
+use Rattle.arj_promise.specs.Waiting.{IsSaid}
 use Rattle.arj_law_runs.proofs.resting.Ways.{post_of}
 
 -- ---- a handler's effects

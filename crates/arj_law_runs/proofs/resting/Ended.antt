@@ -28,7 +28,8 @@ use Rattle.arj_protocol.specs.Step as input
 use Rattle.arj_protocol.specs.Step.{Input, acts, branch_named, first_reason, is_waiting, is_waiting_now, on_branch, refusal_up, waits, waits_above}
 use Rattle.arj_protocol.specs.Tree.{Branch, at_place, ended_at, is_own, open_below, root_of, uses_object}
 use Rattle.arj_law_parts.specs.moves.Keeps.{is_act}
-use Rattle.arj_law_runs.specs.resting.Answered.{EndsWait, IsAborted, IsAnswerTo, IsAnswered, IsSameWork}
+use Rattle.arj_law_runs.specs.resting.Answered.{EndsWait, IsAborted, IsAnswered}
+use Rattle.arj_promise.specs.Waiting.{IsAnswerTo, IsSameWork}
 use Rattle.arj_law_runs.proofs.resting.Hearing.{Fits, IsHome, all_doing, answered_fits, doomed_work, end_work}
 use Rattle.arj_law_runs.proofs.resting.Quiesces.{again_doing}
 use Rattle.std.proofs.Common.{eqb-true}

@@ -19,14 +19,16 @@ use Rattle.arj_law_runs.proofs.kept.AllRuns.{all_keep}
 use Rattle.arj_law_runs.proofs.kept.Walked.{other_number, same_number}
 use Rattle.arj_law_runs.specs.kept.Worlds.{IsGood}
 use Rattle.arj_law_parts.specs.moves.Keeps.{Holds, Keeps, KeepsOn}
-use Rattle.arj_law_parts.specs.moves.Moves.{Move, all_moved, moved, world_by}
-use Rattle.arj_law_parts.specs.moves.Seen.{Seen, at, down, given, posted, said, see, up}
+use Rattle.arj_promise.specs.Runs.{Move, all_moved, moved, world_by}
+use Rattle.arj_law_parts.specs.moves.Seen.{at, down, given, posted, said, up}
+use Rattle.arj_promise.specs.Runs.{Seen, see}
 use Rattle.arj_law_parts.specs.moves.Walks.{Up, Walks, halted}
 use Rattle.arj_law_parts.proofs.moves.Happens.{arms_hold, event_asked, keeps_asked}
 use Rattle.arj_law_parts.proofs.moves.Moving.{moves_asked}
 use Rattle.arj_law_parts.proofs.moves.Together.{walks_both}
-use Rattle.arj_law_runs.specs.resting.Answered.{EndsWait, HasEnded, HasHalted, IsSameWork, RunsAnswerOrWait, StillWaits}
-use Rattle.arj_law_runs.specs.resting.Waits.{coord_in, coord_of}
+use Rattle.arj_law_runs.specs.resting.Answered.{EndsWait, HasEnded, HasHalted, RunsAnswerOrWait}
+use Rattle.arj_promise.specs.Waiting.{IsSameWork, StillWaits}
+use Rattle.arj_promise.specs.Waiting.{coord_in, coord_of}
 use Rattle.arj_law_runs.proofs.resting.Ended.{Becomes, IsSaidIn, IsStill, acts_become, again_still, begin_still, heard_becomes, same_becomes}
 use Rattle.arj_law_runs.proofs.resting.Hearing.{IsHome}
 use Rattle.arj_law_runs.proofs.resting.Passing.{other_work}

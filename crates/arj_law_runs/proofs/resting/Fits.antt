@@ -11,7 +11,7 @@ use Rattle.arj_protocol.specs.Step as input
 use Rattle.arj_protocol.specs.Step.{Input, first_reason}
 use Rattle.arj_protocol.specs.Tree.{at_place, set_place}
 use Rattle.arj_protocol.specs.World.{Arm, Asked, Frame, Giving, World, as_delivered, as_lost, begins, begins_any, counted, deliver, deliver_frame, format, frame_number, giving, happens, is_quiet, is_up_at, junk_fits, labels_unless, lacks_labels, limited, lose_frame, lowest, most_frames, new_frame, no_labels, node_numbers, node_of, quiesce, quiet_line, reasons, refused_at, run_event, run_unless, says, settle, settle_for, show_all, show_up, steps, tick_all, tick_up}
-use Rattle.arj_law_parts.specs.moves.Moves.{Move, all_moved, moved, world_by}
+use Rattle.arj_promise.specs.Runs.{Move, all_moved, moved, world_by}
 
 abbrev pub Few : World → Type 0
 Few w = length w.frames ≤ most_frames

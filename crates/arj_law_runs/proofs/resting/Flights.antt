@@ -10,10 +10,11 @@ use Rattle.arj_protocol.specs.Effect.{Disk, Do, Effect, Say, Send, worked}
 use Rattle.arj_protocol.specs.Node.{Handled, Here, Parts, Ran, Took, Void, first_done, first_queued, handle_all, most_rounds, next_round, ran, ran_handled, rounds, taken, whole}
 use Rattle.arj_protocol.specs.Step.{Node}
 use Rattle.arj_law_parts.specs.moves.Keeps.{KeepsAsked}
-use Rattle.arj_law_parts.specs.moves.Seen.{In, Post, Seen, said, up}
+use Rattle.arj_law_parts.specs.moves.Seen.{In, said, up}
+use Rattle.arj_promise.specs.Runs.{Post, Seen}
 use Rattle.arj_law_parts.specs.moves.Walks.{Up, Walks}
 use Rattle.arj_law_parts.proofs.moves.Rounds.{AreLooks, LooksAlone, taken_looks, taken_meant}
-use Rattle.arj_law_runs.specs.resting.Waits.{IsSaid}
+use Rattle.arj_promise.specs.Waiting.{IsSaid}
 use Rattle.arj_law_runs.proofs.resting.Effects.{after, after_lines, after_nodes, after_sent, after_within, looks_ran, looks_send, ran_from, ran_here, ran_said, ran_sent, walk_end, works}
 use Rattle.arj_law_runs.proofs.resting.Ways.{AllBut, SentBy, Then, post_of}
 

@@ -31,14 +31,16 @@ use Rattle.arj_protocol.specs.World as world
 use Rattle.arj_protocol.specs.World.{Arm, Asked, World, armed, count_works, counted, cut, disarmed, done_step, frames_with, halted_at, halted_outs, is_given, limited, lowest_from, most_frames, node_of, run_event, run_unless, says as world_says, sends, step_node, step_with, steps, labelled}
 use Rattle.arj_law_runs.specs.kept.Worlds.{IsGood, IsMemory}
 use Rattle.arj_law_parts.specs.moves.Keeps.{Holds, KeepsAsked}
-use Rattle.arj_law_parts.specs.moves.Moves.{Move, all_moved, moved, world_by}
-use Rattle.arj_law_parts.specs.moves.Seen.{Seen}
+use Rattle.arj_promise.specs.Runs.{Move, all_moved, moved, world_by}
+use Rattle.arj_promise.specs.Runs.{Seen}
 use Rattle.arj_law_parts.proofs.moves.Happens.{keeps_asked, place_same}
 use Rattle.arj_law_parts.proofs.moves.Moving.{move_asked, moves_asked, moves_go_on}
 use Rattle.arj_law_parts.proofs.steps.Spoken.{given_node}
-use Rattle.arj_law_runs.specs.resting.Quiet.{AreQuiet, IsGiveUp, NobodyWaits, RoundsSettle, SettlesAll, AreGivenUp, AreIdle, GivesUp}
-use Rattle.arj_law_runs.specs.resting.Rounds.{AnswersWaits, AreUp, WaitOvertaken}
-use Rattle.arj_law_runs.specs.resting.Waits.{IsToSettle, coord_in, coord_of}
+use Rattle.arj_law_runs.specs.resting.Quiet.{RoundsSettle, SettlesAll}
+use Rattle.arj_promise.specs.Resting.{AreQuiet, IsGiveUp, NobodyWaits, AreGivenUp, AreIdle, GivesUp}
+use Rattle.arj_law_runs.specs.resting.Rounds.{AnswersWaits, WaitOvertaken}
+use Rattle.arj_promise.specs.Resting.{AreUp}
+use Rattle.arj_promise.specs.Waiting.{IsToSettle, coord_in, coord_of}
 use Rattle.arj_law_runs.proofs.resting.Fits.{Few, all_few, runs_few}
 use Rattle.arj_law_runs.proofs.resting.Quiesces.{keeps_good, move_answers}
 use Rattle.arj_law_runs.proofs.resting.Quiets.{move_settles}

@@ -15,9 +15,11 @@ use Rattle.arj_protocol.specs.Node.{Handled, Parts, Took, Void, answer_is_meant,
 use Rattle.arj_protocol.specs.Order.{at_uid, has, without_number}
 use Rattle.arj_protocol.specs.Server as server
 use Rattle.arj_protocol.specs.Step.{Node}
-use Rattle.arj_law_parts.specs.moves.Seen.{In, Post, Seen, up}
+use Rattle.arj_law_parts.specs.moves.Seen.{In, up}
+use Rattle.arj_promise.specs.Runs.{Post, Seen}
 use Rattle.arj_law_runs.specs.resting.Rounds.{AnswersWaits, HasCome, IsVoid}
-use Rattle.arj_law_runs.specs.resting.Waits.{AreBrought, IsSaid, coord_in, want_of_call, want_of_commit}
+use Rattle.arj_law_runs.specs.resting.Waits.{AreBrought, want_of_call, want_of_commit}
+use Rattle.arj_promise.specs.Waiting.{IsSaid, coord_in}
 use Rattle.arj_law_runs.proofs.resting.Serving.{HasAnswered, IsServed, serve_served}
 use Rattle.arj_law_runs.proofs.resting.Hearing.{Heard, IsHeardSo, IsHome, Unheard, heard_so}
 use Rattle.arj_law_runs.proofs.resting.Ways.{AllBut, Then, brought_of, heard_stays, other_stays, post_of, put, put_same, request_stays, unheard_stays, void_stays}

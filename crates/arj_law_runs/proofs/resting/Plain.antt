@@ -32,7 +32,7 @@ use Rattle.arj_protocol.specs.Words.kind
 use Rattle.arj_protocol.specs.Words.message
 use Rattle.arj_protocol.specs.Words.prepared
 use Rattle.arj_protocol.specs.Words.voted
-use Rattle.arj_law_runs.specs.resting.Answered.{is_plain, is_refusal}
+use Rattle.arj_promise.specs.Waiting.{is_plain, is_refusal}
 
 -- what an effect says is plain
 abbrev pub says_plain : Effect → Bool

@@ -14,9 +14,10 @@ use Rattle.arj_protocol.specs.Order.{at_number}
 use Rattle.arj_protocol.specs.Ask.{frame_kind}
 use Rattle.arj_protocol.specs.Tree.{at_place}
 use Rattle.arj_protocol.specs.World.{Arm, Cut, Frame, World, armed, as_delivered, bodies, change_frame, count_works, counted, cut, deliver, deliver_frame, disarmed, done_step, halted_at, halted_outs, is_quiet, is_up, is_up_at, limited, lowest, most_frames, node_numbers, numbered, quiesce, quiet_line, reasons, run_event, run_unless, says, sent_line, settle, settle_for, step_node, step_with, steps, tick_all, tick_up}
-use Rattle.arj_law_parts.specs.moves.Moves.{moved, world_by}
+use Rattle.arj_promise.specs.Runs.{moved, world_by}
 use Rattle.arj_law_parts.proofs.moves.Happens.{place_same}
-use Rattle.arj_law_runs.specs.resting.Answered.{EndsWait, HasAnswer, HasEnded, HasHalted, IsAborted, IsAnswerTo, IsAnswered, IsGivenUp, IsPlainIn, QuiescesAnswerOrLeave, QuiescesGiveNothingUp, is_plain, is_refusal}
+use Rattle.arj_law_runs.specs.resting.Answered.{EndsWait, HasEnded, HasHalted, IsAborted, IsAnswered, IsGivenUp, QuiescesAnswerOrLeave, QuiescesGiveNothingUp}
+use Rattle.arj_promise.specs.Waiting.{HasAnswer, IsAnswerTo, IsPlainIn, is_plain, is_refusal}
 use Rattle.arj_law_runs.proofs.resting.EndedRuns.{runs_answer_or_wait}
 use Rattle.arj_law_runs.proofs.resting.Plain.{Good, frame_plain, says_plain, tick_plain}
 use Rattle.arj_law_runs.proofs.resting.Worlds.{frame_idle, steps_up, tick_idle}

@@ -26,14 +26,17 @@ use Rattle.arj_protocol.specs.World.{Asked, World, is_serial_kind, lowest_from, 
 use Rattle.arj_law_runs.proofs.kept.AllRuns.{all_keep}
 use Rattle.arj_law_runs.specs.kept.Worlds.{IsGood, IsGoodPlace}
 use Rattle.arj_law_parts.specs.moves.Keeps.{Holds, KeepsAsked}
-use Rattle.arj_law_parts.specs.moves.Moves.{Move, moved, world_by}
-use Rattle.arj_law_parts.specs.moves.Seen.{In, Post, Seen, given, up}
+use Rattle.arj_promise.specs.Runs.{Move, moved, world_by}
+use Rattle.arj_law_parts.specs.moves.Seen.{In, given, up}
+use Rattle.arj_promise.specs.Runs.{Post, Seen}
 use Rattle.arj_law_parts.specs.moves.Walks.{Up}
 use Rattle.arj_law_parts.proofs.moves.Happens.{arms_hold, keeps_asked}
 use Rattle.arj_law_parts.proofs.moves.Moving.{moves_asked}
 use Rattle.arj_law_parts.proofs.moves.Together.{walks_both}
-use Rattle.arj_law_runs.specs.resting.Rounds.{AnswersWaits, AreUp, WaitOvertaken}
-use Rattle.arj_law_runs.specs.resting.Waits.{AreBrought, Asking, HasWay, IsOvertaken, IsSaid, Want, coord_in, want_of_call, want_of_commit}
+use Rattle.arj_law_runs.specs.resting.Rounds.{AnswersWaits, WaitOvertaken}
+use Rattle.arj_promise.specs.Resting.{AreUp}
+use Rattle.arj_law_runs.specs.resting.Waits.{AreBrought, Asking, HasWay, Want, want_of_call, want_of_commit}
+use Rattle.arj_promise.specs.Waiting.{IsOvertaken, IsSaid, coord_in}
 use Rattle.arj_law_runs.proofs.resting.Effects.{works}
 use Rattle.arj_law_runs.proofs.resting.Fits.{runs_few}
 use Rattle.arj_law_runs.proofs.resting.Flights.{Left, SameWay, with_here}

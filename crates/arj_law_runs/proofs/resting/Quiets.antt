@@ -30,12 +30,14 @@ use Rattle.arj_protocol.specs.World as world
 use Rattle.arj_protocol.specs.World.{World, lowest_from, most_frames, run_event}
 use Rattle.arj_law_runs.specs.kept.Worlds.{IsGood}
 use Rattle.arj_law_parts.specs.moves.Keeps.{Holds, KeepsAsked}
-use Rattle.arj_law_parts.specs.moves.Moves.{Move, moved}
-use Rattle.arj_law_parts.specs.moves.Seen.{In, Post, Seen, see, up}
+use Rattle.arj_promise.specs.Runs.{Move, moved}
+use Rattle.arj_law_parts.specs.moves.Seen.{In, up}
+use Rattle.arj_promise.specs.Runs.{Post, Seen, see}
 use Rattle.arj_law_parts.proofs.moves.Happens.{arms_hold}
-use Rattle.arj_law_runs.specs.resting.Quiet.{Acking, AreIdle, AreKept, AreQuiet, AreSettling, BringsAck, BringsEnd, Ending, IsPrepared, NobodyWaits, Querying, QuiescesSettle, SettlesAll, Telling, TellsCommit, TellsLast}
-use Rattle.arj_law_runs.specs.resting.Rounds.{AreUp}
-use Rattle.arj_law_runs.specs.resting.Waits.{IsSaid, coord_in}
+use Rattle.arj_law_runs.specs.resting.Quiet.{Acking, AreKept, AreSettling, BringsAck, BringsEnd, Ending, IsPrepared, Querying, QuiescesSettle, SettlesAll, Telling, TellsCommit, TellsLast}
+use Rattle.arj_promise.specs.Resting.{AreIdle, AreQuiet, NobodyWaits}
+use Rattle.arj_promise.specs.Resting.{AreUp}
+use Rattle.arj_promise.specs.Waiting.{IsSaid, coord_in}
 use Rattle.arj_law_runs.proofs.resting.Effects.{works}
 use Rattle.arj_law_runs.proofs.resting.Hearing.{has_left}
 use Rattle.arj_law_runs.proofs.resting.Endings.{AreInOrder, Fewer, HasTold, OnlyEnd, ack_ends, ends_fewer, naming_ends, only_on, sent_plain, server_ends, store_ends, told_leaves}

@@ -13,9 +13,10 @@ use Rattle.arj_protocol.specs.Step as input
 use Rattle.arj_protocol.specs.Step.{Node, first_reason, numbers_to}
 use Rattle.arj_protocol.specs.World.{Asked, World, counted, deliver, is_quiet, is_up_at, limited, lowest, lowest_from, most_frames, node_numbers, quiesce, quiet_line, reasons, run_event, run_unless, says, settle, settle_for, steps, tick_all, tick_up}
 use Rattle.arj_law_parts.specs.moves.Keeps.{Holds, KeepsAsked}
-use Rattle.arj_law_parts.specs.moves.Seen.{In, Post, Seen}
+use Rattle.arj_law_parts.specs.moves.Seen.{In}
+use Rattle.arj_promise.specs.Runs.{Post, Seen}
 use Rattle.arj_law_parts.proofs.moves.Happens.{deliver_holds, steps_hold}
-use Rattle.arj_law_runs.specs.resting.Rounds.{AreUp}
+use Rattle.arj_promise.specs.Resting.{AreUp}
 use Rattle.arj_law_runs.proofs.resting.Fits.{Few}
 use Rattle.arj_law_runs.proofs.resting.Flights.{MayGrow, MessagesKeep}
 use Rattle.arj_law_runs.proofs.resting.Worlds.{Flown, Of, TicksGive, Ups, settle_flown, settle_full, settle_up, steps_full, steps_up, tick_flown, tick_idle}

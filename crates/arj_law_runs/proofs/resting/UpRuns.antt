@@ -18,8 +18,9 @@ use Rattle.arj_law_runs.proofs.kept.AllRuns.{all_keep}
 use Rattle.arj_law_runs.proofs.kept.Walked.{other_number, same_number}
 use Rattle.arj_law_runs.specs.kept.Worlds.{IsGood}
 use Rattle.arj_law_parts.specs.moves.Keeps.{Holds, KeepsOn}
-use Rattle.arj_law_parts.specs.moves.Moves.{all_moved, world_by}
-use Rattle.arj_law_parts.specs.moves.Seen.{Seen, at, down, given, posted, said, see, up}
+use Rattle.arj_promise.specs.Runs.{all_moved, world_by}
+use Rattle.arj_law_parts.specs.moves.Seen.{at, down, given, posted, said, up}
+use Rattle.arj_promise.specs.Runs.{Seen, see}
 use Rattle.arj_law_parts.specs.moves.Walks.{Up, Walks, halted}
 use Rattle.arj_law_parts.proofs.moves.Happens.{keeps_asked}
 use Rattle.arj_law_parts.proofs.moves.Moving.{moves_asked, moves_go_on}

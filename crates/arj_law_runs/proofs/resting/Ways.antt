@@ -13,8 +13,9 @@ use Rattle.arj_protocol.specs.Commit.{Machine, ask_of, left_of, plan_of}
 use Rattle.arj_protocol.specs.Coord.{Calling, Committing, Coord, Doing, doing_of}
 use Rattle.arj_protocol.specs.Effect.{Effect, Send}
 use Rattle.arj_protocol.specs.Order.{has}
-use Rattle.arj_law_parts.specs.moves.Seen.{Post}
-use Rattle.arj_law_runs.specs.resting.Waits.{Answering, AreBrought, Asking, AsksFor, Brings, HasWay, IsOvertaken, Want, asked_for, want_of_call, want_of_commit}
+use Rattle.arj_promise.specs.Runs.{Post}
+use Rattle.arj_law_runs.specs.resting.Waits.{Answering, AreBrought, Asking, AsksFor, Brings, HasWay, Want, asked_for, want_of_call, want_of_commit}
+use Rattle.arj_promise.specs.Waiting.{IsOvertaken}
 use Rattle.arj_law_runs.proofs.resting.Serving.{answers_response, asks_no_answer}
 use Rattle.arj_law_runs.proofs.resting.Hearing.{AsksIn, Goes, IsUnasked, Moves, Waited}
 

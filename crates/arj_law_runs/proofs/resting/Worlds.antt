@@ -23,11 +23,12 @@ use Rattle.arj_protocol.specs.Step as input
 use Rattle.arj_protocol.specs.Tree.{at_place, set_place}
 use Rattle.arj_protocol.specs.World.{Arm, Frame, World, armed, as_delivered, bodies, change_frame, count_works, cut, deliver, deliver_frame, disarmed, done_step, frames_with, halted_at, is_open_frame, is_up, is_up_at, lowest, lowest_from, most_frames, new_frame, numbered, overflows, sends, sent_line, settle_for, step_node, step_with, steps}
 use Rattle.arj_law_parts.specs.moves.Keeps.{HasPlace, Holds, IsSent, KeepsAsked}
-use Rattle.arj_law_parts.specs.moves.Seen.{In, Post, Seen, see, up}
+use Rattle.arj_law_parts.specs.moves.Seen.{In, up}
+use Rattle.arj_promise.specs.Runs.{Post, Seen, see}
 use Rattle.arj_law_parts.specs.moves.Walks.{Up, Walks}
 use Rattle.arj_law_parts.proofs.moves.Rounds.{AreLooks, LooksAlone, taken_looks, taken_meant}
 use Rattle.arj_law_parts.proofs.moves.Happens.{deliver_holds, place_same}
-use Rattle.arj_law_runs.specs.resting.Waits.{IsSaid}
+use Rattle.arj_promise.specs.Waiting.{IsSaid}
 use Rattle.arj_law_runs.proofs.resting.Ways.{AllBut, Then, post_of}
 use Rattle.arj_law_runs.proofs.resting.Effects.{looks_send, works}
 use Rattle.arj_law_runs.proofs.resting.Flights.{Left, MayGrow, MessagesKeep, SameWay, in_either, whole_keeps, with_here}

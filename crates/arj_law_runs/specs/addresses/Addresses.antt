@@ -19,7 +19,8 @@ use Rattle.arj_protocol.specs.Tree.{Branch}
 use Rattle.arj_protocol.specs.Values.{state_entry}
 use Rattle.arj_protocol.specs.World.{Frame, World}
 use Rattle.arj_law_runs.specs.kept.Worlds.{IsGood}
-use Rattle.arj_law_parts.specs.moves.Seen.{In, Post, Seen}
+use Rattle.arj_law_parts.specs.moves.Seen.{In}
+use Rattle.arj_promise.specs.Runs.{Post, Seen}
 use Rattle.arj_law_runs.specs.addresses.Binds.{BindsAreKnown}
 
 -- ---- numbers, Uids and entries

@@ -12,7 +12,8 @@ use Rattle.arj_protocol.specs.Step.{Node}
 use Rattle.arj_protocol.specs.Tree.{Branch, Tree, branch_of, is_own, root_of}
 use Rattle.arj_lock.proofs.Members as list
 use Rattle.arj_law_runs.specs.calls.Coords.{IsSpent}
-use Rattle.arj_law_parts.specs.moves.Seen.{In, Post, Seen}
+use Rattle.arj_law_parts.specs.moves.Seen.{In}
+use Rattle.arj_promise.specs.Runs.{Post, Seen}
 
 -- ---- answers to a Bind
 

@@ -6,7 +6,8 @@ use Rattle.arj_protocol.specs.Words.ending
 use Rattle.arj_protocol.specs.Words.invoked
 use Rattle.arj_protocol.specs.Ask.{Reply, answers}
 use Rattle.arj_law_parts.specs.parts.Ends.{brought, told_by}
-use Rattle.arj_law_parts.specs.moves.Seen.{In, Post}
+use Rattle.arj_law_parts.specs.moves.Seen.{In}
+use Rattle.arj_promise.specs.Runs.{Post}
 
 -- a call: who asks, the object, and under which binding in which incarnation of the server
 pub record Call : Type 0 where

@@ -13,7 +13,8 @@ use Rattle.arj_protocol.specs.Tree.{Branch, Tree, branch_of, is_own, root_of}
 use Rattle.arj_lock.proofs.Members as list
 use Rattle.arj_law_parts.specs.parts.Copies.{Paths}
 use Rattle.arj_law_parts.specs.parts.Messages.{IsDecided}
-use Rattle.arj_law_parts.specs.moves.Seen.{In, Post}
+use Rattle.arj_law_parts.specs.moves.Seen.{In}
+use Rattle.arj_promise.specs.Runs.{Post}
 use Rattle.arj_law_runs.specs.calls.Calls.{Call, IsAsked, IsRefused, IsSaidToCommit, call_in}
 
 -- a request without the ends that a call brings

@@ -9,7 +9,8 @@ use Rattle.arj_protocol.specs.Node.{Parts}
 use Rattle.arj_protocol.specs.Order.{at_number, binding_number}
 use Rattle.arj_protocol.specs.Step.{Node}
 use Rattle.arj_law_parts.specs.parts.Lives.{Homes, IsNamingSo, IsPastZero, KnowsServers, NamesAsked, NamesReply, Reach}
-use Rattle.arj_law_parts.specs.moves.Seen.{In, Post, Seen}
+use Rattle.arj_law_parts.specs.moves.Seen.{In}
+use Rattle.arj_promise.specs.Runs.{Post, Seen}
 
 -- numbers of bindings with their servers, the last one first
 abbrev pub Gifts : Type 0

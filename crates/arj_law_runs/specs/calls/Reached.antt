@@ -3,7 +3,7 @@ use Rattle.std.specs.Prelude.{◌≤◌, length}
 use Rattle.arj_protocol.specs.Words.{Header}
 use Rattle.arj_protocol.specs.World.{World, most_labels}
 use Rattle.arj_law_parts.specs.moves.Keeps.{Holds, KeepsAsked}
-use Rattle.arj_law_parts.specs.moves.Seen.{Seen}
+use Rattle.arj_promise.specs.Runs.{Seen}
 use Rattle.arj_law_runs.specs.calls.Bindings.{HasFewBindings}
 
 -- whatever each handler keeps, wherever a stop falls, holds of the world

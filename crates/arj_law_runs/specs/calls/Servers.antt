@@ -8,7 +8,7 @@ use Rattle.arj_protocol.specs.Order.{at_number, at_uid, binding_less, binding_nu
 use Rattle.arj_protocol.specs.Server.{Kept, Server, active_binding, is_told}
 use Rattle.arj_protocol.specs.Step.{Node}
 use Rattle.arj_lock.proofs.Members as list
-use Rattle.arj_law_parts.specs.moves.Seen.{Post}
+use Rattle.arj_promise.specs.Runs.{Post}
 use Rattle.arj_law_runs.specs.calls.Calls.{Call, IsAsked, IsRefused, IsSaidToCommit, is_refusal}
 
 -- The server doesn't run the request any more: it was told of the action's end, ran a later request of it, or answers this one as

@@ -2,7 +2,7 @@
 use Rattle.std.specs.Prelude.{List}
 use Rattle.arj_protocol.specs.Words.{Header}
 use Rattle.arj_law_parts.specs.moves.Keeps.{Holds}
-use Rattle.arj_law_parts.specs.moves.Moves.{Move, journal_by, world_by}
+use Rattle.arj_promise.specs.Runs.{Move, journal_by, world_by}
 use Rattle.arj_law_runs.specs.calls.Bindings.{HasFewBindings}
 use Rattle.arj_law_runs.specs.calls.Runs.{AllChangesAreCalled, AllVotesAreUsed}
 

@@ -20,7 +20,7 @@ use Rattle.arj_protocol.specs.World.{Labelled}
 use Rattle.arj_law_runs.specs.kept.Worlds.{IsGood}
 use Rattle.arj_law_parts.specs.moves.Keeps.{label_at}
 use Rattle.arj_law_parts.specs.moves.Seen as seen
-use Rattle.arj_law_parts.specs.moves.Seen.{Post, Seen}
+use Rattle.arj_promise.specs.Runs.{Post, Seen}
 use Rattle.arj_law_runs.specs.journal.Book.{Access, Book, book, new_book, turned, uid_in, is_decided, is_over}
 use Rattle.arj_law_runs.specs.journal.Right.{AreRight, IsSaid, MayBeFound, Right}
 

@@ -9,7 +9,7 @@ use Rattle.arj_protocol.specs.Step.{Node}
 use Rattle.arj_protocol.specs.Tree.{Branch, at_place, branch_of}
 use Rattle.arj_protocol.specs.World.{World}
 use Rattle.arj_law_runs.specs.kept.Worlds.{IsGoodOf}
-use Rattle.arj_law_parts.specs.moves.Seen.{Seen}
+use Rattle.arj_promise.specs.Runs.{Seen}
 use Rattle.arj_law_runs.specs.journal.Book.{book}
 use Rattle.arj_law_runs.specs.journal.Knows.{IsWritten}
 

@@ -17,7 +17,8 @@ use Rattle.arj_law_parts.specs.parts.Incs.{SaysInc}
 use Rattle.arj_law_parts.specs.parts.Messages.{AreOfTops, FitsMessage, Seals}
 use Rattle.arj_law_parts.specs.parts.Nodes.{IsGoodNode}
 use Rattle.arj_law_parts.specs.moves.Keeps.{label_at}
-use Rattle.arj_law_parts.specs.moves.Seen.{In, Post, Seen}
+use Rattle.arj_law_parts.specs.moves.Seen.{In}
+use Rattle.arj_promise.specs.Runs.{Post, Seen}
 
 -- The records on node k's disk are of tops that were begun there, in this incarnation or an earlier one.
 pub record IsGoodDisk (acts : List Action) (k : ℕ) (d : Disk) : Type 0 where

@@ -18,18 +18,17 @@ use Rattle.arj_law_parts.specs.parts.Coords.{IsCommitting}
 use Rattle.arj_law_parts.specs.parts.Objects.{AreSorted}
 use Rattle.arj_law_runs.specs.kept.Worlds.{IsGood}
 use Rattle.arj_law_parts.specs.moves.Keeps.{Holds, KeepsAsked}
-use Rattle.arj_law_parts.specs.moves.Moves.{Move, all_moved, moved, world_by}
-use Rattle.arj_law_parts.specs.moves.Seen.{In, Post, Seen, up}
-use Rattle.arj_law_runs.specs.resting.Rounds.{AnswersWaits, AreUp}
-use Rattle.arj_law_runs.specs.resting.Waits.{coord_in}
+use Rattle.arj_promise.specs.Runs.{Move, all_moved, moved, world_by}
+use Rattle.arj_law_parts.specs.moves.Seen.{In, up}
+use Rattle.arj_promise.specs.Runs.{Post, Seen}
+use Rattle.arj_law_runs.specs.resting.Rounds.{AnswersWaits}
+use Rattle.arj_promise.specs.Resting.{AreUp}
+use Rattle.arj_promise.specs.Waiting.{coord_in}
+use Rattle.arj_promise.specs.Resting.{AreGivenUp, AreIdle, AreQuiet, IsGiveUp, NobodyWaits}
 
 -- the action is prepared on the disk, by its store or by naming
 abbrev pub IsPrepared : Uid → Disk → Type 0
 IsPrepared u d = (is_prepared u d.store ≡ true) ⊎ (is_prepared u d.names ≡ true)
-
--- no action waits at the coordinator
-abbrev pub AreIdle : Coord → Type 0
-AreIdle c = AllByRecursion (λ (d : Doing). d.now ≡ Idle) c.doings
 
 -- ---- what is under way
 
@@ -83,14 +82,6 @@ pub record SettlesAll (hd : Header) (R : Seen → Type 0) : Type 0 where
 
 -- ---- what a quiesce leaves
 
--- nobody waits at the nodes of the header
-abbrev pub NobodyWaits : World → Type 0
-NobodyWaits w = (k : ℕ) (c : Coord) → is_node k w ≡ true → coord_in (at_place k w.nodes) ≡ Some c → AreIdle c
-
--- each node of the header is idle: up, with no action that waits, no prepared action and no record
-abbrev pub AreQuiet : World → Type 0
-AreQuiet w = (k : ℕ) (a : Node) → is_node k w ≡ true → at_place k w.nodes ≡ Some a → is_idle a ≡ true
-
 -- After a quiesce that begins where nobody waits and no frame is open, in which every node stays up and no limit is met, each node is idle,
 -- whatever stops were to fall in it.
 abbrev pub QuiescesSettle : Type 0
@@ -99,21 +90,6 @@ QuiescesSettle = (hd : Header) (test : Seen → Bool) → KeepsAsked hd (λ M. t
     → e.event ≡ event.Quiesce → w.over ≡ false → (run_event e w).over ≡ false → AreUp (run_event e w) → AreQuiet (run_event e w)
 
 -- ---- the stated round
-
--- the event gives up what an action waits for
-abbrev pub IsGiveUp : Move → Type 0
-IsGiveUp m = (l : Label) × (m.asked.event ≡ event.GiveUp l)
-
--- the event gives up what this action of the node's coordinator waits for: its label stands for the action there
-pub record GivesUp (w : World) (k : ℕ) (c : Coord) (u : Uid) (m : Move) : Type 0 where
-  pub label : Label
-  pub is : m.asked.event ≡ event.GiveUp label
-  pub node : node_of label w ≡ k
-  pub number : number_of label c ≡ Some u.num
-
--- each action that waits at a node of the header is given up by one of these events
-abbrev pub AreGivenUp : List Move → World → Type 0
-AreGivenUp gs w = (k : ℕ) (c : Coord) (u : Uid) (q : Doing) → is_node k w ≡ true → coord_in (at_place k w.nodes) ≡ Some c → doing_of u c ≡ Some q → is_waiting_now q.now ≡ true → (m : Move) × Contains gs m × GivesUp w k c u m
 
 -- After a quiesce, giveups of each action that waits then, and a second quiesce, each node is idle: where every node is up at the end of both,
 -- whatever stops fall, and no limit is met. So it is behind any giveups where nobody waits then.

@@ -13,8 +13,10 @@ use Rattle.arj_protocol.specs.Order.{has}
 use Rattle.arj_protocol.specs.Step.{is_waiting_now}
 use Rattle.arj_protocol.specs.Tree.{at_place}
 use Rattle.arj_protocol.specs.World.{Asked, World, is_node, is_up_at}
-use Rattle.arj_law_parts.specs.moves.Seen.{In, Post, Seen, up}
-use Rattle.arj_law_runs.specs.resting.Waits.{AsksFor, IsOvertaken, IsSaid, Want, coord_in, want_of_call, want_of_commit}
+use Rattle.arj_law_parts.specs.moves.Seen.{In, up}
+use Rattle.arj_promise.specs.Runs.{Post, Seen}
+use Rattle.arj_law_runs.specs.resting.Waits.{AsksFor, Want, want_of_call, want_of_commit}
+use Rattle.arj_promise.specs.Waiting.{IsOvertaken, IsSaid, coord_in}
 
 -- the message changes nothing
 abbrev pub IsVoid : Handled → Type 0
@@ -40,10 +42,6 @@ pub record AnswersWaits (hd : Header) (R : Seen → Type 0) : Type 0 where
       → doing_of a.act t.coord ≡ Some q → q.now ≡ Calling s → waits_for_call p.from a r s ≡ true → reply_is_meant t.coord a r ≡ true
   pub commits : (j : ℕ) (d : Disk) (t : Parts) (M : Seen) (c : Coord) (u : Uid) (q : Doing) (m : Machine) (n : ℕ) → R (up j d t M) → doing_of u c ≡ Some q → q.now ≡ Committing m → has (left_of m) n ≡ true → (h : HasCome j (up j d t M) c (want_of_commit u m n))
       → IsVoid (taken j d t (let p = h.post in p.from) (let p = h.post in p.message)) → ⊥
-
--- every node of the header is up
-abbrev pub AreUp : World → Type 0
-AreUp w = (k : ℕ) → is_node k w ≡ true → is_up_at k w ≡ true
 
 -- At the nodes of the header whoever waits is a call that is overtaken, or a commit that waits for no node.
 abbrev pub WaitOvertaken : World → Type 0

@@ -5,8 +5,8 @@ use Rattle.arj_law_parts.specs.steps.Halts.{halted_node}
 use Rattle.arj_protocol.specs.Words.{Header, Line}
 use Rattle.arj_protocol.specs.Words.body
 use Rattle.arj_protocol.specs.World.{is_up_at}
-use Rattle.arj_law_parts.specs.moves.Moves.{Move, all_moved, world_by}
-use Rattle.arj_law_runs.specs.resting.Rounds.{AreUp}
+use Rattle.arj_promise.specs.Runs.{Move, all_moved, world_by}
+use Rattle.arj_promise.specs.Resting.{AreUp}
 
 -- a line behind the old ones says that the node halted
 pub record SaysHalted (k : ℕ) (old new : List Line) : Type 0 where

@@ -9,7 +9,8 @@ use Rattle.arj_protocol.specs.Coord.{Calling, Committing, Coord, Doing, doing_of
 use Rattle.arj_protocol.specs.Node.{Parts}
 use Rattle.arj_protocol.specs.Order.{binding_less, has}
 use Rattle.arj_protocol.specs.Step.{Node}
-use Rattle.arj_law_parts.specs.moves.Seen.{Post}
+use Rattle.arj_promise.specs.Runs.{Post}
+use Rattle.arj_promise.specs.Waiting.{IsOvertaken}
 
 -- an action's request: by which number it asks, for which kind of answer, and which node
 pub record Want : Type 0 where
@@ -54,34 +55,6 @@ pub record HasWay (under : Post → Type 0) (k : ℕ) (w : Want) : Type 0 where
   pub post : Post
   pub under_way : under post
   pub brings : Brings k w post
-
--- the step stands on this binding, which its server is to take or naming to record
-abbrev pub IsToSettle : At → Known → Type 0
-IsToSettle (AtActivate k st) q = k ≡ q
-IsToSettle (AtNote k i) q = k ≡ q
-IsToSettle at q = ⊥
-
--- The call is overtaken: it asks a server to take a binding, or naming to record it, and a greater one of its object was made by a line.
-pub record IsOvertaken (said : Body → Type 0) (s : Steps) : Type 0 where
-  pub known : Known
-  pub step : IsToSettle s.at known
-  pub binding : Binding
-  pub server : ℕ
-  pub line : said (body.Bound s.x binding server)
-  pub greater : binding_less known.binding binding ≡ true
-
--- a line says so
-abbrev pub IsSaid : List Line → Body → Type 0
-IsSaid lines b = (l : Line) × Contains lines l × (l.body ≡ b)
-
--- the coordinator of a node that is up
-abbrev pub coord_of : Parts → Coord
-coord_of t = t.coord
-
--- the coordinator of a node that is there and up
-abbrev pub coord_in : Option Node → Option Coord
-coord_in None = None
-coord_in (Some n) = option_map coord_of n.live
 
 -- At these coordinators, for each call, include and commit that waits, what answers it is under way, unless it is overtaken.
 pub record AreBrought (nodes : ℕ → Type 0) (coords : ℕ → Option Coord) (under : Post → Type 0) (said : Body → Type 0) : Type 0 where

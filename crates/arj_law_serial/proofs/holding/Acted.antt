@@ -4,7 +4,7 @@ use Rattle.arj_lock.proofs.Members.{In, in_from, in_to}
 use Rattle.arj_model.specs.Actions.{Act, Begun, acts, acts_from, begun_of, numbered}
 use Rattle.arj_protocol.specs.Words.{Line, uids_of}
 use Rattle.arj_law_parts.specs.parts.Actions.{Action}
-use Rattle.arj_law_parts.specs.moves.Seen.{Seen}
+use Rattle.arj_promise.specs.Runs.{Seen}
 use Rattle.arj_law_runs.specs.journal.Paths.{AreAlike, IsAlikeOf}
 use Rattle.arj_law_runs.proofs.journal.Models.{its_acts}
 use Rattle.arj_law_serial.proofs.holding.Lines.{acts_on}

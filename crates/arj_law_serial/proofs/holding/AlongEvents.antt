@@ -14,7 +14,7 @@ use Rattle.arj_protocol.specs.Tree.{at_place}
 use Rattle.arj_protocol.specs.World.{Asked, World, counted, format, giving, happens, lacks_labels, limited, no_labels, numbered, reasons, run_event, run_unless}
 use Rattle.arj_law_parts.specs.parts.Actions.{Action}
 use Rattle.arj_law_parts.specs.moves.Keeps.{Holds}
-use Rattle.arj_law_parts.specs.moves.Seen.{Seen, see}
+use Rattle.arj_promise.specs.Runs.{Seen, see}
 use Rattle.arj_law_parts.proofs.moves.Happens.{arms_hold, event_asked, first_asked}
 use Rattle.arj_law_runs.specs.journal.Paths.{IsAlikeOf}
 use Rattle.arj_law_lock.specs.machine.State.{State}

@@ -22,7 +22,8 @@ use Rattle.arj_protocol.proofs.CoordSays.{acts_own, again_own, map_own, tolds_ag
 use Rattle.arj_protocol.proofs.PartSays.{all_both}
 use Rattle.arj_law_parts.specs.parts.Actions.{Action}
 use Rattle.arj_law_parts.specs.moves.Keeps.{KeepsFrom, KeepsOn}
-use Rattle.arj_law_parts.specs.moves.Seen.{In, Seen, at, down, given, said, see, up}
+use Rattle.arj_law_parts.specs.moves.Seen.{In, at, down, given, said, up}
+use Rattle.arj_promise.specs.Runs.{Seen, see}
 use Rattle.arj_law_parts.specs.moves.Walks.{Up, Walks, halted}
 use Rattle.arj_law_parts.proofs.moves.Together.{walks_both, walks_to}
 use Rattle.arj_law_runs.specs.calls.Runs.{KnowsFew}

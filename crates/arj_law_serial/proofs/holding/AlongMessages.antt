@@ -21,7 +21,8 @@ use Rattle.arj_protocol.specs.Node.{Parts, Took, handle, is_meant}
 use Rattle.arj_protocol.specs.Server.{apply_ends}
 use Rattle.arj_law_parts.specs.parts.Actions.{Action, AreBegun}
 use Rattle.arj_law_parts.specs.parts.Messages.{FitsMessage}
-use Rattle.arj_law_parts.specs.moves.Seen.{Seen, is_quiet_line, up}
+use Rattle.arj_law_parts.specs.moves.Seen.{is_quiet_line, up}
+use Rattle.arj_promise.specs.Runs.{Seen}
 use Rattle.arj_law_parts.specs.moves.Walks.{Up, Walks}
 use Rattle.arj_law_parts.proofs.moves.Together.{walks_to}
 use Rattle.arj_law_runs.specs.journal.Paths.{AreAlike}

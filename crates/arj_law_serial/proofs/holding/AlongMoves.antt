@@ -7,8 +7,8 @@ use Rattle.arj_protocol.specs.Words.{Event, Header}
 use Rattle.arj_protocol.specs.Words.event
 use Rattle.arj_protocol.specs.World.{Asked, World, format, run_event}
 use Rattle.arj_law_parts.specs.moves.Keeps.{Holds}
-use Rattle.arj_law_parts.specs.moves.Moves.{Move, all_moved, journal_by, moved, world_by}
-use Rattle.arj_law_parts.specs.moves.Seen.{Seen, see}
+use Rattle.arj_promise.specs.Runs.{Move, all_moved, journal_by, moved, world_by}
+use Rattle.arj_promise.specs.Runs.{Seen, see}
 use Rattle.arj_law_runs.specs.calls.Reached.{IsReached}
 use Rattle.arj_law_runs.proofs.bindings.Events.{moves_reached}
 use Rattle.arj_law_disk_view.specs.running.Kinds.{kinds_of}

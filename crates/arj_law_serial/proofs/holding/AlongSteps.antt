@@ -16,7 +16,8 @@ use Rattle.arj_protocol.specs.Says.{AreAll, is_coord_effect}
 use Rattle.arj_protocol.specs.Step.{Node, parts_in, restart_outs}
 use Rattle.arj_protocol.specs.World.{numbered}
 use Rattle.arj_law_parts.specs.parts.Actions.{Action}
-use Rattle.arj_law_parts.specs.moves.Seen.{Seen, at, down, said, up}
+use Rattle.arj_law_parts.specs.moves.Seen.{at, down, said, up}
+use Rattle.arj_promise.specs.Runs.{Seen}
 use Rattle.arj_law_parts.specs.moves.Walks.{Up, Walks, halted}
 use Rattle.arj_law_parts.proofs.moves.Together.{walks_both, walks_to}
 use Rattle.arj_law_lock.specs.machine.State.{State}

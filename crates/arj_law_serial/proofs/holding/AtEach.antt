@@ -13,9 +13,9 @@ use Rattle.arj_model.specs.Actions.{Act, Begun, Placed, acts, acts_after, acts_f
 use Rattle.arj_model.specs.Calls.{Call, Said, Top, committed_calls, said, said_of, tops}
 use Rattle.arj_model.specs.Last.{Inclusion, included, included_of}
 use Rattle.arj_model.specs.Serial.{Values, unit_place}
-use Rattle.arj_law.specs.Held.{AreAtOneNode, IsHeldAt, locks_for, tables_of, unit_end}
+use Rattle.arj_model.specs.Held.{AreAtOneNode, IsHeldAt, locks_for, tables_of, unit_end}
 use Rattle.arj_law_parts.specs.parts.Actions.{Action, act_of, paths_of}
-use Rattle.arj_law_parts.specs.moves.Seen.{Seen}
+use Rattle.arj_promise.specs.Runs.{Seen}
 use Rattle.arj_law_runs.specs.journal.Book.{new_book}
 use Rattle.arj_law_runs.specs.journal.Laws.{called_of}
 use Rattle.arj_law_runs.specs.journal.Paths.{AreAlike, IsAlikeOf}
@@ -28,7 +28,8 @@ use Rattle.arj_law_lock_view.specs.running.Fixed.{AgreesAs, Fixed}
 use Rattle.arj_law_lock_view.specs.running.Sees.{SeesLocks}
 use Rattle.arj_law_lock_view.specs.running.Tied.{AreTied}
 use Rattle.arj_law_serial.specs.order.Codes.{code_of}
-use Rattle.arj_law_serial.specs.order.Locked.{IsHeldByUpper, IsSeenAt, IsWrittenIn, caller_at, joins_top, joins_with, locks_call, locks_entry, ran_at, writes_entry}
+use Rattle.arj_law_serial.specs.order.Locked.{IsHeldByUpper, IsSeenAt, ran_at}
+use Rattle.arj_promise.specs.Held.{IsWrittenIn, caller_at, joins_top, joins_with, locks_call, locks_entry, writes_entry}
 use Rattle.arj_law_serial.specs.order.Seen.{IsCalled, RequestsAreOne}
 use Rattle.arj_law_serial.specs.order.Tied.{AreApart, Began, IsTied, path_of}
 use Rattle.arj_law_serial.proofs.order.Begun.{path_same}
@@ -37,7 +38,7 @@ use Rattle.arj_law_serial.proofs.order.Locks.{answered, at_one_node, called_by, 
 use Rattle.arj_law_serial.proofs.order.Order.{IsShown, shown, top_item}
 use Rattle.arj_law_serial.proofs.order.Paths.{own_there}
 use Rattle.arj_law_serial.proofs.order.Seeing.{agrees_at, fixed_at, tied_at, tree}
-use Rattle.arj_law_serial.specs.holding.Along.{HoldsEach}
+use Rattle.arj_promise.specs.Held.{HoldsEach}
 use Rattle.arj_law_serial.proofs.holding.Acted.{HasActs}
 use Rattle.arj_law_serial.proofs.holding.Names.{IsNamed}
 use Rattle.arj_law_serial.proofs.holding.Places.{IsPlaced}

@@ -31,8 +31,8 @@ use Rattle.arj_law_disk_view.proofs.running.Lists.{all_keys}
 use Rattle.arj_law_parts.proofs.steps.Spoken.{first_not, not_not}
 use Rattle.arj_law_runs.proofs.kept.Starts.{first_at}
 use Rattle.arj_law_parts.specs.moves.Keeps.{Holds}
-use Rattle.arj_law_parts.specs.moves.Moves.{AfterMoves, Move, moved}
-use Rattle.arj_law_parts.specs.moves.Seen.{Seen, see}
+use Rattle.arj_promise.specs.Runs.{AfterMoves, Move, moved}
+use Rattle.arj_promise.specs.Runs.{Seen, see}
 use Rattle.arj_law_parts.proofs.moves.Happens.{arms_hold, event_asked, first_asked, place_same}
 use Rattle.arj_law_runs.proofs.journal.Paths.{first_pathed}
 use Rattle.arj_law_serial.specs.tables.Tables.{rows_on, up_of}

@@ -25,7 +25,8 @@ use Rattle.arj_law_parts.proofs.parts.Keys.{order_itself, sorted_put}
 use Rattle.arj_law_runs.specs.addresses.Addresses.{IsEntry}
 use Rattle.arj_law_runs.proofs.kept.Begins.{its_uid}
 use Rattle.arj_law_runs.proofs.kept.Starts.{first_at}
-use Rattle.arj_law_parts.specs.moves.Seen.{Seen, at, given, posted, said}
+use Rattle.arj_law_parts.specs.moves.Seen.{at, given, posted, said}
+use Rattle.arj_promise.specs.Runs.{Seen}
 use Rattle.arj_law_parts.specs.moves.Walks.{Up, Walks}
 use Rattle.arj_law_serial.specs.past.Told.{ArePastIn}
 use Rattle.arj_law_serial.proofs.past.Past.{past_of}

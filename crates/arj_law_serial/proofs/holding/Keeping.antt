@@ -14,7 +14,8 @@ use Rattle.arj_protocol.specs.Laws.{Holders, rows_after, rows_by, server_rows}
 use Rattle.arj_protocol.specs.Node.{Parts}
 use Rattle.arj_protocol.specs.Says.{AreAll, is_coord_effect, is_coord_line}
 use Rattle.arj_protocol.specs.World.{numbered}
-use Rattle.arj_law_parts.specs.moves.Seen.{AreQuiet, Post, Seen, at, posted, said, up}
+use Rattle.arj_law_parts.specs.moves.Seen.{AreQuiet, at, posted, said, up}
+use Rattle.arj_promise.specs.Runs.{Post, Seen}
 use Rattle.arj_law_parts.specs.moves.Walks.{Up, Walks, halted}
 use Rattle.arj_law_serial.specs.tables.Tables.{IsOfPart, holders_in, is_steady, rows_on, up_of}
 use Rattle.arj_law_serial.proofs.tables.Effects.{acts_stay}

@@ -23,7 +23,8 @@ use Rattle.arj_protocol.proofs.Quiet.{all_quiet, coord_quiet}
 use Rattle.arj_law_parts.specs.parts.Actions.{Action, AreBegun}
 use Rattle.arj_law_parts.specs.parts.Ends.{ask_ends, brought_by, told_by}
 use Rattle.arj_law_parts.specs.parts.Messages.{FitsAsk, FitsAsked, FitsMessage, IsAsker}
-use Rattle.arj_law_parts.specs.moves.Seen.{Post, Seen, up}
+use Rattle.arj_law_parts.specs.moves.Seen.{up}
+use Rattle.arj_promise.specs.Runs.{Post, Seen}
 use Rattle.arj_law_parts.specs.moves.Walks.{Up, Walks}
 use Rattle.arj_law_runs.specs.journal.Paths.{AreAlike}
 use Rattle.arj_law_serial.specs.past.Told.{IsNamedBy, SaysPast}

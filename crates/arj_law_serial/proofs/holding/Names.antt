@@ -16,7 +16,7 @@ use Rattle.arj_protocol.specs.Node.{Parts}
 use Rattle.arj_protocol.specs.Order.{at_number}
 use Rattle.arj_protocol.specs.Step.{Node}
 use Rattle.arj_law_parts.specs.parts.Actions.{Action, act_of}
-use Rattle.arj_law_parts.specs.moves.Seen.{Seen}
+use Rattle.arj_promise.specs.Runs.{Seen}
 use Rattle.arj_law_disk_view.proofs.view.Notes.{all_at}
 use Rattle.arj_law_disk_view.specs.running.Places.{IsEntryRow}
 use Rattle.arj_law_lock.specs.machine.Machine.{Run, start}

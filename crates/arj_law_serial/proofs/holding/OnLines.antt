@@ -17,7 +17,8 @@ use Rattle.arj_protocol.specs.Server.{Server, apply_ends}
 use Rattle.arj_protocol.specs.World.{numbered}
 use Rattle.arj_law_parts.specs.parts.Actions.{Action}
 use Rattle.arj_law_runs.specs.journal.Paths.{IsAlikeOf}
-use Rattle.arj_law_parts.specs.moves.Seen.{AreQuiet, Seen, is_quiet_line, said, up}
+use Rattle.arj_law_parts.specs.moves.Seen.{AreQuiet, is_quiet_line, said, up}
+use Rattle.arj_promise.specs.Runs.{Seen}
 use Rattle.arj_law_lock.specs.machine.Machine.{Run}
 use Rattle.arj_law_lock.specs.machine.State.{State}
 use Rattle.arj_law_lock.proofs.machine.Order.{go_on}

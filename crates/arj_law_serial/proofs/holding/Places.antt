@@ -15,7 +15,7 @@ use Rattle.arj_protocol.specs.Step.{Node}
 use Rattle.arj_law_parts.specs.parts.Actions.{Action}
 use Rattle.arj_law_parts.specs.parts.Servers.{KnowsActions}
 use Rattle.arj_law_runs.specs.kept.Worlds.{IsGoodOf, IsMemory, IsUp}
-use Rattle.arj_law_parts.specs.moves.Seen.{Seen}
+use Rattle.arj_promise.specs.Runs.{Seen}
 use Rattle.arj_law_lock.specs.machine.Machine.{Run, start, stay}
 use Rattle.arj_law_lock.specs.machine.State.{Server, State}
 use Rattle.arj_law_lock.proofs.machine.Order.{go_on}

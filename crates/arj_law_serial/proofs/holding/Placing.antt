@@ -10,7 +10,7 @@ use Rattle.arj_model.specs.Actions.{Act, Placed, acts_after, chain_in, committed
 use Rattle.arj_model.specs.Calls.{Call, Said, Top, said_of, tops}
 use Rattle.arj_model.specs.Last.{Inclusion, included, included_of}
 use Rattle.arj_model.specs.Serial.{Values, unit_place}
-use Rattle.arj_law.specs.Held.{unit_end}
+use Rattle.arj_model.specs.Held.{unit_end}
 use Rattle.arj_law_runs.specs.journal.Book.{new_book}
 use Rattle.arj_law_runs.specs.journal.Laws.{called_of}
 use Rattle.arj_law_runs.specs.journal.Right.{AreRight}
@@ -19,7 +19,8 @@ use Rattle.arj_law_lock.specs.machine.State.{Server, State}
 use Rattle.arj_law_lock.specs.machine.Machine.{Run}
 use Rattle.arj_law_lock.proofs.machine.Roots.{roots_low, start_low}
 use Rattle.arj_law_lock_view.specs.view.Rows.{SeesRows}
-use Rattle.arj_law_serial.specs.order.Locked.{AreRowsSeen, IsHeldByUpper, IsSeenAt, IsWrittenIn, locks_call, locks_entry, ran_at}
+use Rattle.arj_law_serial.specs.order.Locked.{AreRowsSeen, IsHeldByUpper, IsSeenAt, ran_at}
+use Rattle.arj_promise.specs.Held.{IsWrittenIn, locks_call, locks_entry}
 use Rattle.arj_law_serial.specs.order.Tied.{Began, IsTied, path_of}
 use Rattle.arj_law_serial.proofs.order.Locks.{closes, entries_by, found_call, here, last_top, m, objects_by, same_node, survives_on, tie, unit_last, zero_yet}
 use Rattle.arj_law_serial.proofs.order.Joins.{written_in}

@@ -15,7 +15,8 @@ use Rattle.arj_protocol.specs.Step.{Node}
 use Rattle.arj_protocol.specs.World.{numbered}
 use Rattle.arj_law_parts.specs.parts.Actions.{Action}
 use Rattle.arj_law_runs.specs.kept.Worlds.{IsGoodOf}
-use Rattle.arj_law_parts.specs.moves.Seen.{Seen, is_quiet_line}
+use Rattle.arj_law_parts.specs.moves.Seen.{is_quiet_line}
+use Rattle.arj_promise.specs.Runs.{Seen}
 use Rattle.arj_law_lock.specs.machine.State as machine
 use Rattle.arj_law_lock.specs.machine.State.{State}
 use Rattle.arj_law_lock.specs.machine.Machine.{Run, stay}

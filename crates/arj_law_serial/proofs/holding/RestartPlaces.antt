@@ -15,7 +15,8 @@ use Rattle.arj_protocol.specs.Tree.{at_place}
 use Rattle.arj_protocol.specs.World.{Arm, Asked, World, counted, limited, numbered, reasons, run_event, run_unless, says, steps}
 use Rattle.arj_law_parts.specs.parts.Actions.{Action}
 use Rattle.arj_law_runs.specs.kept.Worlds.{IsGoodOf}
-use Rattle.arj_law_parts.specs.moves.Seen.{AreQuiet, Post, is_quiet_line, see}
+use Rattle.arj_law_parts.specs.moves.Seen.{AreQuiet, is_quiet_line}
+use Rattle.arj_promise.specs.Runs.{Post, see}
 use Rattle.arj_law_lock.specs.machine.State.{State}
 use Rattle.arj_law_lock_view.specs.running.Fixed.{Agrees, Fixed}
 use Rattle.arj_law_lock_view.specs.running.Sees.{SeesLocks}

@@ -18,7 +18,8 @@ use Rattle.arj_protocol.proofs.CoordSays.{acts_own, again_own, map_own, tolds_ag
 use Rattle.arj_protocol.proofs.PartSays.{all_both}
 use Rattle.arj_law_parts.specs.parts.Actions.{Action}
 use Rattle.arj_law_parts.specs.moves.Keeps.{KeepsFrom}
-use Rattle.arj_law_parts.specs.moves.Seen.{Seen, down, given, said, up}
+use Rattle.arj_law_parts.specs.moves.Seen.{down, given, said, up}
+use Rattle.arj_promise.specs.Runs.{Seen}
 use Rattle.arj_law_parts.specs.moves.Walks.{Up, Walks}
 use Rattle.arj_law_parts.proofs.moves.Together.{walks_both, walks_to}
 use Rattle.arj_law_runs.specs.journal.Paths.{AreAlike}

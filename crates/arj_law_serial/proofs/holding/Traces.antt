@@ -16,7 +16,8 @@ use Rattle.arj_protocol.specs.Says.{AreAll, is_coord_effect}
 use Rattle.arj_protocol.specs.Step.{Node}
 use Rattle.arj_protocol.specs.World.{numbered}
 use Rattle.arj_protocol.proofs.Quiet.{coord_quiet}
-use Rattle.arj_law_parts.specs.moves.Seen.{AreQuiet, Post, Seen, is_quiet_line, posted, said}
+use Rattle.arj_law_parts.specs.moves.Seen.{AreQuiet, is_quiet_line, posted, said}
+use Rattle.arj_promise.specs.Runs.{Post, Seen}
 use Rattle.arj_law_parts.specs.moves.Walks.{Walks, halted}
 use Rattle.arj_law_serial.specs.tables.Tables.{IsOfPart, holders_in, is_steady, rows_on, up_of}
 use Rattle.arj_law_serial.proofs.tables.Effects.{acts_stay}

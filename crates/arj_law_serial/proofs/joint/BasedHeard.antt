@@ -27,7 +27,8 @@ use Rattle.arj_law_lock.proofs.machine.Paths.{number_self}
 use Rattle.arj_law_lock_view.specs.running.Fixed.{Fixed}
 use Rattle.arj_law_lock_view.proofs.running.KeptSteps.{handled_answer, response_is}
 use Rattle.arj_law_lock_view.proofs.view.ReplySteps.{tied_in}
-use Rattle.arj_law_parts.specs.moves.Seen.{In, Post, Seen, up}
+use Rattle.arj_law_parts.specs.moves.Seen.{In, up}
+use Rattle.arj_promise.specs.Runs.{Post, Seen}
 use Rattle.arj_law_serial.specs.joint.Based.{AreBased, IsVotedState, IsYesBased, coord_fits, post_fits}
 
 -- no step of a call asks for a vote

@@ -18,7 +18,8 @@ use Rattle.arj_law_lock.proofs.machine.Claims.{Holds}
 use Rattle.arj_law_lock.proofs.machine.Order.{go_on, run_keeps, start_holds, step_keeps}
 use Rattle.arj_law_lock.proofs.logs.Homes.{counting_is_old}
 use Rattle.arj_law_lock_view.specs.running.Fixed.{Fixed}
-use Rattle.arj_law_parts.specs.moves.Seen.{Post, Within}
+use Rattle.arj_law_parts.specs.moves.Seen.{Within}
+use Rattle.arj_promise.specs.Runs.{Post}
 use Rattle.arj_law_serial.specs.joint.Based.{CopiesAreBased, IsBasedAt, IsKnownAs, IsVotedOver, IsVotedState, IsYesBased, coord_fits, post_fits}
 use Rattle.arj_law_serial.proofs.joint.StateWider.{IsWider, coord_wider, message_wider}
 

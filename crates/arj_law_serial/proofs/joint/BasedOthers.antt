@@ -14,7 +14,8 @@ use Rattle.arj_law_disk_view.specs.running.States.{AllSay}
 use Rattle.arj_law_lock.specs.machine.Machine.{Run, start}
 use Rattle.arj_law_lock.specs.machine.State.{State}
 use Rattle.arj_law_lock_view.specs.running.Fixed.{Fixed}
-use Rattle.arj_law_parts.specs.moves.Seen.{In, Post, Seen, at}
+use Rattle.arj_law_parts.specs.moves.Seen.{In, at}
+use Rattle.arj_promise.specs.Runs.{Post, Seen}
 use Rattle.arj_law_parts.specs.moves.Walks.{Up, Walks, halted}
 use Rattle.arj_law_serial.specs.joint.Based.{AreBased, IsBasedAt, IsKnownState, IsVotedState, coord_fits}
 use Rattle.arj_law_serial.specs.joint.BasedSteps.{SendsNoYes}

@@ -44,7 +44,8 @@ use Rattle.arj_law_lock_view.proofs.running.GoodSteps.{its}
 use Rattle.arj_law_lock_view.proofs.running.ShownSteps.{shown_to_server}
 use Rattle.arj_law_lock_view.specs.view.Handling.{IsMessageShown}
 use Rattle.arj_law_serial.specs.order.Tied.{AreApart}
-use Rattle.arj_law_parts.specs.moves.Seen.{In, Seen, down, given, see, up}
+use Rattle.arj_law_parts.specs.moves.Seen.{In, down, given, up}
+use Rattle.arj_promise.specs.Runs.{Seen, see}
 use Rattle.arj_law_parts.specs.moves.Walks.{Up, Walks}
 use Rattle.arj_law_serial.specs.joint.Based.{AreBased, CopiesAreBased, HasWriters, IsKnownState, IsVotedState, coord_fits}
 use Rattle.arj_law_serial.specs.joint.BasedSteps.{ArePlannedOver, AreNumberedSo, HeldAreKnown, KnowsVoting, SendsNoYes, StaysBased}

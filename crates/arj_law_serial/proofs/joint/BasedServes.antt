@@ -26,7 +26,7 @@ use Rattle.arj_law_parts.specs.parts.Claims.{AreTrue}
 use Rattle.arj_law_runs.proofs.calls.WorldSteps.{no_answer, reads_back}
 use Rattle.arj_law_disk.proofs.machine.Base.{never, some_is}
 use Rattle.arj_law_disk_view.proofs.running.HeardPosts.{all_join}
-use Rattle.arj_law_parts.specs.moves.Seen.{Post}
+use Rattle.arj_promise.specs.Runs.{Post}
 use Rattle.arj_law_serial.proofs.joint.ByMessage.{by_coord, by_message}
 
 module _ (node : ℕ) (IsNew : Post → Asked → List ObjectState → Type 0) where

@@ -35,7 +35,8 @@ use Rattle.arj_law_lock_view.specs.view.Serving.{IsShown, ListsEach}
 use Rattle.arj_law_lock_view.specs.view.Telling.{IsOfFamily, Sees}
 use Rattle.arj_law_lock_view.proofs.view.ToldSteps.{family_told, turn_of}
 use Rattle.arj_law_serial.specs.order.Tied.{AreApart}
-use Rattle.arj_law_parts.specs.moves.Seen.{In, Post, Seen, Within, up}
+use Rattle.arj_law_parts.specs.moves.Seen.{In, Within, up}
+use Rattle.arj_promise.specs.Runs.{Post, Seen}
 use Rattle.arj_law_parts.specs.moves.Walks.{Up, Walks}
 use Rattle.arj_law_serial.specs.joint.Based.{AreBased, HasWriters, IsBasedAt, IsKnownState, IsVotedState, IsYesBased, WasVotedOver}
 use Rattle.arj_law_serial.proofs.joint.BasedHeard.{hears_so}

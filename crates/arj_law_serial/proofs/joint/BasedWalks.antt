@@ -28,7 +28,8 @@ use Rattle.arj_law_lock_view.specs.view.Serving.{ListsEach}
 use Rattle.arj_law_lock_view.specs.running.Fixed.{Fixed, view_of}
 use Rattle.arj_law_lock_view.specs.running.Posts.{IsAskedSeen}
 use Rattle.arj_law_lock_view.specs.running.Sees.{SeesLocks, SeesUp}
-use Rattle.arj_law_parts.specs.moves.Seen.{In, Post, Seen, Within, at, posted, said, up}
+use Rattle.arj_law_parts.specs.moves.Seen.{In, Within, at, posted, said, up}
+use Rattle.arj_promise.specs.Runs.{Post, Seen}
 use Rattle.arj_law_parts.specs.moves.Walks.{Up, Walks, halted}
 use Rattle.arj_law_serial.specs.joint.Based.{AreBased, CopiesAreBased, IsVotedOver, IsVotedState, IsYesBased, coord_fits, post_fits}
 use Rattle.arj_law_serial.proofs.joint.BasedLater.{coord_on, copies_on, post_on, yes_on}

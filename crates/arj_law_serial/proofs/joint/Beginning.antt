@@ -14,7 +14,8 @@ use Rattle.arj_protocol.specs.Words.{Header}
 use Rattle.arj_protocol.specs.World.{format, is_serial_kind}
 use Rattle.arj_law_disk.specs.machine.Effects as machine
 use Rattle.arj_law_disk.specs.machine.Names.{Office}
-use Rattle.arj_law_parts.specs.moves.Seen.{Seen, given, see}
+use Rattle.arj_law_parts.specs.moves.Seen.{given}
+use Rattle.arj_promise.specs.Runs.{Seen, see}
 use Rattle.arj_law_parts.specs.moves.Walks.{Up, Walks}
 use Rattle.arj_law_parts.proofs.moves.Happens.{runs_hold}
 use Rattle.arj_law_parts.proofs.moves.Together.{walks_to}

@@ -13,7 +13,8 @@ use Rattle.arj_journal.specs.declared.body.Line.{Line}
 use Rattle.arj_lock.proofs.Members.{In, in_from}
 use Rattle.arj_model.specs.Actions.{Act, acts, committed, is_committed, recovered}
 use Rattle.arj_law_runs.specs.journal.Laws.{IsCaused, IsCommittedIn, IsSound}
-use Rattle.arj_law_serial.specs.joint.Outcome.{commits_are_behind, each_behind, is_behind_decision, is_said}
+use Rattle.arj_model.specs.Outcome.{is_behind_decision, is_said}
+use Rattle.arj_promise.specs.Outcome.{commits_are_behind, each_behind}
 
 pub both : (a b : Bool) → a ≡ true → b ≡ true → (a && b) ≡ true
 both a b e f = λ i. e i && f i

@@ -5,7 +5,7 @@ use Rattle.arj_law.specs.Joined.{AreCalled}
 use Rattle.arj_model.specs.Last.{first_values}
 use Rattle.arj_protocol.specs.Words.{Header}
 use Rattle.arj_protocol.specs.World.{World}
-use Rattle.arj_law_parts.specs.moves.Moves.{world_by}
+use Rattle.arj_promise.specs.Runs.{world_by}
 use Rattle.arj_law_runs.specs.journal.Book.{new_book}
 use Rattle.arj_law_runs.specs.journal.Right.{AreRight}
 use Rattle.arj_law_runs.proofs.journal.Runs.{kept_right}

@@ -18,7 +18,8 @@ use Rattle.arj_lock.proofs.Members.{In, in_filter_map, in_from, in_to}
 use Rattle.arj_model.specs.Last.{uid_of_id}
 use Rattle.arj_protocol.proofs.Numbers.{number_tells}
 use Rattle.arj_protocol.specs.Order.{uid_number}
-use Rattle.arj_law_serial.specs.order.Decided.{AreDecisions, IsDecision, Wrote}
+use Rattle.arj_law_serial.specs.order.Decided.{AreDecisions, IsDecision}
+use Rattle.arj_promise.specs.Excluded.{Wrote}
 use Rattle.arj_law_serial.proofs.order.Values.{to_filter}
 use Rattle.std.specs.List.{AllByRecursion, cons_option, filter_map, list_all}
 use Rattle.arj_law.proofs.Last.{writes_conflict}

@@ -8,7 +8,7 @@ use Rattle.arj_protocol.specs.World.{format}
 use Rattle.arj_law_runs.specs.kept.Worlds.{IsGood}
 use Rattle.arj_law_runs.proofs.kept.AllRuns.{all_keep as parts_good}
 use Rattle.arj_law_parts.specs.moves.Keeps.{Keeps}
-use Rattle.arj_law_parts.specs.moves.Seen.{Seen, see}
+use Rattle.arj_promise.specs.Runs.{Seen, see}
 use Rattle.arj_law_runs.specs.calls.Bindings.{HasFewBindings}
 use Rattle.arj_law_runs.specs.calls.Runs.{KnowsFew}
 use Rattle.arj_law_runs.proofs.calls.Given.{KeepsGiven, given_more, keeps_given, kept_both, while_given}

@@ -35,12 +35,13 @@ use Rattle.arj_protocol.proofs.Numbers.{number_tells}
 use Rattle.arj_protocol.specs.Order.{uid_number}
 use Rattle.arj_law_serial.proofs.order.Order.{IsTopOf, top_item}
 use Rattle.arj_law_parts.specs.moves.Keeps.{Holds}
-use Rattle.arj_law_parts.specs.moves.Moves.{world_by}
-use Rattle.arj_law_parts.specs.moves.Seen.{see}
+use Rattle.arj_promise.specs.Runs.{world_by}
+use Rattle.arj_promise.specs.Runs.{see}
 use Rattle.arj_law_runs.specs.calls.Reached.{IsReached, Keeping}
 use Rattle.arj_law_runs.proofs.calls.Reaching.{kept_holds}
 use Rattle.arj_law_serial.specs.order.Cleaned.{HaveForm, IsCleanIn}
-use Rattle.arj_law_serial.specs.order.Decided.{AreDecided, AreDecisions, AreNewestFirst, DecideChanges, Joined, Wrote, WroteSo}
+use Rattle.arj_law_serial.specs.order.Decided.{AreDecided, AreDecisions, AreNewestFirst, DecideChanges, Joined, WroteSo}
+use Rattle.arj_promise.specs.Excluded.{Wrote}
 use Rattle.arj_law_lock_view.specs.facts.Entries.{HasObject}
 use Rattle.arj_law_serial.proofs.whole.WholeRuns.{kept_call_objects, kept_include_objects}
 use Rattle.arj_law_serial.proofs.order.Seeing.{locked_serial, locked_tied}
@@ -55,7 +56,8 @@ use Rattle.arj_law_serial.specs.joint.Cleaned.{RunsAreClean}
 use Rattle.arj_law_serial.proofs.joint.JoinedRuns.{reached_joined}
 use Rattle.arj_law_serial.specs.joint.Includers.{IncludersTakeTurns, JoinersAreNewestFirst, TakesTurnsSo}
 use Rattle.arj_law_serial.specs.joint.Ordered.{AreSpared, AreTurnsOf, IsOrderedSo}
-use Rattle.arj_law_serial.specs.joint.Shown.{DisksAre, IncludesAreThere}
+use Rattle.arj_law_serial.specs.joint.Shown.{IncludesAreThere}
+use Rattle.arj_promise.specs.Disks.{DisksAre}
 use Rattle.arj_law_serial.specs.joint.Writers.{WritersAreNewestFirst}
 use Rattle.arj_law_serial.proofs.joint.Called.{decided_writers_stand, decision_of, number_is, one_number, those_of, wrote_something}
 use Rattle.arj_law_serial.proofs.joint.FormRuns.{kept_have_form}
@@ -65,7 +67,7 @@ use Rattle.arj_law_serial.proofs.joint.JoinOrder.{decided_joiners_stand}
 use Rattle.arj_law_serial.proofs.joint.Naming.{decided_named}
 use Rattle.arj_law_serial.proofs.joint.Showing.{readings_show_pairs}
 use Rattle.arj_law_lock.specs.machine.State.{State}
-use Rattle.arj_law_serial.specs.order.Seen.{IsSerialBy}
+use Rattle.arj_promise.specs.Serial.{IsSerialBy}
 use Rattle.arj_law_serial.specs.order.Tied.{AreTied, IsTied}
 
 counted_in : (d : Done) (ds : List Done) → disk.In d ds → d.counts ≡ true → disk.In d (filter counts_of ds)

@@ -32,7 +32,7 @@ use Rattle.arj_protocol.specs.Words.which
 use Rattle.arj_protocol.specs.Ask.{frame_kind}
 use Rattle.arj_protocol.specs.World.{Arm, Asked, Frame, Giving, World, as_delivered, as_lost, armed, begins, begins_any, bodies, change_frame, count_works, counted, cut, deliver, deliver_frame, disarmed, done_step, format, frame_number, giving, gives_label, halted_at, halted_outs, happens, is_quiet, is_up_at, junk_fits, labels_unless, lacks_labels, limited, lose_frame, lowest, most_frames, new_frame, no_labels, node_numbers, node_of, numbered, quiesce, reasons, refused_at, run_event, run_unless, says, sent_line, settle, settle_for, show_all, show_up, step_node, step_with, steps, tick_all, tick_up}
 use Rattle.arj_law_parts.proofs.moves.Rounds.{AreLooks, LooksAlone, taken_looks}
-use Rattle.arj_law_parts.specs.moves.Moves.{Move, all_moved, moved, world_by}
+use Rattle.arj_promise.specs.Runs.{Move, all_moved, moved, world_by}
 use Rattle.arj_law_serial.specs.joint.Excluded.{RunsBeginWithCalls}
 
 -- ---- effects

@@ -11,7 +11,7 @@ use Rattle.arj_law_parts.specs.parts.Actions.{Action}
 use Rattle.arj_law_disk.specs.machine.Effects.{World}
 use Rattle.arj_law_disk.specs.machine.State as disk
 use Rattle.arj_law_disk_view.specs.view.Plans.{plan_by, used_at}
-use Rattle.arj_law_parts.specs.moves.Seen.{Seen}
+use Rattle.arj_promise.specs.Runs.{Seen}
 use Rattle.arj_law_runs.specs.journal.Book.{book, is_decided, is_top, new_book}
 use Rattle.arj_law_runs.specs.journal.Idle.{IsIdle}
 use Rattle.arj_law_runs.specs.journal.Right.{AreRight}

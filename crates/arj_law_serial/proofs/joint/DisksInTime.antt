@@ -30,13 +30,15 @@ use Rattle.arj_protocol.specs.World.{World}
 use Rattle.arj_store.specs.Pair.{packed}
 use Rattle.arj_law_store.specs.store.Files.{IsPairOf}
 use Rattle.arj_law_parts.specs.moves.Keeps.{Stands}
-use Rattle.arj_law_parts.specs.moves.Moves.{world_by}
-use Rattle.arj_law_parts.specs.moves.Seen.{Post, see}
+use Rattle.arj_promise.specs.Runs.{world_by}
+use Rattle.arj_promise.specs.Runs.{Post, see}
 use Rattle.arj_law_runs.specs.calls.Reached.{IsReached, Keeping}
-use Rattle.arj_law_serial.specs.joint.Excluded.{AreExcludedInTime, CommitsBeginIt, IsInTime, IsOnly, uid_of}
-use Rattle.arj_law_serial.specs.joint.DisksInTime.{DiskIsInTime, DisksAreInTime, HasPrepared, RunsExcludeInTimeOnDisks}
+use Rattle.arj_law_serial.specs.joint.Excluded.{AreExcludedInTime, CommitsBeginIt, IsInTime, IsOnly}
+use Rattle.arj_promise.specs.Excluded.{uid_of}
+use Rattle.arj_law_serial.specs.joint.DisksInTime.{RunsExcludeInTimeOnDisks}
+use Rattle.arj_promise.specs.Excluded.{DiskIsInTime, DisksAreInTime, HasPrepared}
 use Rattle.arj_law_serial.specs.joint.Fit.{OpsFit}
-use Rattle.arj_law_serial.specs.joint.Shown.{DisksAre, pair_in}
+use Rattle.arj_promise.specs.Disks.{DisksAre, pair_in}
 use Rattle.arj_law_serial.proofs.whole.WholeRuns.{kept_call_objects}
 use Rattle.arj_model.specs.Calls.{committed_calls}
 use Rattle.arj_law_serial.proofs.joint.Clean.{object_some}

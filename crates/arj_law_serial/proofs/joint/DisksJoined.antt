@@ -15,10 +15,10 @@ use Rattle.arj_model.specs.Calls.{Call, Top}
 use Rattle.arj_model.specs.Disks.{Disks}
 use Rattle.arj_model.specs.Last.{last_state}
 use Rattle.arj_model.specs.Serial.{writes_on}
-use Rattle.arj_law_serial.specs.order.Decided.{Wrote}
-use Rattle.arj_law_serial.specs.joint.DisksInTime.{DiskIsInTime, DiskTakesOut, DisksAreInTime, HasPrepared}
+use Rattle.arj_promise.specs.Excluded.{Wrote}
+use Rattle.arj_promise.specs.Excluded.{DiskIsInTime, DiskTakesOut, DisksAreInTime, HasPrepared}
 use Rattle.arj_law_serial.specs.joint.DisksJoined.{DiskIsInTimeFrom, DisksAreInTimeFrom, JoinedRunsAreInTime}
-use Rattle.arj_law_serial.specs.joint.Excluded.{lines_before, uid_of}
+use Rattle.arj_promise.specs.Excluded.{lines_before, uid_of}
 
 -- ---- lines before an event
 

@@ -36,13 +36,14 @@ use Rattle.arj_law_disk.specs.machine.State.{Done, Hold, IsExcused, Packed, Plan
 use Rattle.arj_law_disk.specs.machine.Words.{In, has}
 use Rattle.arj_law_disk.proofs.machine.History.{in_decided}
 use Rattle.arj_law_disk.proofs.machine.Results.{in_time}
-use Rattle.arj_law_parts.specs.moves.Seen.{Post, Seen, see}
+use Rattle.arj_promise.specs.Runs.{Post, Seen, see}
 use Rattle.arj_law_runs.specs.calls.Reached.{Keeping}
 use Rattle.arj_law_runs.proofs.calls.Reaching.{kept_holds}
 use Rattle.arj_law_disk_view.specs.view.Entries.{SeesEntry}
 use Rattle.arj_law_disk_view.specs.view.Pairs.{Among, Holder, IsOf, hold_of, packed, packed_entry}
 use Rattle.arj_law_disk_view.specs.view.Stores.{SeesStore}
-use Rattle.arj_law_serial.specs.order.Decided.{AreDecided, AreDecisions, AreNewestFirst, IsDecision, WroteSo, Wrote}
+use Rattle.arj_law_serial.specs.order.Decided.{AreDecided, AreDecisions, AreNewestFirst, IsDecision, WroteSo}
+use Rattle.arj_promise.specs.Excluded.{Wrote}
 use Rattle.arj_law_serial.specs.order.Runs.{IsSeenDecided}
 use Rattle.arj_law_serial.proofs.order.Cleaning.{has_among, held_some, one_state, run_class, state_same}
 use Rattle.arj_law_serial.proofs.order.Order.{listed, place_of_top, root_of_top}
@@ -50,7 +51,8 @@ use Rattle.arj_law_serial.proofs.order.Ties.{Ties}
 use Rattle.arj_law_serial.proofs.order.Tying.{all_at}
 use Rattle.arj_law_serial.proofs.order.Values.{any_said, kept_shape}
 use Rattle.arj_law_serial.specs.order.Tied.{AreTied}
-use Rattle.arj_law_serial.specs.joint.Excluded.{CommitsBeginIt, IsBehindIncludes, IsInTime, IsNew, IsNewest, IsSeenSo, IsTakenOut, NodesAreSo, uid_of}
+use Rattle.arj_law_serial.specs.joint.Excluded.{CommitsBeginIt, IsBehindIncludes, IsInTime, IsNewest, IsSeenSo, IsTakenOut, NodesAreSo}
+use Rattle.arj_promise.specs.Excluded.{IsNew, uid_of}
 use Rattle.arj_law_serial.proofs.joint.NewWriters.{new_writers_last}
 use Rattle.arj_law_disk_view.specs.running.States.{Own}
 use Rattle.arj_law_serial.specs.joint.Forms.{AreSo, kind_of, listed as entered, stored}

@@ -21,7 +21,7 @@ use Rattle.arj_law_disk.specs.machine.Effects.{World}
 use Rattle.arj_law_disk.specs.machine.State.{Packed, State, decided, effective, effective_by, entry_in, last, last_entry, last_in}
 use Rattle.arj_law_disk.specs.machine.Words.{has}
 use Rattle.arj_law_disk.proofs.machine.Base.{some_is}
-use Rattle.arj_law_parts.specs.moves.Seen.{see}
+use Rattle.arj_promise.specs.Runs.{see}
 use Rattle.arj_law_disk_view.specs.view.Entries.{SeesEntry}
 use Rattle.arj_law_disk_view.specs.view.Formats.{HasObject, IsLine}
 use Rattle.arj_law_disk_view.specs.view.Pairs.{packed, packed_entry}

@@ -17,13 +17,14 @@ use Rattle.arj_protocol.specs.Step as input
 use Rattle.arj_protocol.specs.Step.{Input, Node, Step, first_node, first_reason, numbers_to, step}
 use Rattle.arj_protocol.specs.Tree.{at_place}
 use Rattle.arj_protocol.specs.World.{Arm, Asked, Frame, Giving, World, armed, as_delivered, as_lost, begins, begins_any, bodies, change_frame, count_works, counted, cut, deliver, deliver_frame, disarmed, done_step, format, frame_number, giving, halted_at, halted_outs, happens, is_quiet, is_up_at, junk_fits, labels_unless, lacks_labels, limited, lose_frame, lowest, most_frames, new_frame, no_labels, node_numbers, node_of, numbered, put, quiesce, reasons, refused_at, run_event, run_unless, says, set_node, settle, settle_for, show_all, show_up, step_node, step_with, steps, tick_all, tick_up}
-use Rattle.arj_law_parts.specs.moves.Moves.{Move, all_moved, as_moves, journal_by, moved, world_by}
+use Rattle.arj_promise.specs.Runs.{Move, all_moved, as_moves, journal_by, moved, world_by}
 use Rattle.arj_law_runs.specs.calls.Reached.{IsReached}
 use Rattle.arj_law_runs.proofs.addresses.Lists.{all_append, all_placed, all_set}
 use Rattle.arj_law_runs.proofs.bindings.Events.{moves_reached}
 use Rattle.arj_law_serial.specs.whole.Called.{LinesOf, SaysOf}
 use Rattle.arj_law_serial.specs.joint.Fit.{OpFits, OpsFit}
-use Rattle.arj_law_serial.specs.joint.FitRuns.{AreEventsInForm, AreMovesInForm, IsInForm, RunsFit}
+use Rattle.arj_law_serial.specs.joint.FitRuns.{RunsFit}
+use Rattle.arj_promise.specs.Runs.{AreEventsInForm, AreMovesInForm, IsInForm}
 use Rattle.arj_law_serial.proofs.joint.FitCoords.{AsksFor}
 use Rattle.arj_law_serial.proofs.joint.FitSteps.{Fine, LiveOf, StepOf, step_so}
 

@@ -12,8 +12,8 @@ use Rattle.arj_protocol.specs.Tree.{at_place}
 use Rattle.arj_protocol.specs.Words.{Event}
 use Rattle.arj_protocol.specs.Words.event
 use Rattle.arj_protocol.specs.World.{Arm, Asked, Frame, Giving, World, armed, as_delivered, begins, begins_any, change_frame, count_works, counted, cut, deliver, deliver_frame, disarmed, done_step, frame_number, giving, halted_at, happens, is_up_at, junk_fits, labels_unless, lacks_labels, limited, lose_frame, lowest, most_frames, no_labels, node_numbers, node_of, quiesce, reasons, refused_at, run_event, run_unless, settle, settle_for, show_all, show_up, step_node, step_with, steps, tick_all, tick_up}
-use Rattle.arj_law_parts.specs.moves.Moves.{as_moves}
-use Rattle.arj_law_serial.specs.joint.FitRuns.{AreEventsInForm, AreStopsInForm, HasWork}
+use Rattle.arj_promise.specs.Runs.{as_moves}
+use Rattle.arj_promise.specs.Runs.{AreEventsInForm, AreStopsInForm, HasWork}
 
 -- so it is of each stop that is armed in the world
 abbrev Works : World → Type 0

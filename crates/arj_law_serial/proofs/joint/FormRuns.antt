@@ -23,7 +23,8 @@ use Rattle.arj_protocol.proofs.Payloads.{entry_back}
 use Rattle.arj_protocol.proofs.RowSteps.{same_number}
 use Rattle.arj_law_disk.proofs.machine.Base.{never}
 use Rattle.arj_law_parts.specs.moves.Keeps.{Holds, Keeps}
-use Rattle.arj_law_parts.specs.moves.Seen.{In, Post, Seen, at, given, posted, said, see}
+use Rattle.arj_law_parts.specs.moves.Seen.{In, at, given, posted, said}
+use Rattle.arj_promise.specs.Runs.{Post, Seen, see}
 use Rattle.arj_law_parts.specs.moves.Walks.{Up, Walks}
 use Rattle.arj_law_runs.specs.calls.Reached.{Keeping}
 use Rattle.arj_law_runs.proofs.calls.Reaching.{kept_holds}

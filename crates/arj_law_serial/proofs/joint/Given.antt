@@ -24,7 +24,7 @@ use Rattle.arj_law_lock_view.specs.running.Kept.{case_of}
 use Rattle.arj_law_lock_view.specs.running.Votes.{AreVotedAt}
 use Rattle.arj_law_serial.specs.whole.Whole.{KnowsWhole}
 use Rattle.arj_law_serial.specs.order.Cleaned.{BeginsSo}
-use Rattle.arj_law_parts.specs.moves.Seen.{Seen}
+use Rattle.arj_promise.specs.Runs.{Seen}
 use Rattle.arj_law_serial.specs.joint.Apt.{AgreesApart}
 use Rattle.arj_law_serial.specs.joint.Forms.{AreSo, kind_of}
 use Rattle.arj_law_serial.specs.order.Tied.{AreApart}

@@ -28,7 +28,7 @@ use Rattle.arj_law_disk.proofs.machine.Base.{bool_cases, never}
 use Rattle.arj_law_disk_view.specs.view.Asking.{SeesConfirming, SeesPreparing}
 use Rattle.arj_law_disk_view.specs.view.Deciding.{nodes_of}
 use Rattle.arj_law_disk_view.specs.view.Sees.{ClaimsAsked, Works, WorksBy}
-use Rattle.arj_law_parts.specs.moves.Seen.{Seen}
+use Rattle.arj_promise.specs.Runs.{Seen}
 use Rattle.arj_law_runs.specs.journal.Book.{is_top}
 use Rattle.arj_law_lock.specs.machine.Actions as machine
 use Rattle.arj_law_lock.specs.machine.Actions.{In, is_action, top}

@@ -11,7 +11,7 @@ use Rattle.arj_protocol.specs.Step.{Node}
 use Rattle.arj_law_parts.specs.parts.Actions.{Action, act_of}
 use Rattle.arj_law_disk.specs.machine.Core.{Core}
 use Rattle.arj_law_disk.specs.machine.State as disk
-use Rattle.arj_law_parts.specs.moves.Seen.{Seen}
+use Rattle.arj_promise.specs.Runs.{Seen}
 use Rattle.arj_law_runs.specs.journal.Book.{book, is_decided, new_book}
 use Rattle.arj_law_runs.specs.journal.Knows.{IsGiven}
 use Rattle.arj_law_runs.specs.journal.Paths.{AreAlike}

@@ -26,7 +26,7 @@ use Rattle.arj_law_disk.specs.machine.Words as words
 use Rattle.arj_law_disk.proofs.machine.Base.{never}
 use Rattle.arj_law_disk.proofs.machine.History.{in_decided}
 use Rattle.arj_law_disk_view.specs.view.Pairs.{packed}
-use Rattle.arj_law_parts.specs.moves.Seen.{Seen}
+use Rattle.arj_promise.specs.Runs.{Seen}
 use Rattle.arj_law_runs.specs.journal.Book.{book, is_decided, is_top, new_book}
 use Rattle.arj_law_runs.specs.journal.Laws.{AreApart, IsDone}
 use Rattle.arj_law_runs.specs.journal.Right.{AreRight}
@@ -42,7 +42,7 @@ use Rattle.arj_law_lock.proofs.machine.VoteRun.{votes_are_right}
 use Rattle.arj_law_lock_view.specs.view.Acts.{AreOne}
 use Rattle.arj_law_lock_view.specs.view.Copies.{state_code}
 use Rattle.arj_law_lock_view.specs.running.Fixed.{Fixed}
-use Rattle.arj_law_serial.specs.order.Decided.{Wrote}
+use Rattle.arj_promise.specs.Excluded.{Wrote}
 use Rattle.arj_law_serial.specs.order.Tied.{IsTied}
 use Rattle.arj_law_serial.proofs.order.Order.{IsShown, before_top, called_first, listed, off_one, place_of_top, same_number, shown, top_for, top_plain}
 use Rattle.arj_law_serial.proofs.order.Ties.{Tie, tie_of}

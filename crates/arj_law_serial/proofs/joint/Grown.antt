@@ -7,7 +7,8 @@ use Rattle.arj_protocol.specs.Words.body
 use Rattle.arj_protocol.specs.Effect.{Disk, Do, Effect, Say, Send, stopped, worked}
 use Rattle.arj_protocol.specs.Node.{Parts}
 use Rattle.arj_protocol.specs.World.{most_labels, numbered}
-use Rattle.arj_law_parts.specs.moves.Seen.{Seen, down, posted, said, up}
+use Rattle.arj_law_parts.specs.moves.Seen.{down, posted, said, up}
+use Rattle.arj_promise.specs.Runs.{Seen}
 use Rattle.arj_law_parts.specs.moves.Walks.{Up, Walks}
 use Rattle.arj_law_parts.proofs.moves.Together.{walks_both, walks_to, walks_where}
 use Rattle.arj_law_runs.specs.calls.Bindings.{HasFewBindings}

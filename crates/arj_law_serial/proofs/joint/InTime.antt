@@ -3,9 +3,10 @@ use Rattle.std.proofs.Common.{◌≡◌, ℕ, List, Option, refl, sym, inl, inr,
 use Rattle.std.specs.Prelude.{get_or}
 use Rattle.std.specs.Option.{option_map}
 use Rattle.arj_base.specs.declared.state.ObjectState.{ObjectState}
-use Rattle.arj_law_serial.specs.joint.Excluded.{IsInTime, IsNew, IsOnly}
+use Rattle.arj_law_serial.specs.joint.Excluded.{IsInTime, IsOnly}
+use Rattle.arj_promise.specs.Excluded.{IsNew}
 use Rattle.arj_base.specs.Uid.{nobody}
-use Rattle.arj_law_serial.specs.joint.DisksInTime.{DiskIsInTime, Lists}
+use Rattle.arj_promise.specs.Excluded.{DiskIsInTime, Lists}
 use Rattle.arj_law_serial.specs.joint.Samples.{counter_state, decided_lines, disks_decided, disks_late, entry_with, header, its_top, its_uid, naming_late, naming_node, store_three, store_two}
 
 -- a state that stands alone is the only one of its object

@@ -21,7 +21,7 @@ use Rattle.arj_law_disk.specs.machine.State.{Hold, Idle, Packed, State, decided,
 use Rattle.arj_law_disk.specs.machine.Words.{has}
 use Rattle.arj_law_disk.proofs.machine.Base.{bool_cases, falls_to, never, or_left, or_right, some_is, test_same}
 use Rattle.arj_law_disk.proofs.machine.Kin.{Kin, kin_granted, near, not_over, open_untold}
-use Rattle.arj_law_parts.specs.moves.Seen.{Seen}
+use Rattle.arj_promise.specs.Runs.{Seen}
 use Rattle.arj_law_disk_view.specs.view.Deciding.{SeesRecords, nodes_of}
 use Rattle.arj_law_disk_view.specs.view.Plans.{used_at}
 use Rattle.arj_law_disk_view.specs.view.Sees.{Kinds, SeesCoord, Works, WorksBy}

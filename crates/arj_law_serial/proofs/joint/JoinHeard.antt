@@ -34,7 +34,8 @@ use Rattle.arj_protocol.specs.Node.{Parts}
 use Rattle.arj_protocol.specs.Order.{at_number}
 use Rattle.arj_protocol.specs.Tree.{Branch, branch_of, root_of}
 use Rattle.arj_law_runs.proofs.kept.Handled.{good_coord}
-use Rattle.arj_law_parts.specs.moves.Seen.{Post, Seen, up}
+use Rattle.arj_law_parts.specs.moves.Seen.{up}
+use Rattle.arj_promise.specs.Runs.{Post, Seen}
 use Rattle.arj_law_runs.specs.journal.Book.{Access, Book, book, turned, with_access}
 use Rattle.arj_law_runs.specs.journal.Knows.{IsKept, IsKnown, KnowsUp, after, root_in}
 use Rattle.arj_law_runs.specs.journal.Plans.{path_of}

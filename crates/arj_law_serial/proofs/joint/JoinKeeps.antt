@@ -16,7 +16,8 @@ use Rattle.arj_law_disk.specs.machine.Names.{Office}
 use Rattle.arj_law_disk.specs.machine.State.{State}
 use Rattle.arj_law_disk.specs.machine.Words.{In}
 use Rattle.arj_law_disk.proofs.machine.Base.{some_is}
-use Rattle.arj_law_parts.specs.moves.Seen.{Seen, at, down, up}
+use Rattle.arj_law_parts.specs.moves.Seen.{at, down, up}
+use Rattle.arj_promise.specs.Runs.{Seen}
 use Rattle.arj_law_disk_view.specs.view.Coordinating.{KnowsNode}
 use Rattle.arj_law_disk_view.specs.view.Knows.{KnowsKinds, KnowsMachine}
 use Rattle.arj_law_disk_view.specs.view.Sees.{Kinds, SeesCoord}

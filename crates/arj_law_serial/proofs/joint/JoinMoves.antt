@@ -35,7 +35,8 @@ use Rattle.arj_law_runs.proofs.kept.Handled.{good_coord, one_tree}
 use Rattle.arj_law_runs.proofs.kept.Walked.{same_number}
 use Rattle.arj_law_parts.specs.moves.Keeps.{is_act}
 use Rattle.arj_law_parts.specs.moves.Seen as seen
-use Rattle.arj_law_parts.specs.moves.Seen.{Seen, up}
+use Rattle.arj_law_parts.specs.moves.Seen.{up}
+use Rattle.arj_promise.specs.Runs.{Seen}
 use Rattle.arj_law_runs.specs.journal.Book.{Access, Book, book, is_top, new_book, turned}
 use Rattle.arj_law_runs.specs.journal.Knows.{AreLined, IsKept, IsKnown, KnowsUp, after, root_in}
 use Rattle.arj_law_runs.specs.journal.Plans.{path_of}

@@ -24,7 +24,8 @@ use Rattle.arj_law_disk.specs.machine.Guards.{only_decides}
 use Rattle.arj_law_disk.specs.machine.Names.{Office}
 use Rattle.arj_law_disk.specs.machine.State.{State, decided, is_gone, is_open, undecided}
 use Rattle.arj_law_disk.proofs.machine.Base.{falls_to, never, or_cases, or_right}
-use Rattle.arj_law_parts.specs.moves.Seen.{Seen, down, up}
+use Rattle.arj_law_parts.specs.moves.Seen.{down, up}
+use Rattle.arj_promise.specs.Runs.{Seen}
 use Rattle.arj_law_disk_view.specs.view.Asking.{SeesConfirming}
 use Rattle.arj_law_disk_view.specs.view.Coordinating.{KnowsNode}
 use Rattle.arj_law_disk_view.specs.view.Deciding.{SeesRecords, nodes_of}

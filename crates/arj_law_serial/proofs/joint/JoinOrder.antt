@@ -13,7 +13,8 @@ use Rattle.arj_model.specs.Calls.{Top}
 use Rattle.arj_model.specs.Last.{increasing, insert_number, is_among, joins_of, leaves_of}
 use Rattle.arj_model.specs.Serial.{Values}
 use Rattle.arj_protocol.specs.Words.{Line}
-use Rattle.arj_law_serial.specs.order.Decided.{AreDecisions, IsDecision, Joined, Wrote, WroteSo}
+use Rattle.arj_law_serial.specs.order.Decided.{AreDecisions, IsDecision, Joined, WroteSo}
+use Rattle.arj_promise.specs.Excluded.{Wrote}
 use Rattle.arj_law_serial.specs.order.Tied.{IsTied}
 use Rattle.arj_law_serial.proofs.order.Values.{to_filter}
 use Rattle.arj_law_serial.specs.joint.Includers.{DecidedJoinersStand, IncludersTakeTurns, IncludesNone, JoinersAreNewestFirst}

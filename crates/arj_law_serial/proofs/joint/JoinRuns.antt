@@ -33,7 +33,8 @@ use Rattle.arj_law_runs.specs.kept.Worlds.{IsGood, IsMemory}
 use Rattle.arj_law_runs.proofs.kept.Walked.{other_number, same_number}
 use Rattle.arj_law_parts.specs.moves.Keeps.{Keeps, MayGive, label_at}
 use Rattle.arj_law_parts.specs.moves.Seen as seen
-use Rattle.arj_law_parts.specs.moves.Seen.{AreQuiet, Seen, at, down, given, posted, said as said_lines, see, up}
+use Rattle.arj_law_parts.specs.moves.Seen.{AreQuiet, at, down, given, posted, said as said_lines, up}
+use Rattle.arj_promise.specs.Runs.{Seen, see}
 use Rattle.arj_law_parts.specs.moves.Walks.{Up, Walks, halted}
 use Rattle.arj_law_runs.proofs.addresses.BindRuns.{AreBound, binds_keep}
 use Rattle.arj_law_serial.specs.joint.Joins.{HasJoined, IncludesAreNoted, IncludesAreSaid, PlansInclude}

@@ -30,7 +30,8 @@ use Rattle.arj_protocol.specs.Words.kind
 use Rattle.arj_law_runs.proofs.kept.Handled.{good_coord, one_tree}
 use Rattle.arj_law_serial.proofs.order.Paths.{chain_on, top_on, well}
 use Rattle.arj_law_serial.proofs.order.Values.{to_filter}
-use Rattle.arj_law_parts.specs.moves.Seen.{Seen, up}
+use Rattle.arj_law_parts.specs.moves.Seen.{up}
+use Rattle.arj_promise.specs.Runs.{Seen}
 use Rattle.arj_law_disk_view.specs.view.Plans.{plan_by, used_at}
 use Rattle.arj_law_runs.specs.journal.Book.{Access, book, is_top, new_book}
 use Rattle.arj_law_runs.specs.journal.Knows.{IsAccess, IsEnd, IsKept, KnowsUp, root_in}

@@ -18,7 +18,8 @@ use Rattle.arj_law_disk.specs.machine.State.{Done, Plan, State, decided, decided
 use Rattle.arj_law_disk.specs.machine.Words.{In, has}
 use Rattle.arj_law_disk.proofs.machine.Base.{falls_to, never, some_is}
 use Rattle.arj_law_disk.proofs.machine.History.{in_decided}
-use Rattle.arj_law_parts.specs.moves.Seen.{Seen, at, posted, said, up}
+use Rattle.arj_law_parts.specs.moves.Seen.{at, posted, said, up}
+use Rattle.arj_promise.specs.Runs.{Seen}
 use Rattle.arj_law_parts.specs.moves.Walks.{Up, Walks, halted}
 use Rattle.arj_law_disk_view.specs.view.Asking.{SeesConfirming}
 use Rattle.arj_law_disk_view.specs.view.Pairs.{packed}

@@ -24,7 +24,7 @@ use Rattle.arj_law_serial.proofs.whole.Gives.{gives_locks}
 use Rattle.arj_law_runs.proofs.calls.WorldRuns.{votes_in}
 use Rattle.arj_law_serial.proofs.joint.Firsts.{line_there}
 use Rattle.arj_law_disk.specs.machine.Effects.{World}
-use Rattle.arj_law_parts.specs.moves.Seen.{Seen, see}
+use Rattle.arj_promise.specs.Runs.{Seen, see}
 use Rattle.arj_protocol.specs.Words.{Header, ObjectLine}
 use Rattle.arj_law_parts.specs.parts.Actions.{Action}
 use Rattle.arj_model.specs.Last.{first_values, object_line}

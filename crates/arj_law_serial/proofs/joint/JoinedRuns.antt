@@ -12,10 +12,10 @@ use Rattle.arj_law_disk_view.proofs.running.Copies.{copies_agree}
 use Rattle.arj_law_disk_view.specs.running.Part.{KeepsPart}
 use Rattle.arj_law_disk_view.specs.view.Sees.{Kinds}
 use Rattle.arj_law_disk.specs.machine.Names.{Office}
-use Rattle.arj_law_parts.specs.moves.Seen.{Post, Seen, see}
+use Rattle.arj_promise.specs.Runs.{Post, Seen, see}
 use Rattle.arj_model.specs.Last.{first_values, object_line}
 use Rattle.arj_protocol.specs.World.{World}
-use Rattle.arj_law_parts.specs.moves.Moves.{world_by}
+use Rattle.arj_promise.specs.Runs.{world_by}
 use Rattle.arj_law_serial.proofs.joint.FitRuns.{runs_in_form}
 use Rattle.arj_law_runs.specs.journal.Book.{new_book}
 use Rattle.arj_law_runs.specs.journal.Right.{AreRight}

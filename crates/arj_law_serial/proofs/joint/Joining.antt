@@ -27,7 +27,8 @@ use Rattle.arj_law_disk.proofs.machine.Base.{never}
 use Rattle.arj_law_lock.specs.machine.Machine.{Run, stay}
 use Rattle.arj_law_lock.specs.machine.State.{State}
 use Rattle.arj_law_lock.proofs.machine.Order.{go_on}
-use Rattle.arj_law_parts.specs.moves.Seen.{Post, Seen, at, down, given, said, see, up}
+use Rattle.arj_law_parts.specs.moves.Seen.{at, down, given, said, up}
+use Rattle.arj_promise.specs.Runs.{Post, Seen, see}
 use Rattle.arj_law_parts.specs.moves.Walks.{Up, Walks, halted}
 use Rattle.arj_law_parts.proofs.moves.Together.{walks_both, walks_each, walks_to}
 use Rattle.arj_law_runs.specs.calls.Runs.{AllVotesAreUsed, KnowsRun}

@@ -21,7 +21,8 @@ use Rattle.arj_law_disk.specs.machine.State.{Known, Plan, decided}
 use Rattle.arj_law_disk.specs.machine.Words.{has}
 use Rattle.arj_law_disk.proofs.machine.Base.{some_is}
 use Rattle.arj_law_disk.proofs.machine.History.{in_decided}
-use Rattle.arj_law_parts.specs.moves.Seen.{Seen, see, up}
+use Rattle.arj_law_parts.specs.moves.Seen.{up}
+use Rattle.arj_promise.specs.Runs.{Seen, see}
 use Rattle.arj_law_disk_view.specs.view.Asking.{SeesConfirming}
 use Rattle.arj_law_disk_view.specs.view.Knows.{KnowsPlan}
 use Rattle.arj_law_disk_view.specs.view.Pairs.{packed}

@@ -14,7 +14,7 @@ use Rattle.arj_law_disk.specs.machine.State.{Below, Done, IsPast, Known, KnownIn
 use Rattle.arj_law_disk.specs.machine.Words.{In, has}
 use Rattle.arj_law_disk.proofs.machine.Base.{never}
 use Rattle.arj_law_disk.proofs.machine.History.{below_last, in_decided}
-use Rattle.arj_law_parts.specs.moves.Seen.{Seen}
+use Rattle.arj_promise.specs.Runs.{Seen}
 use Rattle.arj_law_disk_view.specs.view.Pairs.{packed}
 use Rattle.arj_law_disk_view.specs.view.Plans.{used_at}
 use Rattle.arj_law_disk_view.specs.view.Sees.{Kinds, IsLater}

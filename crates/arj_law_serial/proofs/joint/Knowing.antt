@@ -21,15 +21,17 @@ use Rattle.arj_law_runs.specs.journal.Laws.{AreApart, called, called_of}
 use Rattle.arj_law_runs.specs.journal.Right.{AreRight}
 use Rattle.arj_law_runs.proofs.journal.Books.{book_more, decided_later, later_from, never}
 use Rattle.arj_law_runs.proofs.journal.Models.{its_call}
-use Rattle.arj_law_serial.specs.order.Decided.{AreDecided, AreDecisions, AreNewestFirst, IsDecision, Wrote, WroteSo}
+use Rattle.arj_law_serial.specs.order.Decided.{AreDecided, AreDecisions, AreNewestFirst, IsDecision, WroteSo}
+use Rattle.arj_promise.specs.Excluded.{Wrote}
 use Rattle.arj_law_serial.proofs.order.Order.{IsTopOf, listed, place_of_top, top_item}
 use Rattle.arj_law_serial.proofs.order.Tying.{all_at}
 use Rattle.arj_law_parts.specs.moves.Keeps.{Holds}
 use Rattle.arj_law_serial.proofs.joint.NamedTops.{disk_of}
-use Rattle.arj_law_serial.specs.joint.Excluded.{CommitsBeginIt, IsNew, lines_before}
+use Rattle.arj_law_serial.specs.joint.Excluded.{CommitsBeginIt}
+use Rattle.arj_promise.specs.Excluded.{IsNew, lines_before}
 use Rattle.arj_law_serial.specs.joint.SaidFirst.{IncluderKnows, IncludersKnow, IsSaidFirst}
 use Rattle.arj_law_serial.specs.joint.Ordered.{IsOrderedSo}
-use Rattle.arj_law_serial.specs.joint.Outcome.{is_said}
+use Rattle.arj_model.specs.Outcome.{is_said}
 use Rattle.arj_law_serial.proofs.joint.Called.{end_in, on_front, there_before}
 use Rattle.arj_law_serial.proofs.joint.Excluding.{each_decision}
 use Rattle.arj_law_serial.proofs.joint.JoinOrder.{counts_there}

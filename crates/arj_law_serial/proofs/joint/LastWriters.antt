@@ -15,7 +15,7 @@ use Rattle.arj_protocol.specs.Order.{uid_number}
 use Rattle.arj_protocol.specs.Step.{Node}
 use Rattle.arj_protocol.proofs.Numbers.{number_tells}
 use Rattle.arj_law_parts.specs.parts.Actions.{Action}
-use Rattle.arj_law_parts.specs.moves.Seen.{Seen}
+use Rattle.arj_promise.specs.Runs.{Seen}
 use Rattle.arj_law_disk.specs.machine.Core.{Core}
 use Rattle.arj_law_disk.specs.machine.Effects.{Whole, World}
 use Rattle.arj_law_disk.specs.machine.State.{Done, Packed, Plan, decided, last, last_in}

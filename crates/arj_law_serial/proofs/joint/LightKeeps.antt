@@ -15,7 +15,8 @@ use Rattle.arj_law_disk.specs.machine.Names.{Office}
 use Rattle.arj_law_disk.specs.machine.State.{Stage, decided, decided_in, is_gone, is_open, undecided}
 use Rattle.arj_law_disk.specs.machine.State as disk
 use Rattle.arj_law_disk.proofs.machine.Base.{never}
-use Rattle.arj_law_parts.specs.moves.Seen.{Seen, down, see, up}
+use Rattle.arj_law_parts.specs.moves.Seen.{down, up}
+use Rattle.arj_promise.specs.Runs.{Seen, see}
 use Rattle.arj_law_disk_view.specs.view.Deciding.{nodes_of}
 use Rattle.arj_law_disk_view.specs.view.Sees.{Kinds}
 use Rattle.arj_law_disk_view.proofs.view.FirstSeen.{first_at}

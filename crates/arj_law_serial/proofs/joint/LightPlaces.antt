@@ -17,7 +17,8 @@ use Rattle.arj_model.specs.Last.{is_among, leaves_of, listed_after, listed_from,
 use Rattle.arj_model.specs.Serial.{Values}
 use Rattle.arj_protocol.specs.Order.{uid_number}
 use Rattle.arj_protocol.specs.Words.{Line}
-use Rattle.arj_law_serial.specs.order.Decided.{AreDecisions, AreNewestFirst, ChangersHaveTurns, IsDecision, Joined, Wrote}
+use Rattle.arj_law_serial.specs.order.Decided.{AreDecisions, AreNewestFirst, ChangersHaveTurns, IsDecision, Joined}
+use Rattle.arj_promise.specs.Excluded.{Wrote}
 use Rattle.arj_law_serial.specs.order.Tied.{IsTied}
 use Rattle.arj_law_serial.proofs.order.Cleaning.{has_among}
 use Rattle.arj_law_serial.proofs.order.Entries.{by_decisions, entry_counted}

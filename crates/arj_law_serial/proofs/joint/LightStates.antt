@@ -22,7 +22,7 @@ use Rattle.arj_law_disk.specs.machine.Words.{has}
 use Rattle.arj_law_disk.proofs.machine.Base.{bool_cases, falls_to, never, or_right, some_is}
 use Rattle.arj_law_disk.proofs.machine.History.{in_decided}
 use Rattle.arj_law_disk.proofs.machine.Kin.{Kin, kin_granted, near, not_over, open_untold}
-use Rattle.arj_law_parts.specs.moves.Seen.{Seen}
+use Rattle.arj_promise.specs.Runs.{Seen}
 use Rattle.arj_law_disk_view.specs.view.Asking.{SeesConfirming}
 use Rattle.arj_law_disk_view.specs.view.Deciding.{SeesRecords, nodes_of}
 use Rattle.arj_law_disk_view.specs.view.Plans.{used_at}

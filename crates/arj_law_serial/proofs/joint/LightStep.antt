@@ -14,7 +14,7 @@ use Rattle.arj_law_disk.specs.machine.State.{Done, Packed, Plan, State, decided,
 use Rattle.arj_law_disk.specs.machine.Words.{In, has}
 use Rattle.arj_law_disk.proofs.machine.Base.{bool_cases, never, or_cases}
 use Rattle.arj_law_disk.proofs.machine.History.{in_decided}
-use Rattle.arj_law_parts.specs.moves.Seen.{Seen}
+use Rattle.arj_promise.specs.Runs.{Seen}
 use Rattle.arj_law_disk_view.specs.view.Sees.{Kinds}
 use Rattle.arj_law_disk_view.specs.names.Both.{IsPassedNow, SeesBoth}
 use Rattle.arj_law_disk_view.specs.running.Heard.{SeesHeard}

@@ -26,7 +26,7 @@ use Rattle.arj_law_parts.proofs.parts.Begun.{begun_tree, path_found}
 use Rattle.arj_law_parts.proofs.parts.GoodCoords.{doing_by}
 use Rattle.arj_law_parts.proofs.parts.TrueSteps.{well_acked, well_heard}
 use Rattle.arj_law_runs.specs.kept.Worlds.{IsUp}
-use Rattle.arj_law_parts.specs.moves.Seen.{Seen}
+use Rattle.arj_promise.specs.Runs.{Seen}
 use Rattle.arj_law_runs.specs.calls.Coords.{bare}
 use Rattle.arj_law_runs.proofs.calls.WorldSteps.{reads_back}
 use Rattle.arj_law_disk.specs.machine.Names.{Office}

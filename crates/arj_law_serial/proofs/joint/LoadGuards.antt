@@ -14,7 +14,8 @@ use Rattle.arj_law_lock.specs.machine.Machine.{Guard}
 use Rattle.arj_law_lock.specs.machine.State as machine
 use Rattle.arj_law_lock.specs.machine.State.{State}
 use Rattle.arj_law_lock.specs.machine.Steps.{Load}
-use Rattle.arj_law_parts.specs.moves.Seen.{Seen, up}
+use Rattle.arj_law_parts.specs.moves.Seen.{up}
+use Rattle.arj_promise.specs.Runs.{Seen}
 use Rattle.arj_law_runs.proofs.kept.Walked.{other_number, same_number}
 use Rattle.arj_law_lock_view.specs.facts.Works.{KnowsWaits}
 use Rattle.arj_law_lock_view.specs.view.Calling.{IsReached, IsWaiting}

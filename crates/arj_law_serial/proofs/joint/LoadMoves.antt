@@ -14,7 +14,8 @@ use Rattle.arj_protocol.specs.Step.{Node}
 use Rattle.arj_protocol.specs.Tree.{is_own}
 use Rattle.arj_law_parts.specs.parts.Requests.{AreNumbered, IsNumbered}
 use Rattle.arj_law_parts.proofs.parts.GoodCoords.{doing_by}
-use Rattle.arj_law_parts.specs.moves.Seen.{In, Post, Seen, posted, said, up}
+use Rattle.arj_law_parts.specs.moves.Seen.{In, posted, said, up}
+use Rattle.arj_promise.specs.Runs.{Post, Seen}
 use Rattle.arj_law_parts.specs.moves.Walks.{Up, Walks}
 use Rattle.arj_law_disk_view.specs.running.Heard.{IsAskedFor}
 use Rattle.arj_law_disk_view.proofs.view.Frames.{node_here}

@@ -12,7 +12,8 @@ use Rattle.arj_protocol.specs.Order.{binding_number}
 use Rattle.arj_protocol.specs.Step.{Node, parts_in, restart_outs}
 use Rattle.arj_law_parts.specs.parts.Actions.{Action}
 use Rattle.arj_law_parts.specs.parts.Requests.{AreNumbered}
-use Rattle.arj_law_parts.specs.moves.Seen.{In, Post, Seen, at, down, up}
+use Rattle.arj_law_parts.specs.moves.Seen.{In, at, down, up}
+use Rattle.arj_promise.specs.Runs.{Post, Seen}
 use Rattle.arj_law_parts.specs.moves.Walks.{Up, Walks, halted}
 use Rattle.arj_law_parts.proofs.moves.Together.{walks_both}
 use Rattle.arj_law_runs.proofs.kept.Walked.{other_number}

@@ -28,9 +28,10 @@ use Rattle.arj_protocol.specs.World.{is_serial_kind, numbered}
 use Rattle.arj_law_runs.proofs.kept.Handled.{good_coord, one_tree}
 use Rattle.arj_law_runs.proofs.kept.Walked.{same_number}
 use Rattle.arj_law_parts.specs.moves.Seen as seen
-use Rattle.arj_law_parts.specs.moves.Seen.{AreQuiet, Post, Seen, given, posted, said as said_lines, up}
+use Rattle.arj_law_parts.specs.moves.Seen.{AreQuiet, given, posted, said as said_lines, up}
+use Rattle.arj_promise.specs.Runs.{Post, Seen}
 use Rattle.arj_law_parts.specs.moves.Walks.{Up, Walks, halted}
-use Rattle.arj_law_parts.specs.moves.Moves.{world_by}
+use Rattle.arj_promise.specs.Runs.{world_by}
 use Rattle.arj_law_runs.proofs.calls.Reaching.{kept_holds, moves_keep}
 use Rattle.arj_law_serial.specs.joint.Marked.{MarksAreAsked, MarksAreSaid, RunsAskMarks, WasAsked, excludes, was_marked}
 use Rattle.arj_law_serial.proofs.joint.MarkMoves.{Confirms, IsMarking, NoMark, apart_none, said_in, unmarked_said, or_more}

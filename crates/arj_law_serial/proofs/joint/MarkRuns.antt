@@ -31,9 +31,10 @@ use Rattle.arj_protocol.specs.World.{format, is_serial_kind, numbered}
 use Rattle.arj_law_runs.specs.kept.Worlds.{IsGood, IsMemory}
 use Rattle.arj_law_runs.proofs.kept.Walked.{other_number, same_number}
 use Rattle.arj_law_parts.specs.moves.Keeps.{is_act}
-use Rattle.arj_law_parts.specs.moves.Seen.{AreQuiet, Seen, at, given, is_quiet_line, posted, said as said_lines, see, up}
+use Rattle.arj_law_parts.specs.moves.Seen.{AreQuiet, at, given, is_quiet_line, posted, said as said_lines, up}
+use Rattle.arj_promise.specs.Runs.{Seen, see}
 use Rattle.arj_law_parts.specs.moves.Walks.{Up, Walks, halted}
-use Rattle.arj_law_parts.specs.moves.Moves.{world_by}
+use Rattle.arj_promise.specs.Runs.{world_by}
 use Rattle.arj_law_runs.proofs.calls.Reaching.{kept_holds, moves_keep}
 use Rattle.arj_law_serial.specs.joint.Marked.{MarksAreSaid, RunsSayMarks, SaysMarks, excludes, was_marked}
 use Rattle.arj_law_serial.proofs.joint.MarkStates.{All, again_same, begins_all, fits_same, new_all, or_false}

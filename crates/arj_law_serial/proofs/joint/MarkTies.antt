@@ -25,7 +25,8 @@ use Rattle.arj_law_disk.specs.machine.State.{Plan, decided, decided_in, is_seale
 use Rattle.arj_law_disk.specs.machine.Words as disk_list
 use Rattle.arj_law_disk.proofs.machine.Base.{never}
 use Rattle.arj_law_parts.specs.moves.Keeps.{Keeps}
-use Rattle.arj_law_parts.specs.moves.Seen.{Seen, at, down, given, posted, said, see, up}
+use Rattle.arj_law_parts.specs.moves.Seen.{at, down, given, posted, said, up}
+use Rattle.arj_promise.specs.Runs.{Seen, see}
 use Rattle.arj_law_parts.specs.moves.Walks.{Up, Walks, halted}
 use Rattle.arj_law_parts.proofs.moves.Together.{walks_both, walks_to}
 use Rattle.arj_law_disk_view.specs.view.Asking.{SeesConfirming, SeesPreparing}

@@ -7,7 +7,7 @@ use Rattle.arj_model.specs.Last.{first_values, object_line, uid_of_id}
 use Rattle.arj_protocol.specs.Order.{uid_number}
 use Rattle.arj_protocol.specs.Words.{Header, Line}
 use Rattle.arj_law_disk.specs.machine.State.{Done, State}
-use Rattle.arj_law_parts.specs.moves.Seen.{Seen}
+use Rattle.arj_promise.specs.Runs.{Seen}
 use Rattle.arj_law_lock.specs.machine.State as lock
 use Rattle.arj_law_serial.specs.order.Tied.{AreTied, IsTied}
 use Rattle.arj_law_serial.specs.joint.Ordered.{IsOrderedSo}

@@ -24,12 +24,13 @@ use Rattle.arj_law_runs.proofs.journal.Books.{book_more, decided_later, later_fr
 use Rattle.arj_law_runs.proofs.journal.Likes.{some_is}
 use Rattle.arj_law_runs.proofs.journal.Models.{decided_in, in_later, its_acts, named_in, right_before}
 use Rattle.arj_law_lock.specs.machine.State.{State}
-use Rattle.arj_law_serial.specs.order.Decided.{Wrote}
+use Rattle.arj_promise.specs.Excluded.{Wrote}
 use Rattle.arj_law_serial.specs.order.Tied.{IsTied}
 use Rattle.arj_law_serial.proofs.order.Locks.{number_uid}
 use Rattle.arj_law_serial.proofs.order.Order.{IsTopOf, listed, place_of_top, same_number, top_item}
-use Rattle.arj_law_serial.specs.joint.Excluded.{CommitsBeginIt, IsNew, NewWritersAreLast, lines_before, uid_of}
-use Rattle.arj_law_serial.specs.joint.Outcome.{is_said}
+use Rattle.arj_law_serial.specs.joint.Excluded.{CommitsBeginIt, NewWritersAreLast}
+use Rattle.arj_promise.specs.Excluded.{IsNew, lines_before, uid_of}
+use Rattle.arj_model.specs.Outcome.{is_said}
 use Rattle.arj_law_serial.proofs.joint.Behind.{said_so}
 use Rattle.arj_law_serial.proofs.joint.Called.{right_front, writers_are_called_first}
 

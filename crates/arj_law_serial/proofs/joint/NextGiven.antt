@@ -34,7 +34,8 @@ use Rattle.arj_law_serial.specs.order.Codes.{code_of}
 use Rattle.arj_law_serial.specs.order.Seen.{RequestsAreOne}
 use Rattle.arj_law_serial.proofs.order.Codes.{codes_are_apart}
 use Rattle.arj_law_serial.proofs.order.Seeing.{agrees_at, fixed_at}
-use Rattle.arj_law_parts.specs.moves.Seen.{In, Seen, up}
+use Rattle.arj_law_parts.specs.moves.Seen.{In, up}
+use Rattle.arj_promise.specs.Runs.{Seen}
 use Rattle.arj_law_serial.specs.joint.Apt.{AgreesApart}
 use Rattle.arj_law_serial.specs.joint.BasedSteps.{AreBasedSo}
 use Rattle.arj_law_serial.specs.joint.Joined.{ArePlannedSo, IsKnownJoined}

@@ -24,7 +24,8 @@ use Rattle.arj_protocol.specs.Tree.{Branch, at_place, branch_of, is_open, is_ope
 use Rattle.arj_law_parts.specs.parts.Actions.{Action, act_of}
 use Rattle.arj_law_runs.specs.calls.Runs.{KnowsRun}
 use Rattle.arj_law_parts.specs.moves.Seen as posts
-use Rattle.arj_law_parts.specs.moves.Seen.{Seen, up}
+use Rattle.arj_law_parts.specs.moves.Seen.{up}
+use Rattle.arj_promise.specs.Runs.{Seen}
 use Rattle.arj_law_disk.specs.machine.Core.{Core}
 use Rattle.arj_law_disk.specs.machine.Effects.{Whole, World}
 use Rattle.arj_law_disk.specs.machine.Guards.{IsNext}

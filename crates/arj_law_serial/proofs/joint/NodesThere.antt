@@ -10,7 +10,8 @@ use Rattle.arj_protocol.specs.Step.{Node, acts, parent_of, parts_in, restart_out
 use Rattle.arj_protocol.specs.World.{Labelled, is_serial_kind}
 use Rattle.arj_law_runs.proofs.kept.Labels.{put_label}
 use Rattle.arj_law_parts.specs.moves.Keeps.{Keeps, label_at}
-use Rattle.arj_law_parts.specs.moves.Seen.{Seen, at, given, posted, said}
+use Rattle.arj_law_parts.specs.moves.Seen.{at, given, posted, said}
+use Rattle.arj_promise.specs.Runs.{Seen}
 use Rattle.arj_law_parts.specs.moves.Walks.{Up, Walks}
 use Rattle.arj_law_disk_view.proofs.view.FirstSeen.{first_at}
 use Rattle.arj_law_disk_view.proofs.view.Frames.{node_cases, node_here, node_other}

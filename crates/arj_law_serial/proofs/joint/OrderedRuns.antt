@@ -14,7 +14,7 @@ use Rattle.arj_law_disk.specs.machine.State.{Done, Plan, decided, decided_in, ta
 use Rattle.arj_law_disk.proofs.machine.Base.{never, or_right}
 use Rattle.arj_law_disk.proofs.machine.History.{in_decided}
 use Rattle.arj_law_parts.specs.moves.Keeps.{Holds, Keeps}
-use Rattle.arj_law_parts.specs.moves.Seen.{Seen, Post, see}
+use Rattle.arj_promise.specs.Runs.{Seen, Post, see}
 use Rattle.arj_law_disk_view.specs.view.Sees.{Kinds}
 use Rattle.arj_law_disk_view.specs.running.Part.{KeepsPart}
 use Rattle.arj_law_runs.specs.journal.Book.{book, is_decided, is_top, new_book}

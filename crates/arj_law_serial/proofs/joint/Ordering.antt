@@ -12,7 +12,8 @@ use Rattle.arj_protocol.specs.World.{format, is_serial_kind, numbered}
 use Rattle.arj_law_disk.specs.machine.Effects as machine
 use Rattle.arj_law_disk.specs.machine.Names.{Office}
 use Rattle.arj_law_parts.specs.moves.Keeps.{Keeps}
-use Rattle.arj_law_parts.specs.moves.Seen.{Seen, at, down, given, said, see, up}
+use Rattle.arj_law_parts.specs.moves.Seen.{at, down, given, said, up}
+use Rattle.arj_promise.specs.Runs.{Seen, see}
 use Rattle.arj_law_parts.specs.moves.Walks.{Up, Walks, halted}
 use Rattle.arj_law_parts.proofs.moves.Together.{walks_both, walks_to}
 use Rattle.arj_law_disk_view.specs.view.Sees.{IsLater, Kinds}

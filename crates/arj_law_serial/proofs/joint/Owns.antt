@@ -2,7 +2,8 @@
 use Rattle.arj_protocol.specs.Words.{Header}
 use Rattle.arj_law_disk.specs.machine.Effects.{World}
 use Rattle.arj_law_disk.specs.machine.Names.{Office}
-use Rattle.arj_law_parts.specs.moves.Seen.{Seen, at, down, up}
+use Rattle.arj_law_parts.specs.moves.Seen.{at, down, up}
+use Rattle.arj_promise.specs.Runs.{Seen}
 use Rattle.std.specs.Prelude.{ℕ}
 use Rattle.arj_law_disk_view.specs.view.Sees.{Kinds}
 use Rattle.arj_law_disk_view.specs.running.Part.{KeepsPart}

@@ -32,7 +32,8 @@ use Rattle.arj_protocol.specs.Step.{Input, Node, acts, branch_named, on_branch, 
 use Rattle.arj_protocol.specs.Tree.{Branch, open_below, root_of}
 use Rattle.arj_law_parts.proofs.parts.TrueSteps.{without_in}
 use Rattle.arj_law_parts.proofs.parts.Truths.{put_in}
-use Rattle.arj_law_parts.specs.moves.Seen.{Seen, at, posted, said, up}
+use Rattle.arj_law_parts.specs.moves.Seen.{at, posted, said, up}
+use Rattle.arj_promise.specs.Runs.{Seen}
 use Rattle.arj_law_parts.specs.moves.Walks.{Up, Walks, halted}
 use Rattle.arj_law_disk_view.specs.view.Coordinating.{KnowsNode}
 use Rattle.arj_law_disk_view.specs.view.Sees.{Kinds}

@@ -8,7 +8,8 @@ use Rattle.arj_protocol.specs.Node.{Parts}
 use Rattle.arj_protocol.specs.Order.{at_uid, put_uid, without_uid}
 use Rattle.arj_protocol.specs.Step.{Node}
 use Rattle.arj_law_disk_view.proofs.view.Keys.{put_other, put_same, without_other}
-use Rattle.arj_law_parts.specs.moves.Seen.{Post, Seen, Within, at, posted, said}
+use Rattle.arj_law_parts.specs.moves.Seen.{Within, at, posted, said}
+use Rattle.arj_promise.specs.Runs.{Post, Seen}
 use Rattle.arj_law_parts.specs.moves.Walks.{Up, Walks, halted}
 use Rattle.arj_law_serial.specs.whole.Acks.{IsDemanded, WasRecorded, record_in, records_in}
 use Rattle.arj_law_serial.proofs.whole.AckSteps.{demanded_more, records_at, same_records}

@@ -6,7 +6,8 @@ use Rattle.arj_protocol.specs.Words.{Asked, Message}
 use Rattle.arj_protocol.specs.Ask.{Reply, answers, ask_kind, reply_kind}
 use Rattle.arj_protocol.specs.Call.{AtLoad, next_ask, next_node, node_at}
 use Rattle.arj_law_parts.specs.parts.Actions.{Action}
-use Rattle.arj_law_parts.specs.moves.Seen.{In, Seen}
+use Rattle.arj_law_parts.specs.moves.Seen.{In}
+use Rattle.arj_promise.specs.Runs.{Seen}
 use Rattle.arj_law_disk.specs.machine.Names.{Office}
 use Rattle.arj_law_disk_view.specs.view.Sees.{Kinds}
 use Rattle.arj_law_disk_view.proofs.view.Frames.{node_here}

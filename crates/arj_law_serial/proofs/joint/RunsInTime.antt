@@ -8,8 +8,8 @@ use Rattle.arj_model.specs.Last.{first_values, object_line}
 use Rattle.arj_protocol.specs.Words.{Header}
 use Rattle.arj_protocol.specs.World.{World}
 use Rattle.arj_law_serial.proofs.order.Ties.{Ties, ties_of}
-use Rattle.arj_law_parts.specs.moves.Moves.{world_by}
-use Rattle.arj_law_parts.specs.moves.Seen.{see}
+use Rattle.arj_promise.specs.Runs.{world_by}
+use Rattle.arj_promise.specs.Runs.{see}
 use Rattle.arj_law_runs.specs.calls.Reached.{IsReached, Keeping}
 use Rattle.arj_law_serial.proofs.joint.NamedTops.{AreLockTied}
 use Rattle.arj_law_serial.specs.joint.Excluded.{AreExcludedInTime, CommitsBeginIt, IsSeenSo}

@@ -11,10 +11,11 @@ use Rattle.arj_protocol.specs.World.{World}
 use Rattle.arj_law_store.specs.store.Files.{IsPairOf}
 use Rattle.arj_law_store.proofs.store.Refused.{all_there as pairs_there, no_holder}
 use Rattle.arj_law_parts.specs.moves.Keeps.{Stands}
-use Rattle.arj_law_parts.specs.moves.Seen.{Post}
+use Rattle.arj_promise.specs.Runs.{Post}
 use Rattle.arj_law_serial.specs.order.Readings.{ShowsPair}
 use Rattle.arj_law_serial.proofs.joint.Listing.{all_there}
-use Rattle.arj_law_serial.specs.joint.Shown.{ReadingsShowPairs, pair_in}
+use Rattle.arj_law_serial.specs.joint.Shown.{ReadingsShowPairs}
+use Rattle.arj_promise.specs.Disks.{pair_in}
 
 shows_pair : (read : Reading) (r : Role) (d : Pair) → IsPairOf (pair_in read r) d → ShowsPair read r d
 shows_pair read r d are = record {

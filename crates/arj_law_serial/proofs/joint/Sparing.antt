@@ -36,7 +36,8 @@ use Rattle.arj_law_runs.specs.kept.Worlds.{IsGoodOf}
 use Rattle.arj_law_runs.proofs.kept.Handled.{good_coord}
 use Rattle.arj_law_runs.proofs.kept.Walked.{same_number}
 use Rattle.arj_law_serial.proofs.order.Paths.{found}
-use Rattle.arj_law_parts.specs.moves.Seen.{Seen, up}
+use Rattle.arj_law_parts.specs.moves.Seen.{up}
+use Rattle.arj_promise.specs.Runs.{Seen}
 use Rattle.arj_law_serial.specs.joint.Marked.{ConfirmsFor, IsSpared, MarksAreAsked, WasAsked, excludes, was_marked}
 use Rattle.arj_law_serial.proofs.joint.Called.{right_behind}
 use Rattle.arj_law_serial.proofs.joint.MarkMoves.{acts_stay}

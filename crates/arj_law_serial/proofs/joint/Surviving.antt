@@ -10,7 +10,7 @@ use Rattle.arj_model.specs.Calls.{Call, Said, call_of, committed_calls, kept, ke
 use Rattle.arj_model.specs.Serial.{Values, writes_on}
 use Rattle.arj_protocol.specs.Words.{Line, Uid}
 use Rattle.arj_law_parts.specs.parts.Actions.{Action}
-use Rattle.arj_law_parts.specs.moves.Seen.{Seen}
+use Rattle.arj_promise.specs.Runs.{Seen}
 use Rattle.arj_law_runs.specs.journal.Book.{is_top, new_book}
 use Rattle.arj_law_runs.specs.journal.Laws.{IsDone}
 use Rattle.arj_law_runs.specs.journal.Paths.{AreAlike}
@@ -31,7 +31,7 @@ use Rattle.arj_law_lock_view.specs.view.Copies.{Codes}
 use Rattle.arj_law_lock_view.specs.running.Beside.{IsSeenIn}
 use Rattle.arj_law_lock_view.specs.running.Fixed.{BeginsAs, Fixed}
 use Rattle.arj_law_lock_view.specs.running.Kept.{case_of}
-use Rattle.arj_law_serial.specs.order.Decided.{Wrote}
+use Rattle.arj_promise.specs.Excluded.{Wrote}
 use Rattle.arj_law_serial.specs.order.Tied.{HasPlaces, path_of}
 use Rattle.arj_law_serial.proofs.order.Begun.{begun_have_places}
 use Rattle.arj_law_serial.proofs.order.Items.{said_maker}

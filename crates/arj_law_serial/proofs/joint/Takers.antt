@@ -28,7 +28,8 @@ use Rattle.arj_law_serial.proofs.order.Paths.{own_there}
 use Rattle.arj_law_parts.specs.moves.Keeps.{Holds}
 use Rattle.arj_law_runs.specs.calls.Reached.{Keeping}
 use Rattle.arj_law_serial.proofs.joint.NamedTops.{disk_of}
-use Rattle.arj_law_serial.specs.joint.Excluded.{IsNew, TakersAreCommitted, uid_of}
+use Rattle.arj_law_serial.specs.joint.Excluded.{TakersAreCommitted}
+use Rattle.arj_promise.specs.Excluded.{IsNew, uid_of}
 use Rattle.arj_law_serial.specs.joint.Ordered.{IsOrderedSo}
 use Rattle.arj_law_serial.proofs.joint.NewWriters.{its_uid}
 

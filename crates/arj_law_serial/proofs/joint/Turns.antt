@@ -8,7 +8,7 @@ use Rattle.arj_law_disk.specs.machine.State.{Done, decided}
 use Rattle.arj_law_disk.specs.machine.Words.{In}
 use Rattle.arj_law_disk.proofs.machine.Base.{bool_cases, never}
 use Rattle.arj_law_disk.proofs.machine.History.{in_decided}
-use Rattle.arj_law_parts.specs.moves.Seen.{Seen}
+use Rattle.arj_promise.specs.Runs.{Seen}
 use Rattle.arj_law_disk_view.specs.view.Sees.{IsLater}
 use Rattle.arj_law_runs.specs.journal.Book.{book, is_decided}
 use Rattle.arj_law_runs.specs.journal.Knows.{IsKept}

@@ -20,7 +20,7 @@ use Rattle.arj_law_lock.specs.machine.State.{State}
 use Rattle.arj_law_lock_view.specs.running.Fixed.{Fixed}
 use Rattle.arj_law_lock_view.specs.running.Sees.{SeesLocks}
 use Rattle.arj_law_lock_view.specs.running.Tied.{AreTied}
-use Rattle.arj_law_parts.specs.moves.Seen.{Post, Seen, see}
+use Rattle.arj_promise.specs.Runs.{Post, Seen, see}
 use Rattle.arj_law_serial.specs.order.Codes.{code_of}
 use Rattle.arj_law_serial.specs.order.Decided.{VotedSo, WroteSo}
 use Rattle.arj_law_serial.specs.order.Seen.{RequestsAreOne}

@@ -25,7 +25,7 @@ use Rattle.arj_law_disk.specs.machine.Laws.{IsClean}
 use Rattle.arj_law_disk.specs.machine.State.{Packed, last, last_entry}
 use Rattle.arj_law_disk.specs.machine.Words.{has}
 use Rattle.arj_law_disk.proofs.machine.Results.{clean}
-use Rattle.arj_law_parts.specs.moves.Seen.{Seen}
+use Rattle.arj_promise.specs.Runs.{Seen}
 use Rattle.arj_law_disk_view.specs.view.Entries.{SeesEntry}
 use Rattle.arj_law_disk_view.specs.view.Pairs.{packed, packed_entry}
 use Rattle.arj_law_disk_view.specs.view.Sees.{Kinds, SeesDisks}

@@ -33,7 +33,8 @@ use Rattle.arj_law_lock.specs.machine.Steps.{Survives}
 use Rattle.arj_law_lock.proofs.machine.Paths.{on_top, top_of, top_root}
 use Rattle.arj_law_lock_view.specs.view.Acts.{Acts}
 use Rattle.arj_law_lock_view.specs.journal.Lines.{AreIncludesOf, IsIncludeOf, included_on}
-use Rattle.arj_law_serial.specs.order.Decided.{AreDecided, AreDecisions, ChangersHaveTurns, DecideChanges, HaveTurns, IsInTurn, Joined, Wrote}
+use Rattle.arj_law_serial.specs.order.Decided.{AreDecided, AreDecisions, ChangersHaveTurns, DecideChanges, HaveTurns, IsInTurn, Joined}
+use Rattle.arj_promise.specs.Excluded.{Wrote}
 use Rattle.arj_law_serial.specs.order.Tied.{IsTied, path_of}
 use Rattle.arj_law_serial.proofs.order.Includes.{call_then_include, include_then_call, include_then_include}
 use Rattle.arj_law_serial.proofs.order.Items.{HasMaker, maker_at}

@@ -25,7 +25,8 @@ use Rattle.arj_law_lock.proofs.machine.Ordered.{is_entry_written}
 use Rattle.arj_law_lock.proofs.machine.Roots.{roots_low, start_low}
 use Rattle.arj_law_lock_view.specs.view.Rows.{held_in}
 use Rattle.arj_law_lock_view.specs.journal.Lines.{IsIncludeOf, included_on}
-use Rattle.arj_law_serial.specs.order.Locked.{AreRowsSeen, IsSeenAt, IsWrittenIn, is_upper_of, writes_entry}
+use Rattle.arj_law_serial.specs.order.Locked.{AreRowsSeen, IsSeenAt}
+use Rattle.arj_promise.specs.Held.{IsWrittenIn, is_upper_of, writes_entry}
 use Rattle.arj_law_serial.specs.order.Tied.{IsTied, path_of}
 use Rattle.arj_law_serial.proofs.order.Including.{IsChange, IsLastOf, find_include, join_of, last_of, root_of_change}
 use Rattle.arj_law_serial.proofs.order.Locks.{any_in, both_true, find_row, its_number, read_taken, run_place, taken_length, write_mode}

@@ -19,7 +19,7 @@ use Rattle.arj_model.specs.Calls.{Call, Said, Top, committed_calls, kept, root_o
 use Rattle.arj_model.specs.Last.{uid_of_id}
 use Rattle.arj_model.specs.Serial.{Values, root_of, unit_place}
 use Rattle.arj_model.specs.Table.{path_by}
-use Rattle.arj_law.specs.Held.{first_of, holder_root, locks_for, root_of_call, root_uid, unit_end}
+use Rattle.arj_model.specs.Held.{first_of, holder_root, locks_for, root_of_call, root_uid, unit_end}
 use Rattle.arj_law_runs.specs.journal.Book.{new_book}
 use Rattle.arj_law_runs.specs.journal.Laws.{AreDistinct}
 use Rattle.arj_law_runs.specs.journal.Right.{AreRight, has_act}
@@ -42,7 +42,8 @@ use Rattle.arj_law_lock.proofs.machine.Roots.{roots_low, start_low}
 use Rattle.arj_law_lock_view.specs.view.Acts.{Acts}
 use Rattle.arj_law_lock_view.specs.view.Rows.{SeesRows, held_in, strength}
 use Rattle.arj_law_lock_view.specs.journal.Lines.{IsCallOf, said_on}
-use Rattle.arj_law_serial.specs.order.Locked.{IsHeldByUpper, IsSeenAt, caller_at, is_number, is_upper_of, locks_call, locks_entry, ran_at}
+use Rattle.arj_law_serial.specs.order.Locked.{IsHeldByUpper, IsSeenAt, ran_at}
+use Rattle.arj_promise.specs.Held.{caller_at, is_number, is_upper_of, locks_call, locks_entry}
 use Rattle.arj_law_serial.specs.order.Tied.{Began, IsTied, path_of}
 use Rattle.arj_law_serial.proofs.order.Order.{IsShown, IsTopOf, before_top, find_call, head_of, is_top_in, its_root, its_top, listed, one_unit, place_in, root_of_top, same_number, stage_of_top, top_item, unit_behind, upper_chain}
 use Rattle.arj_law_serial.proofs.order.Paths.{own_last, own_there}

@@ -13,9 +13,9 @@ use Rattle.arj_model.specs.Actions.{Act, Placed, acts, behind_first, chain_in, c
 use Rattle.arj_model.specs.Calls.{Call, Said, Top, committed_calls, committings, ids, kept, root_or, said, top_by, top_of, tops}
 use Rattle.arj_model.specs.Last.{is_among}
 use Rattle.arj_model.specs.Serial.{Values, lex, root_of, serial_key, serial_less, top_place, unit_place}
-use Rattle.arj_law.specs.Book.{InOrder, OfEachTwo, StandInOrder, is_conflict}
+use Rattle.arj_model.specs.Book.{InOrder, OfEachTwo, StandInOrder, is_conflict}
 use Rattle.arj_law.specs.Joined.{AreCalled, is_called}
-use Rattle.arj_law.specs.Nested.{AnsweredInTime, FreedInOrder, IsFreedFor, commit_place}
+use Rattle.arj_model.specs.Nested.{AnsweredInTime, FreedInOrder, IsFreedFor, commit_place}
 use Rattle.arj_law_runs.specs.journal.Book.{is_top, new_book}
 use Rattle.arj_law_runs.specs.journal.Laws.{AreApart, AreItsTops, IsDone, called}
 use Rattle.arj_law_runs.specs.journal.Right.{AreRight}

@@ -23,10 +23,11 @@ use Rattle.arj_law_lock_view.specs.view.Families.{acts_of}
 use Rattle.arj_law_lock_view.specs.view.Servers.{Wants}
 use Rattle.arj_law_lock_view.specs.view.Telling.{AreOneTree}
 use Rattle.arj_law_lock_view.proofs.view.FamilySteps.{families_are_trees}
-use Rattle.arj_law_parts.specs.moves.Seen.{Seen}
+use Rattle.arj_promise.specs.Runs.{Seen}
 use Rattle.arj_law_lock_view.specs.view.Copies.{Codes}
 use Rattle.arj_law_serial.specs.order.Codes.{code_of}
-use Rattle.arj_law_serial.specs.order.Seen.{AreLocked, IsSerialBy, RequestsAreOne}
+use Rattle.arj_law_serial.specs.order.Seen.{AreLocked, RequestsAreOne}
+use Rattle.arj_promise.specs.Serial.{IsSerialBy}
 use Rattle.arj_law_serial.specs.order.Tied.{AreApart, IsTied}
 use Rattle.arj_law_serial.proofs.order.Begun.{begun_have_places}
 use Rattle.arj_law_serial.proofs.order.Codes.{codes_are_apart}

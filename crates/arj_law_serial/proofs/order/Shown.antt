@@ -8,7 +8,7 @@ use Rattle.arj_journal.specs.declared.header.Header.{Header}
 use Rattle.arj_model.specs.Clean.{Clean}
 use Rattle.arj_model.specs.Disks.{Disks}
 use Rattle.arj_model.specs.Last.{object_line}
-use Rattle.arj_law_parts.specs.moves.Seen.{Seen}
+use Rattle.arj_promise.specs.Runs.{Seen}
 use Rattle.arj_law_serial.specs.order.Cleaned.{IsCleanIn}
 use Rattle.arj_law_serial.specs.order.Readings.{AreShown}
 

@@ -12,7 +12,7 @@ use Rattle.arj_lock.proofs.Members.{In, in_filter, in_from, in_to}
 use Rattle.arj_model.specs.Calls.{Call, Top, committed_calls, tops}
 use Rattle.arj_model.specs.Last.{count_tops, first_values, last_state, last_writer, state_after, writes_of}
 use Rattle.arj_model.specs.Serial.{Values, run, serial_calls, top_place, writes_on}
-use Rattle.arj_law.specs.Book.{InOrder, writes_before}
+use Rattle.arj_model.specs.Book.{InOrder, writes_before}
 use Rattle.arj_law.proofs.Answers.{run-append}
 use Rattle.arj_law.proofs.Common.{Pairwise, not_below_itself, pairwise_before}
 use Rattle.arj_law.proofs.Last.{value_of_writes, writes_are, writes_conflict}

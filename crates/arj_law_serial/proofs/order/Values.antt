@@ -11,7 +11,7 @@ use Rattle.arj_lock.proofs.Members.{In, in_filter, in_filter_map}
 use Rattle.arj_model.specs.Actions.{Act, Placed, committed, recovered, top_in}
 use Rattle.arj_model.specs.Calls.{Call, Said, call_of, committed_calls, kept, kept_in, said, said_of}
 use Rattle.arj_model.specs.Serial.{Values, after, run, writes_on}
-use Rattle.arj_law.specs.Book.{Answered, IsAnsweredBy}
+use Rattle.arj_model.specs.Book.{Answered, IsAnsweredBy}
 use Rattle.arj_law.proofs.Common.{Pairwise, not_below_back, not_below_itself, read_rises}
 use Rattle.arj_law_runs.specs.journal.Book.{new_book}
 use Rattle.arj_law_runs.specs.journal.Right.{AreRight}

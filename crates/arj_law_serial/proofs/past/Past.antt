@@ -48,7 +48,8 @@ use Rattle.arj_law_runs.proofs.kept.Begins.{begin_good, its_uid}
 use Rattle.arj_law_runs.proofs.kept.Handled.{act_good, good_coord, it, message_good, own_of_disk, records_of_disk, tick_good, tops_of_disk}
 use Rattle.arj_law_runs.proofs.kept.Starts.{restart_good}
 use Rattle.arj_law_parts.specs.moves.Keeps.{is_act}
-use Rattle.arj_law_parts.specs.moves.Seen.{In, Post, Seen, at, down, given, posted, said, see, up}
+use Rattle.arj_law_parts.specs.moves.Seen.{In, at, down, given, posted, said, up}
+use Rattle.arj_promise.specs.Runs.{Post, Seen, see}
 use Rattle.arj_law_parts.specs.moves.Walks.{Up, Walks, halted}
 use Rattle.arj_law_disk_view.proofs.view.FirstSeen.{first_at}
 use Rattle.arj_law_disk_view.proofs.view.Frames.{node_here}

@@ -27,7 +27,7 @@ use Rattle.arj_law_parts.proofs.parts.Begun.{begun_tree, one_action, path_found}
 use Rattle.arj_law_parts.proofs.parts.TrueSteps.{work_there}
 use Rattle.arj_law_runs.specs.kept.Worlds.{IsMemory, IsUp}
 use Rattle.arj_law_runs.proofs.kept.Walked.{same_number}
-use Rattle.arj_law_parts.specs.moves.Seen.{Seen}
+use Rattle.arj_promise.specs.Runs.{Seen}
 use Rattle.arj_law_runs.specs.journal.Book.{book, is_decided, new_book}
 use Rattle.arj_law_runs.specs.journal.Paths.{AreAlike}
 use Rattle.arj_law_runs.specs.journal.Right.{AreRight, has_act}

@@ -39,7 +39,8 @@ use Rattle.arj_law_runs.proofs.kept.Begins.{begin_good}
 use Rattle.arj_law_runs.proofs.kept.Handled.{act_good, good_coord, it, message_good, own_of_disk, records_of_disk, tick_good, tops_of_disk}
 use Rattle.arj_law_runs.proofs.kept.Walked.{same_number}
 use Rattle.arj_law_parts.specs.moves.Keeps.{is_act}
-use Rattle.arj_law_parts.specs.moves.Seen.{In, Post, Seen, at, down, given, see, up}
+use Rattle.arj_law_parts.specs.moves.Seen.{In, at, down, given, up}
+use Rattle.arj_promise.specs.Runs.{Post, Seen, see}
 use Rattle.arj_law_parts.specs.moves.Walks.{Up, Walks, halted}
 use Rattle.arj_law_runs.specs.journal.Book.{book}
 use Rattle.arj_law_runs.specs.journal.Knows.{IsEnd, IsKnown, IsWritten, KnowsUp}

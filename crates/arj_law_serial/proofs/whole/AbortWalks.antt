@@ -35,7 +35,8 @@ use Rattle.arj_law_parts.proofs.parts.TrueSteps.{without_in}
 use Rattle.arj_law_runs.specs.kept.Worlds.{IsGoodOf, IsMemory}
 use Rattle.arj_law_runs.proofs.kept.Handled.{it}
 use Rattle.arj_law_runs.proofs.kept.Walked.{other_number, same_number}
-use Rattle.arj_law_parts.specs.moves.Seen.{In, Post, Seen, at, down, posted, said}
+use Rattle.arj_law_parts.specs.moves.Seen.{In, at, down, posted, said}
+use Rattle.arj_promise.specs.Runs.{Post, Seen}
 use Rattle.arj_law_parts.specs.moves.Walks.{Up, Walks, halted}
 use Rattle.arj_law_runs.specs.journal.Book.{Book, book, is_decided, new_book}
 use Rattle.arj_law_runs.specs.journal.Knows.{AreIdle, EachRecord}

@@ -30,7 +30,8 @@ use Rattle.arj_law_runs.specs.kept.Worlds.{IsGoodOf}
 use Rattle.arj_law_runs.proofs.kept.Begins.{begin_good, its_uid}
 use Rattle.arj_law_runs.proofs.kept.Handled.{good_coord, it}
 use Rattle.arj_law_parts.specs.moves.Keeps.{MayGive, label_at}
-use Rattle.arj_law_parts.specs.moves.Seen.{In, Post, Seen, down, given, said, see, up}
+use Rattle.arj_law_parts.specs.moves.Seen.{In, down, given, said, up}
+use Rattle.arj_promise.specs.Runs.{Post, Seen, see}
 use Rattle.arj_law_parts.specs.moves.Walks.{Up, Walks}
 use Rattle.arj_law_runs.proofs.calls.CoordOuts.{quiet_again}
 use Rattle.arj_law_runs.proofs.calls.CoordSends.{AllQuiet, IsQuiet}

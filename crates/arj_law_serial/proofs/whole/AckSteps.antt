@@ -13,7 +13,8 @@ use Rattle.arj_protocol.specs.Server.{is_told}
 use Rattle.arj_protocol.specs.Step.{Node}
 use Rattle.arj_law_parts.specs.parts.Actions.{Action}
 use Rattle.arj_law_parts.specs.parts.Ends.{told_by}
-use Rattle.arj_law_parts.specs.moves.Seen.{In, Post, Seen, at, posted, said}
+use Rattle.arj_law_parts.specs.moves.Seen.{In, at, posted, said}
+use Rattle.arj_promise.specs.Runs.{Post, Seen}
 use Rattle.arj_law_parts.specs.moves.Walks.{Up, Walks, halted}
 use Rattle.arj_law_disk_view.specs.running.Records.{recorded}
 use Rattle.arj_law_disk_view.specs.view.Pairs.{AreSorted}

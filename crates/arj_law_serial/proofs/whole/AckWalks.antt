@@ -38,7 +38,8 @@ use Rattle.arj_law_parts.proofs.parts.TrueSteps.{top_in}
 use Rattle.arj_law_runs.specs.kept.Worlds.{IsGoodOf, IsUp}
 use Rattle.arj_law_runs.proofs.kept.Handled.{act_good, good_coord, it, message_good, own_of_disk, records_of_disk, tick_good, tops_of_disk}
 use Rattle.arj_law_parts.specs.moves.Keeps.{is_act}
-use Rattle.arj_law_parts.specs.moves.Seen.{In, Post, Seen, at, posted, said, up}
+use Rattle.arj_law_parts.specs.moves.Seen.{In, at, posted, said, up}
+use Rattle.arj_promise.specs.Runs.{Post, Seen}
 use Rattle.arj_law_parts.specs.moves.Walks.{Up, Walks}
 use Rattle.arj_law_runs.specs.calls.Lived.{LivesRun, PassesAll, PassesIn}
 use Rattle.arj_law_runs.specs.calls.Runs.{KnowsFew}

@@ -27,7 +27,8 @@ use Rattle.arj_law_runs.specs.kept.Worlds.{IsGood, IsGoodOf}
 use Rattle.arj_law_runs.proofs.kept.Handled.{good_coord, it}
 use Rattle.arj_law_runs.proofs.kept.Walked.{other_number, same_number}
 use Rattle.arj_law_parts.specs.moves.Keeps.{AsksNode, KeepsAsked, is_act}
-use Rattle.arj_law_parts.specs.moves.Seen.{AreQuiet, In, Seen, at, given, is_quiet_line, posted, said as said_lines, see, up}
+use Rattle.arj_law_parts.specs.moves.Seen.{AreQuiet, In, at, given, is_quiet_line, posted, said as said_lines, up}
+use Rattle.arj_promise.specs.Runs.{Seen, see}
 use Rattle.arj_law_parts.specs.moves.Walks.{Up, Walks, halted}
 use Rattle.arj_law_parts.proofs.moves.Happens.{keeps_asked}
 use Rattle.arj_law_parts.proofs.moves.Together.{walks_both}

@@ -26,7 +26,7 @@ use Rattle.arj_law_parts.specs.parts.Nodes.{IsGoodNode}
 use Rattle.arj_law_parts.proofs.parts.Begun.{serial_alone, where_stands}
 use Rattle.arj_law_parts.proofs.parts.EndsSaid.{none_in}
 use Rattle.arj_law_runs.proofs.kept.Walked.{same_number}
-use Rattle.arj_law_parts.specs.moves.Seen.{Post, Seen}
+use Rattle.arj_promise.specs.Runs.{Post, Seen}
 use Rattle.arj_law_parts.specs.moves.Seen as seen_law
 use Rattle.arj_law_lock_view.specs.view.Actions.{IsPlaced}
 use Rattle.arj_law_lock_view.specs.view.Telling.{AreOneTree, HasNoneLeft, Sees}

@@ -39,7 +39,8 @@ use Rattle.arj_law_runs.specs.kept.Worlds.{IsGood, IsGoodOf}
 use Rattle.arj_law_runs.proofs.kept.Handled.{good_coord, it, tops_of_disk}
 use Rattle.arj_law_runs.proofs.kept.Walked.{same_number}
 use Rattle.arj_law_parts.specs.moves.Keeps.{is_act}
-use Rattle.arj_law_parts.specs.moves.Seen.{In, Seen, down, up}
+use Rattle.arj_law_parts.specs.moves.Seen.{In, down, up}
+use Rattle.arj_promise.specs.Runs.{Seen}
 use Rattle.arj_law_parts.specs.moves.Walks.{Up}
 use Rattle.arj_law_runs.specs.addresses.Binds.{BindsAreKnown}
 use Rattle.arj_law_runs.specs.calls.Bindings.{AreSaid, HasFewBindings, bindings_made}

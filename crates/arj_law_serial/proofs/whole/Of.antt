@@ -9,7 +9,8 @@ use Rattle.arj_protocol.specs.Step.{acts, parent_of, parts_in, restart_outs}
 use Rattle.arj_protocol.specs.World.{is_serial_kind}
 use Rattle.arj_law_parts.specs.parts.Actions.{Action}
 use Rattle.arj_law_parts.specs.moves.Keeps.{Keeps}
-use Rattle.arj_law_parts.specs.moves.Seen.{Seen, given, posted, said}
+use Rattle.arj_law_parts.specs.moves.Seen.{given, posted, said}
+use Rattle.arj_promise.specs.Runs.{Seen}
 use Rattle.arj_law_parts.specs.moves.Walks.{Up, Walks}
 use Rattle.arj_law_parts.proofs.moves.Together.{walks_both, walks_to}
 use Rattle.arj_law_lock_view.specs.facts.Acts.{KeepsOf, begins_in}

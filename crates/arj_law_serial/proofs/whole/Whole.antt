@@ -10,7 +10,8 @@ use Rattle.arj_protocol.specs.World.{is_serial_kind}
 use Rattle.arj_law_parts.specs.parts.Actions.{Action, paths_of}
 use Rattle.arj_law_parts.proofs.parts.Begun.{begun_tree}
 use Rattle.arj_law_runs.proofs.kept.Handled.{good_coord}
-use Rattle.arj_law_parts.specs.moves.Seen.{Seen, given, up}
+use Rattle.arj_law_parts.specs.moves.Seen.{given, up}
+use Rattle.arj_promise.specs.Runs.{Seen}
 use Rattle.arj_law_runs.specs.calls.Bindings.{AreSaid}
 use Rattle.arj_law_runs.specs.calls.Runs.{KnowsFew}
 use Rattle.arj_law_runs.proofs.calls.MadeLines.{counts_are_said}

@@ -6,7 +6,7 @@ use Rattle.arj_protocol.specs.Words.{Header, Line}
 use Rattle.arj_protocol.specs.Node.{Parts}
 use Rattle.arj_protocol.specs.Tree.{at_place}
 use Rattle.arj_protocol.specs.World.{World, format}
-use Rattle.arj_law_parts.specs.moves.Moves.{AfterMoves, Move}
+use Rattle.arj_promise.specs.Runs.{AfterMoves, Move}
 use Rattle.arj_law_serial.specs.holding.Held.{entry_locks_in, locks_in, memory_of}
 use Rattle.arj_law_serial.specs.tables.Tables.{rows_on}
 

@@ -4,7 +4,7 @@ use Rattle.arj_model.specs.Serial.{Values}
 use Rattle.arj_law_parts.specs.parts.Actions.{Action}
 use Rattle.arj_law_lock_view.specs.running.Fixed.{AgreesBy, BeginsAs, Fixed}
 use Rattle.arj_law_serial.specs.order.Tied.{AreApart}
-use Rattle.arj_law_parts.specs.moves.Seen.{Post}
+use Rattle.arj_promise.specs.Runs.{Post}
 
 -- the object begins so, and values are told apart
 abbrev pub IsApt : Values → ℕ → Fixed → Type 0

@@ -22,7 +22,8 @@ use Rattle.arj_law_lock.specs.logs.Under.{MayCount}
 use Rattle.arj_law_lock_view.specs.view.Copies.{SeesCopy}
 use Rattle.arj_law_lock_view.specs.running.Fixed.{Fixed}
 use Rattle.arj_law_disk_view.specs.running.States.{CoordIsSo, Fits, MessageIsSo}
-use Rattle.arj_law_parts.specs.moves.Seen.{In, Post, Seen}
+use Rattle.arj_law_parts.specs.moves.Seen.{In}
+use Rattle.arj_promise.specs.Runs.{Post, Seen}
 
 -- ---- one copy
 

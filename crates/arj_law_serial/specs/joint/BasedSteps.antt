@@ -28,7 +28,8 @@ use Rattle.arj_law_lock_view.specs.running.Sees.{SeesLocks}
 use Rattle.arj_law_lock_view.specs.view.Handling.{IsMessageShown}
 use Rattle.arj_law_lock_view.specs.view.Telling.{Sees}
 use Rattle.arj_law_serial.specs.order.Tied.{AreApart}
-use Rattle.arj_law_parts.specs.moves.Seen.{In, Seen, at, up}
+use Rattle.arj_law_parts.specs.moves.Seen.{In, at, up}
+use Rattle.arj_promise.specs.Runs.{Seen}
 use Rattle.arj_law_parts.specs.moves.Walks.{Up, Walks, halted}
 use Rattle.arj_law_serial.specs.joint.Based.{AreBased, CopiesAreBased, HasWriters, IsKnownState, WasVotedOver, coord_fits}
 

@@ -1,7 +1,7 @@
 -- The first state and entry of an object's machine, in whole runs.
 use Rattle.std.specs.Prelude.{◌≡◌, ℕ, true, List}
 use Rattle.arj_protocol.specs.Words.{Header}
-use Rattle.arj_law_parts.specs.moves.Seen.{Seen}
+use Rattle.arj_promise.specs.Runs.{Seen}
 use Rattle.arj_law_disk_view.specs.deciding_lines.Said.{IsJournalled}
 use Rattle.arj_law_serial.specs.order.Cleaned.{BeginsSo}
 

@@ -1,11 +1,11 @@
 -- Runs whose answered calls keep the lock book: their order, their values, and the nesting of actions.
 use Rattle.std.specs.Prelude.{List}
-pub use Rattle.arj_law.specs.Keeping.{KeepsTheBook}
+pub use Rattle.arj_model.specs.Keeping.{KeepsTheBook}
 use Rattle.arj_law.specs.Joined.{AreCalled}
 use Rattle.arj_model.specs.Last.{first_values}
 use Rattle.arj_protocol.specs.Words.{Header}
-use Rattle.arj_law_parts.specs.moves.Moves.{Move, journal_by}
-use Rattle.arj_law_serial.specs.joint.FitRuns.{IsInForm}
+use Rattle.arj_promise.specs.Runs.{Move, journal_by}
+use Rattle.arj_promise.specs.Runs.{IsInForm}
 
 -- The journal of every run in form keeps the book, whatever stops fall.
 abbrev pub RunsKeepTheBook : Type 0

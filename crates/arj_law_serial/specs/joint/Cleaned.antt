@@ -3,10 +3,10 @@ use Rattle.std.specs.Prelude.{List, []}
 use Rattle.arj_model.specs.Clean.{Clean}
 use Rattle.arj_model.specs.Disks.{Disks}
 use Rattle.arj_protocol.specs.Words.{Header}
-use Rattle.arj_law_parts.specs.moves.Moves.{Move, journal_by, world_by}
-use Rattle.arj_law_parts.specs.moves.Seen.{see}
-use Rattle.arj_law_serial.specs.joint.FitRuns.{IsInForm}
-use Rattle.arj_law_serial.specs.joint.Shown.{DisksAre}
+use Rattle.arj_promise.specs.Runs.{Move, journal_by, world_by}
+use Rattle.arj_promise.specs.Runs.{see}
+use Rattle.arj_promise.specs.Runs.{IsInForm}
+use Rattle.arj_promise.specs.Disks.{DisksAre}
 
 -- After each run in form, whatever stops fall, its nodes' disks are clean, however they are read.
 abbrev pub RunsAreClean : Type 0

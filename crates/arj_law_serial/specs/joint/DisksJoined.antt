@@ -9,9 +9,9 @@ use Rattle.arj_journal.specs.declared.header.Header.{Header}
 use Rattle.arj_law.specs.Joined.{AreJoined, Marks, last_from, marks_after}
 use Rattle.arj_model.specs.Calls.{Top}
 use Rattle.arj_model.specs.Disks.{Disks, held}
-use Rattle.arj_law_serial.specs.order.Decided.{Wrote}
-use Rattle.arj_law_serial.specs.joint.DisksInTime.{DiskTakesOut, DisksAreInTime, HasPrepared, Lists}
-use Rattle.arj_law_serial.specs.joint.Excluded.{IsNew, uid_of}
+use Rattle.arj_promise.specs.Excluded.{Wrote}
+use Rattle.arj_promise.specs.Excluded.{DiskTakesOut, DisksAreInTime, HasPrepared, Lists}
+use Rattle.arj_promise.specs.Excluded.{IsNew, uid_of}
 
 -- the last state counted from these marks is held, or prepared for the top, or an entry without the store is prepared
 abbrev pub DiskIsInTimeFrom : Header → Marks → List Line → ℕ → Disks → Top → ℕ → Type 0

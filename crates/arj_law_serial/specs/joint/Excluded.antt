@@ -23,27 +23,15 @@ use Rattle.arj_protocol.specs.Values.{state_entry}
 use Rattle.arj_law_disk.specs.machine.State as disk
 use Rattle.arj_law_disk.specs.machine.State.{Hold, State}
 use Rattle.arj_law_disk_view.specs.view.Pairs.{IsOf}
-use Rattle.arj_law_parts.specs.moves.Moves.{Move, journal_by, world_by}
-use Rattle.arj_law_parts.specs.moves.Seen.{Seen}
-use Rattle.arj_law_serial.specs.order.Decided.{AreDecided, Wrote}
+use Rattle.arj_promise.specs.Runs.{Move, journal_by, world_by}
+use Rattle.arj_promise.specs.Runs.{Seen}
+use Rattle.arj_law_serial.specs.order.Decided.{AreDecided}
+use Rattle.arj_promise.specs.Excluded.{Wrote}
 use Rattle.arj_law_serial.specs.order.Runs.{IsSeenDecided}
 use Rattle.arj_law_serial.specs.order.Tied.{IsTied}
 use Rattle.arj_law_serial.specs.joint.Forms.{NodeIsSo, kind_of}
-use Rattle.arj_law_serial.specs.joint.Outcome.{is_said}
-
--- the lines of events before this one
-abbrev pub lines_before : ℕ → List Line → List Line
-lines_before e [] = []
-lines_before e (line ∷ lines) = if nat_lt line.event e then line ∷ lines_before e lines else []
-
--- the Uid of a top
-abbrev pub uid_of : List Line → Top → Uid
-uid_of lines t = uid_of_id (acts lines) t.id
-
--- The top is committed, and isn't by the lines before this event: where that is the last event, its first `committed` or `recovered` line is
--- in it.
-abbrev pub IsNew : ℕ → List Line → Top → Type 0
-IsNew e lines t = Contains (tops lines) t × (is_said (lines_before e lines) (uid_of lines t) ≡ false)
+use Rattle.arj_model.specs.Outcome.{is_said}
+use Rattle.arj_promise.specs.Excluded.{IsNew, uid_of}
 
 -- the store holds the object's last state
 abbrev pub HoldsLast : Header → List Line → ℕ → Node → Type 0

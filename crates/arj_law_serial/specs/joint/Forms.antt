@@ -16,7 +16,8 @@ use Rattle.arj_protocol.specs.Step.{Node}
 use Rattle.arj_protocol.specs.Values.{state_entry}
 use Rattle.arj_law_disk_view.specs.running.States.{CoordIsSo, Fits, MessageIsSo, Own}
 use Rattle.arj_law_parts.specs.moves.Keeps.{Keeps}
-use Rattle.arj_law_parts.specs.moves.Seen.{In, Post, Seen}
+use Rattle.arj_law_parts.specs.moves.Seen.{In}
+use Rattle.arj_promise.specs.Runs.{Post, Seen}
 
 -- ---- states
 

@@ -4,7 +4,7 @@ use Rattle.arj_protocol.specs.Words.{Label}
 use Rattle.arj_protocol.specs.Step.{Node}
 use Rattle.arj_protocol.specs.World.{Labelled}
 use Rattle.arj_law_parts.specs.moves.Keeps.{label_at}
-use Rattle.arj_law_parts.specs.moves.Seen.{Seen}
+use Rattle.arj_promise.specs.Runs.{Seen}
 
 -- each label that was given is of a node that is there
 abbrev pub AreHoused : Seen → Type 0

@@ -1,9 +1,9 @@
 -- Runs that exclude stores in time, by both machines of each object.
 use Rattle.std.specs.Prelude.{List, []}
 use Rattle.arj_protocol.specs.Words.{Header}
-use Rattle.arj_law_parts.specs.moves.Moves.{Move, world_by}
-use Rattle.arj_law_parts.specs.moves.Seen.{see}
-use Rattle.arj_law_serial.specs.joint.FitRuns.{IsInForm}
+use Rattle.arj_promise.specs.Runs.{Move, world_by}
+use Rattle.arj_promise.specs.Runs.{see}
+use Rattle.arj_promise.specs.Runs.{IsInForm}
 use Rattle.arj_law_serial.specs.joint.Excluded.{AreExcludedInTime}
 
 -- After each run in form, whatever stops fall, stores are excluded in time.

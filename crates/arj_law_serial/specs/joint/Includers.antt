@@ -7,11 +7,12 @@ use Rattle.arj_protocol.specs.Order.{uid_number}
 use Rattle.arj_law_disk.specs.machine.Order.{counts_of}
 use Rattle.arj_law_disk.specs.machine.State.{Done, Plan}
 use Rattle.arj_law_disk.specs.machine.Words.{In, has}
-use Rattle.arj_law_parts.specs.moves.Seen.{Seen}
+use Rattle.arj_promise.specs.Runs.{Seen}
 use Rattle.arj_law_runs.specs.journal.Book.{new_book}
 use Rattle.arj_law_runs.specs.journal.Right.{AreRight}
 use Rattle.arj_law_lock.specs.machine.State as lock
-use Rattle.arj_law_serial.specs.order.Decided.{AreDecisions, Joined, Wrote}
+use Rattle.arj_law_serial.specs.order.Decided.{AreDecisions, Joined}
+use Rattle.arj_promise.specs.Excluded.{Wrote}
 use Rattle.arj_law_serial.specs.order.Tied.{IsTied}
 use Rattle.arj_law_serial.specs.joint.Lights.{LightsAreSplit}
 use Rattle.arj_law_serial.specs.joint.Ordered.{IsCalledBefore, IsOrderedSo}

@@ -23,8 +23,8 @@ use Rattle.arj_law_lock.specs.machine.Actions.{In, top}
 use Rattle.arj_law_lock.specs.machine.Machine.{Run, start}
 use Rattle.arj_law_lock.specs.machine.State as lock
 use Rattle.arj_law_parts.specs.moves.Keeps.{Holds}
-use Rattle.arj_law_parts.specs.moves.Moves.{Move, journal_by, world_by}
-use Rattle.arj_law_parts.specs.moves.Seen.{Seen}
+use Rattle.arj_promise.specs.Runs.{Move, journal_by, world_by}
+use Rattle.arj_promise.specs.Runs.{Seen}
 use Rattle.arj_law_runs.specs.journal.Book.{book, is_decided}
 use Rattle.arj_law_runs.specs.journal.Idle.{IsIdle}
 use Rattle.arj_law_runs.specs.journal.Knows.{IsKept}
@@ -41,15 +41,17 @@ use Rattle.arj_law_serial.specs.order.Tied.{AreApart, AreTied as AreJournalTied}
 use Rattle.arj_law_serial.specs.joint.Apt.{AgreesApart}
 use Rattle.arj_law_serial.specs.joint.Based.{IsVotedOver}
 use Rattle.arj_law_serial.specs.joint.BasedSteps.{AreBasedSo}
-use Rattle.arj_law_serial.specs.joint.FitRuns.{IsInForm}
+use Rattle.arj_promise.specs.Runs.{IsInForm}
 use Rattle.arj_law_serial.specs.joint.Includers.{IncludersTakeTurns}
 use Rattle.arj_law_serial.specs.joint.Lights.{LightsAreSplit}
 use Rattle.arj_law_serial.specs.joint.Loads.{AreLoadsLast}
 use Rattle.arj_law_serial.specs.joint.Nodes.{NodesAreThere}
 use Rattle.arj_law_serial.specs.joint.Ordered.{IsOrdered, IsOrderedSo}
 use Rattle.arj_law_serial.specs.joint.Recorded.{WereRecorded}
-use Rattle.arj_law_serial.specs.order.Decided.{Wrote, WroteSo}
-use Rattle.arj_law_serial.specs.order.Seen.{IsSerialBy, RequestsAreOne}
+use Rattle.arj_law_serial.specs.order.Decided.{WroteSo}
+use Rattle.arj_promise.specs.Excluded.{Wrote}
+use Rattle.arj_law_serial.specs.order.Seen.{RequestsAreOne}
+use Rattle.arj_promise.specs.Serial.{IsSerialBy}
 use Rattle.arj_law_disk_view.specs.running.Bindings.{AreGoodCounted, KnowsScript}
 use Rattle.arj_law_disk_view.specs.running.Listed.{LoadsAgree}
 use Rattle.arj_law_disk_view.specs.running.Rest.{SeesCarried}

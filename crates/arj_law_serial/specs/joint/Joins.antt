@@ -14,7 +14,7 @@ use Rattle.arj_protocol.specs.Step.{Node}
 use Rattle.arj_protocol.specs.Tree.{is_own}
 use Rattle.arj_protocol.specs.Words.{Uid, name}
 use Rattle.arj_law_disk_view.specs.view.Plans.{plan_at}
-use Rattle.arj_law_parts.specs.moves.Seen.{Seen}
+use Rattle.arj_promise.specs.Runs.{Seen}
 use Rattle.arj_law_runs.specs.journal.Book.{Access, Book, book}
 use Rattle.arj_law_runs.specs.journal.Knows.{root_in}
 use Rattle.arj_law_runs.specs.journal.Plans.{path_of}

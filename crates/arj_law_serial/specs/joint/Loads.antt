@@ -11,7 +11,8 @@ use Rattle.arj_protocol.specs.Step.{Node}
 use Rattle.arj_law_lock.specs.machine.Machine.{Guard}
 use Rattle.arj_law_lock.specs.machine.State.{State}
 use Rattle.arj_law_lock.specs.machine.Steps.{Load}
-use Rattle.arj_law_parts.specs.moves.Seen.{In, Post, Seen}
+use Rattle.arj_law_parts.specs.moves.Seen.{In}
+use Rattle.arj_promise.specs.Runs.{Post, Seen}
 use Rattle.arj_law_lock_view.specs.view.Copies.{state_code}
 use Rattle.arj_law_lock_view.specs.running.Fixed.{Fixed}
 

@@ -9,7 +9,7 @@ use Rattle.arj_law_disk.specs.machine.Effects.{World}
 use Rattle.arj_law_disk.specs.machine.State.{Done, decided, is_sealed, target}
 use Rattle.arj_law_disk.specs.machine.Words as disk
 use Rattle.arj_law_disk.specs.machine.Words.{In}
-use Rattle.arj_law_parts.specs.moves.Seen.{Seen}
+use Rattle.arj_promise.specs.Runs.{Seen}
 use Rattle.arj_law_runs.specs.journal.Book.{book}
 use Rattle.arj_law_serial.specs.joint.Joined.{IsRecordedAt}
 use Rattle.arj_law_serial.specs.joint.Joins.{AreRising, has_included}

@@ -1,7 +1,7 @@
 -- Nodes that are there, in what is seen.
 use Rattle.std.specs.Prelude.{◌≡◌, ℕ, Some}
 use Rattle.arj_protocol.specs.Step.{Node}
-use Rattle.arj_law_parts.specs.moves.Seen.{Seen}
+use Rattle.arj_promise.specs.Runs.{Seen}
 use Rattle.arj_law_serial.specs.joint.Housed.{AreHoused}
 
 -- each node has its number

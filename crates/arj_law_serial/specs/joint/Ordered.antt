@@ -8,7 +8,7 @@ use Rattle.arj_protocol.specs.Order.{uid_number}
 use Rattle.arj_law_disk.specs.machine.Effects.{World}
 use Rattle.arj_law_disk.specs.machine.State.{Done, State, decided, target}
 use Rattle.arj_law_disk.specs.machine.Words.{In, has}
-use Rattle.arj_law_parts.specs.moves.Seen.{Seen}
+use Rattle.arj_promise.specs.Runs.{Seen}
 use Rattle.arj_law_disk_view.specs.running.Decided.{AreCalled, AreOnce}
 use Rattle.arj_law_disk_view.specs.deciding_lines.Said.{IsPlain}
 use Rattle.arj_law_runs.specs.journal.Book.{book, is_decided, is_top}

@@ -5,7 +5,7 @@ use Rattle.arj_protocol.specs.Order.{uid_number}
 use Rattle.arj_protocol.specs.Step.{Node}
 use Rattle.arj_law_disk.specs.machine.Effects.{World}
 use Rattle.arj_law_disk.specs.machine.State.{decided}
-use Rattle.arj_law_parts.specs.moves.Seen.{Seen}
+use Rattle.arj_promise.specs.Runs.{Seen}
 use Rattle.arj_law_serial.specs.whole.Acks.{WasRecorded, records_in}
 
 -- of each top that is decided, at a node that is there, the commit has a record, or was told to be acknowledged

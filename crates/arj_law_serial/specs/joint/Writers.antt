@@ -9,7 +9,8 @@ use Rattle.arj_law_disk.specs.machine.State.{Done}
 use Rattle.arj_law_runs.specs.journal.Book.{new_book}
 use Rattle.arj_law_runs.specs.journal.Right.{AreRight}
 use Rattle.arj_law_lock.specs.machine.State.{State}
-use Rattle.arj_law_serial.specs.order.Decided.{AreDecisions, Wrote}
+use Rattle.arj_law_serial.specs.order.Decided.{AreDecisions}
+use Rattle.arj_promise.specs.Excluded.{Wrote}
 use Rattle.arj_law_serial.specs.order.Tied.{IsTied}
 use Rattle.arj_law_disk_view.specs.running.Decided.{AreOnce}
 use Rattle.arj_law_serial.specs.joint.Ordered.{AreTurnsOf, IsCalledFirst}

@@ -11,8 +11,8 @@ use Rattle.arj_model.specs.Actions.{acts}
 use Rattle.arj_model.specs.Calls.{Call, Top, committed_calls, tops}
 use Rattle.arj_model.specs.Last.{first_values, increasing, is_among, joins_of, leaves_of, serial_tops, uid_of_id}
 use Rattle.arj_model.specs.Serial.{Values, run, unit_place, writes_on}
-use Rattle.arj_law.specs.Book.{writes_before}
-pub use Rattle.arj_law.specs.Book.{CommitsComeFirst, IsCalledFirst}
+use Rattle.arj_model.specs.Book.{writes_before}
+pub use Rattle.arj_model.specs.Book.{CommitsComeFirst, IsCalledFirst}
 use Rattle.arj_law.specs.Growth.{AreDecidedInOrder, IdleInPlace, first_stores}
 use Rattle.arj_law_lock.specs.machine.Actions.{Act, In, top}
 use Rattle.arj_law_lock.specs.machine.State as machine
@@ -21,6 +21,7 @@ use Rattle.arj_protocol.specs.Order.{uid_number}
 use Rattle.arj_law_disk.specs.machine.Order.{counts_of}
 use Rattle.arj_law_disk.specs.machine.State.{Done, Packed, target}
 use Rattle.arj_law_serial.specs.order.Tied.{IsTied}
+use Rattle.arj_promise.specs.Excluded.{Wrote}
 
 -- the value that a write left: by its operation, at the value that the surviving writes before it left
 abbrev pub left_by : Values → List Line → Call → Value
@@ -84,10 +85,6 @@ pub record HaveTurns (header : Header) (lines : List Line) (x : ℕ) (counts : T
   pub all : (t : Top) → Contains (tops lines) t → counts t ≡ true → Contains those t
   pub turns : (u t : Top) → Contains those u → Contains those t → u.at < t.at → IsInTurn lines u t
   pub idle : IdleInPlace lines x counts (first_stores header x) (serial_tops lines)
-
--- a write on the object by the top survives
-abbrev pub Wrote : List Line → ℕ → Top → Type 0
-Wrote lines x t = (c : Call) × Contains (committed_calls lines) c × (writes_on x c ≡ true) × (c.top ≡ t.id)
 
 -- an include of a store of the object by the top survives
 abbrev pub Joined : List Line → ℕ → Top → Type 0

@@ -11,7 +11,7 @@ use Rattle.arj_model.specs.Disks.{Disks, Reading}
 use Rattle.arj_model.specs.Last.{is_among, listed, object_line}
 use Rattle.arj_protocol.specs.Effect.{Pair, held_at, holder_of}
 use Rattle.arj_protocol.specs.Step.{Node}
-use Rattle.arj_law_parts.specs.moves.Seen.{Seen}
+use Rattle.arj_promise.specs.Runs.{Seen}
 
 -- A reading shows a pair of a role: it holds its states, packed, and what it has in doubt is what it has prepared.
 pub record ShowsPair (read : Reading) (r : Role) (d : Pair) : Type 0 where

@@ -3,7 +3,7 @@ use Rattle.std.specs.Prelude.{◌≡◌, ℕ, ◌==◌, true, List}
 use Rattle.arj_journal.specs.declared.header.Header.{Header}
 use Rattle.arj_law_disk.specs.machine.Effects.{World}
 use Rattle.arj_law_disk_view.specs.view.Sees.{Kinds, SeesDisks}
-use Rattle.arj_law_parts.specs.moves.Seen.{Seen}
+use Rattle.arj_promise.specs.Runs.{Seen}
 use Rattle.arj_law_serial.specs.order.Decided.{AreDecided}
 use Rattle.arj_law_serial.specs.order.Cleaned.{BeginsSo, HaveForm}
 

@@ -3,7 +3,7 @@ use Rattle.std.specs.Prelude.{◌≡◌, ℕ, ◌==◌, true, List, Some}
 use Rattle.std.specs.List.{list_any}
 use Rattle.arj_journal.specs.declared.body.Line.{Line}
 use Rattle.arj_journal.specs.declared.header.Header.{Header}
-use Rattle.arj_law.specs.Nested.{nested_calls}
+use Rattle.arj_model.specs.Nested.{nested_calls}
 use Rattle.arj_model.specs.Actions.{Placed}
 use Rattle.arj_model.specs.Calls.{Said, said}
 use Rattle.arj_model.specs.Last.{first_values}
@@ -15,7 +15,8 @@ use Rattle.arj_law_parts.specs.parts.Actions.{Action}
 use Rattle.arj_law_runs.specs.calls.Servers.{AreOneCall}
 use Rattle.arj_law_runs.specs.journal.Paths.{IsAlikeOf}
 use Rattle.arj_law_parts.specs.moves.Keeps.{Holds}
-use Rattle.arj_law_parts.specs.moves.Seen.{In, Post, Seen}
+use Rattle.arj_law_parts.specs.moves.Seen.{In}
+use Rattle.arj_promise.specs.Runs.{Post, Seen}
 use Rattle.arj_law_lock_view.specs.facts.Worlds.{IsFromOne}
 use Rattle.arj_law_lock_view.specs.running.Fixed.{AgreesAs, Fixed}
 use Rattle.arj_law_lock_view.specs.running.Sees.{SeesLocks}
@@ -40,6 +41,3 @@ IsLockedApart values x M = (begun : List Action) × IsAlikeOf begun M × ((f : F
 abbrev pub AreLocked : Header → World → Type 0
 AreLocked hd w = (x : ℕ) → IsCalled x (let v = w in v.lines) → Holds hd (IsLockedApart (first_values hd) x) w
 
--- the journal is serial, and its calls give the same answers where each committed nested action runs whole at its commit
-abbrev pub IsSerialBy : Header → List Line → Type 0
-IsSerialBy hd lines = Serial (first_values hd) lines × Answers (first_values hd) (nested_calls lines)

@@ -11,7 +11,8 @@ use Rattle.arj_law_parts.specs.parts.Ends.{brought, told_by}
 use Rattle.arj_law_disk_view.specs.running.Places.{AreBegunIn, AreCallRows, AreKeyed, AreNamesRows, AsksBegun, HasNaming}
 use Rattle.arj_law_runs.specs.kept.Worlds.{IsGoodOf}
 use Rattle.arj_law_parts.specs.moves.Keeps.{Keeps}
-use Rattle.arj_law_parts.specs.moves.Seen.{In, Post, Seen}
+use Rattle.arj_law_parts.specs.moves.Seen.{In}
+use Rattle.arj_promise.specs.Runs.{Post, Seen}
 
 -- the Uid is on the path of an action that was begun
 abbrev pub IsNamedBy : List Action → Uid → Type 0

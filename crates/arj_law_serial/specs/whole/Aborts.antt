@@ -12,7 +12,8 @@ use Rattle.arj_protocol.specs.Tree.{Tree, is_own, root_of}
 use Rattle.arj_law_parts.specs.parts.Actions.{Action, act_of}
 use Rattle.arj_law_parts.specs.parts.Coords.{IsOver}
 use Rattle.arj_law_parts.specs.parts.Messages.{IsDecided}
-use Rattle.arj_law_parts.specs.moves.Seen.{In, Post, Seen}
+use Rattle.arj_law_parts.specs.moves.Seen.{In}
+use Rattle.arj_promise.specs.Runs.{Post, Seen}
 use Rattle.arj_law_runs.specs.journal.Book.{Book, book, is_decided}
 use Rattle.arj_law_lock_view.specs.facts.Parted.{asks_part, is_confirm}
 use Rattle.arj_law_lock_view.specs.running.Beside.{told_in}

@@ -16,7 +16,8 @@ use Rattle.arj_protocol.specs.Step.{Node}
 use Rattle.arj_protocol.specs.Tree.{root_of}
 use Rattle.arj_law_parts.specs.parts.Actions.{Action, act_of}
 use Rattle.arj_law_parts.specs.parts.Ends.{told_by}
-use Rattle.arj_law_parts.specs.moves.Seen.{In, Post, Seen}
+use Rattle.arj_law_parts.specs.moves.Seen.{In}
+use Rattle.arj_promise.specs.Runs.{Post, Seen}
 use Rattle.arj_law_serial.specs.whole.Aborts.{IsPartAsked}
 
 -- ---- messages

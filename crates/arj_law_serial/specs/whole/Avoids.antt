@@ -7,7 +7,8 @@ use Rattle.arj_protocol.specs.Coord.{Calling, Coord, Doing, doing_of, keeping_of
 use Rattle.arj_protocol.specs.Node.{Parts}
 use Rattle.arj_protocol.specs.Order.{unbound}
 use Rattle.arj_protocol.specs.Step.{Node}
-use Rattle.arj_law_parts.specs.moves.Seen.{In, Post, Seen}
+use Rattle.arj_law_parts.specs.moves.Seen.{In}
+use Rattle.arj_promise.specs.Runs.{Post, Seen}
 
 -- What a coordinator avoids is so: the Binds that wait, and what its roots avoid.
 pub record Avoids (W : ℕ → Binding → Type 0) (c : Coord) : Type 0 where

@@ -12,7 +12,7 @@ use Rattle.arj_protocol.specs.Node.{Parts}
 use Rattle.arj_protocol.specs.Step.{Node, class_at, lacks_op}
 use Rattle.arj_protocol.specs.Tree.{Family, Tree}
 use Rattle.arj_law_runs.specs.addresses.Addresses.{GoalOf, IsNode}
-use Rattle.arj_law_parts.specs.moves.Seen.{Seen}
+use Rattle.arj_promise.specs.Runs.{Seen}
 use Rattle.arj_law_lock_view.specs.facts.Entries.{HasObject}
 
 -- what waits is about an object and for a goal of which this holds

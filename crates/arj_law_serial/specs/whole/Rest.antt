@@ -9,7 +9,8 @@ use Rattle.arj_law_lock.specs.machine.Actions.{top}
 use Rattle.arj_law_lock.specs.machine.State.{Call, State}
 use Rattle.arj_law_lock.specs.machine.Steps.{Survives}
 use Rattle.arj_law_parts.specs.parts.Actions.{Action}
-use Rattle.arj_law_parts.specs.moves.Seen.{In, Seen}
+use Rattle.arj_law_parts.specs.moves.Seen.{In}
+use Rattle.arj_promise.specs.Runs.{Seen}
 use Rattle.arj_law_lock_view.specs.running.Answers.{GivesLast}
 use Rattle.arj_law_lock_view.specs.running.Beside.{IsSeenIn, Spot, world_at}
 use Rattle.arj_law_lock_view.specs.running.Fixed.{Fixed}

@@ -1,7 +1,7 @@
 -- What is kept in every run, and which objects are called there.
 use Rattle.std.specs.Prelude.{ℕ, List, Contains}
 use Rattle.arj_protocol.specs.Words.{Header}
-use Rattle.arj_law_parts.specs.moves.Moves.{Move, journal_by}
+use Rattle.arj_promise.specs.Runs.{Move, journal_by}
 use Rattle.arj_model.specs.Actions.{Placed}
 use Rattle.arj_model.specs.Last.{Inclusion, included}
 use Rattle.arj_law_lock_view.specs.facts.Entries.{HasObject}

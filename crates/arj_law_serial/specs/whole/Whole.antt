@@ -1,7 +1,7 @@
 -- What is known of the protocol alone in every run, all together, for the actions that were begun.
 use Rattle.std.specs.Prelude.{ℕ, true, List}
 use Rattle.arj_law_parts.specs.parts.Actions.{Action}
-use Rattle.arj_law_parts.specs.moves.Seen.{Seen}
+use Rattle.arj_promise.specs.Runs.{Seen}
 use Rattle.arj_law_runs.specs.calls.Bindings.{AreSaid}
 use Rattle.arj_law_runs.specs.journal.Knows.{IsKept}
 use Rattle.arj_law_serial.specs.past.Told.{ArePastIn}

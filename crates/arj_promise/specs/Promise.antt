@@ -1,40 +1,32 @@
--- What the protocol promises of every run in form, wherever disks stop in it.
-use Rattle.std.specs.Prelude.{◌≡◌, ◌≤◌, ◌⊎◌, ℕ, true, false, List, [], ◌∷◌, ◌++◌, Some, None, length}
+-- The promise, of a run in form: after every event, and what a quiesce and the stated round leave.
+use Rattle.std.specs.Prelude.{List, None, Some, [], false, length, true, ℕ, ◌++◌, ◌∷◌, ◌≡◌, ◌≤◌, ◌⊎◌}
 use Rattle.std.specs.List.{AllByRecursion}
+use Rattle.arj_base.specs.declared.uid.Uid.{Uid}
 use Rattle.arj_journal.specs.ScriptForm.{HeaderInForm}
+use Rattle.arj_journal.specs.declared.body.Line.{Line}
+use Rattle.arj_journal.specs.declared.header.Header.{Header}
+use Rattle.arj_model.specs.Keeping.{KeepsTheBook}
 use Rattle.arj_model.specs.Clean.{Clean}
 use Rattle.arj_model.specs.Disks.{Disks}
 use Rattle.arj_model.specs.Last.{first_values}
-use Rattle.arj_protocol.specs.Words.{Header, Line, Uid}
-use Rattle.arj_protocol.specs.Words.body
-use Rattle.arj_protocol.specs.Words.event
+use Rattle.arj_promise.specs.Disks.{DisksAre}
+use Rattle.arj_promise.specs.Excluded.{DisksAreInTime}
+use Rattle.arj_promise.specs.Held.{HoldsEach}
+use Rattle.arj_promise.specs.Outcome.{ShowsOneOutcome}
+use Rattle.arj_promise.specs.Resting.{AreGivenUp, AreQuiet, AreUp, EndsQuiet, HoldAllStates, IsGiveUp, NobodyWaits}
+use Rattle.arj_promise.specs.Runs.{AreEventsInForm, IsInForm, Move, journal_by, most_events, moves_of, see, world_by}
+use Rattle.arj_promise.specs.Serial.{IsSerialBy}
+use Rattle.arj_promise.specs.Waiting.{HasAnswer, IsPlainIn, OnlyOvertakenWait, WaitsOvertaken, coord_in}
 use Rattle.arj_protocol.specs.Coord.{Coord, Doing, doing_of}
 use Rattle.arj_protocol.specs.Step.{is_waiting_now}
 use Rattle.arj_protocol.specs.Tree.{at_place}
+use Rattle.arj_protocol.specs.Words.body
+use Rattle.arj_protocol.specs.Words.event
 use Rattle.arj_protocol.specs.World.{Asked, World, format, is_node, lowest_from, run_all}
-use Rattle.arj_law_parts.specs.moves.Moves.{Move, journal_by, moves_of, world_by}
-use Rattle.arj_law_parts.specs.moves.Seen.{see}
-use Rattle.arj_law_runs.specs.bindings.Scripts.{most_events}
-use Rattle.arj_law_serial.specs.order.Seen.{IsSerialBy}
-use Rattle.arj_law_serial.specs.joint.Booked.{KeepsTheBook}
-use Rattle.arj_law_serial.specs.joint.DisksInTime.{DisksAreInTime}
-use Rattle.arj_law_serial.specs.joint.FitRuns.{AreEventsInForm, IsInForm}
-use Rattle.arj_law_serial.specs.joint.Outcome.{ShowsOneOutcome}
-use Rattle.arj_law_serial.specs.joint.Shown.{DisksAre}
-use Rattle.arj_law_serial.specs.holding.Along.{HoldsEach}
-use Rattle.arj_law_runs.specs.resting.Quiet.{AreGivenUp, AreQuiet, IsGiveUp, NobodyWaits}
-use Rattle.arj_law_runs.specs.resting.Answered.{HasAnswer, IsPlainIn}
-use Rattle.arj_law_runs.specs.resting.Rounds.{AreUp}
-use Rattle.arj_law_runs.specs.resting.Waits.{coord_in}
-use Rattle.arj_law_promise.specs.settling.Overtaken.{OnlyOvertakenWait, WaitsOvertaken}
-use Rattle.arj_law_promise.specs.settling.Settled.{EndsQuiet}
-use Rattle.arj_law_promise.specs.statement.Resting.{HoldAllStates}
 
 -- these are the readings of the nodes' disks at its end
 abbrev pub HasDisks : Header → List Move → Disks → Type 0
 HasDisks hd ms disks = DisksAre (see [] (world_by hd ms)) disks
-
--- ---- the promise
 
 -- The run keeps the promise. Committed tops got the answers of running them alone, one after another, and so did nested actions, each whole at its
 -- commit; and the lock book is kept: calls that conflict stand in that order, each behind the call of the commit of the earlier one's top, or, within
@@ -59,15 +51,11 @@ RunsKeepThePromise = (hd : Header) (ms : List Move) → IsInForm hd ms → Keeps
 abbrev pub KeptAfterEveryEvent : Type 0
 KeptAfterEveryEvent = (hd : Header) (front rest : List Move) → IsInForm hd (front ++ rest) → IsInForm hd front × KeepsThePromise hd front
 
--- ---- scripts
-
 -- Where its header and its events are in form, of which there are at most 1,000,000, the run of a script is one in form; and its world is that of
 -- the script, but for the stops that are still armed at its end.
 abbrev pub ScriptsAreRuns : Type 0
 ScriptsAreRuns = (hd : Header) (es : List Asked) → HeaderInForm hd → AreEventsInForm es → length es ≤ most_events
     → IsInForm hd (moves_of hd es) × (world_by hd (moves_of hd es) ≡ record (run_all es (format hd)) { arms = [] })
-
--- ---- quiesces
 
 -- The run is this one and a quiesce behind it, at whose end every node of the header is up and no limit was met.
 pub record EndsInQuiesce (hd : Header) (ms before : List Move) : Type 0 where

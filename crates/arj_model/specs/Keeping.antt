@@ -1,8 +1,8 @@
 -- Journals whose answered calls keep the lock book: their order, their values, and the nesting of actions.
 use Rattle.std.specs.Prelude.{List}
 use Rattle.arj_journal.specs.declared.body.Line.{Line}
-use Rattle.arj_law.specs.Book.{Answered, CommitsComeFirst, InOrder}
-use Rattle.arj_law.specs.Nested.{AnsweredInTime, FreedInOrder}
+use Rattle.arj_model.specs.Book.{Answered, CommitsComeFirst, InOrder}
+use Rattle.arj_model.specs.Nested.{AnsweredInTime, FreedInOrder}
 use Rattle.arj_model.specs.Serial.{Values}
 
 -- The surviving calls of committed tops keep the lock book. Of each two that conflict: those of different tops stand in the serial order (`order`),

@@ -1,8 +1,8 @@
 -- One outcome, by a journal: what is committed anywhere was decided before, and why a store, or naming, may abort what was decided.
-use Rattle.std.specs.Prelude.{◌≡◌, Bool, true, ◌&&◌, List, [], ◌∷◌, ◌++◌}
+use Rattle.std.specs.Prelude.{Bool, List, [], true, ◌&&◌, ◌++◌, ◌∷◌, ◌≡◌}
 use Rattle.arj_journal.specs.declared.body.Body.{Body}
 use Rattle.arj_journal.specs.declared.body.Line.{Line}
-pub use Rattle.arj_model.specs.Outcome.{has_cause_to_abort, has_halted_since, has_uid, is_behind_decision, is_commit_by, is_said, is_top_of, may_abort, was_committed_at, was_excluded}
+use Rattle.arj_model.specs.Outcome.{has_cause_to_abort, is_behind_decision}
 
 -- a test that holds of each line, by the lines before it
 abbrev pub each_behind : (List Line → Body → Bool) → List Line → List Line → Bool

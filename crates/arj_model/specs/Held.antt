@@ -1,13 +1,13 @@
 -- Locks that are held to the commit, by the tables of the nodes.
-use Rattle.std.specs.Prelude.{◌≡◌, ◌<◌, ◌≤◌, ℕ, List, [], ◌∷◌, take, Bool, true, false, ◌==◌, ◌&&◌, if◌then◌else◌}
+use Rattle.std.specs.Prelude.{Bool, List, [], false, if◌then◌else◌, take, true, ℕ, ◌&&◌, ◌<◌, ◌==◌, ◌∷◌, ◌≡◌, ◌≤◌}
 use Rattle.std.specs.List.{AllByRecursion, list_any}
-use Rattle.arj_base.specs.declared.uid.Uid.{Uid}
 use Rattle.arj_base.specs.Rows.{Row}
-use Rattle.arj_base.specs.Uid.{object, nobody, uid_eq}
+use Rattle.arj_base.specs.Uid.{nobody, object, uid_eq}
+use Rattle.arj_base.specs.declared.uid.Uid.{Uid}
 use Rattle.arj_class.specs.Table.{is_write, writes}
 use Rattle.arj_journal.specs.declared.body.Line.{Line}
 use Rattle.arj_model.specs.Actions.{acts}
-use Rattle.arj_model.specs.Calls.{Call, tops, committed_calls}
+use Rattle.arj_model.specs.Calls.{Call, committed_calls, tops}
 use Rattle.arj_model.specs.Last.{uid_of_id}
 use Rattle.arj_model.specs.Serial.{root_of, unit_place}
 use Rattle.arj_model.specs.Table.{table}

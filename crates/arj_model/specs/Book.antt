@@ -1,11 +1,11 @@
 -- The lock book: in which order the surviving calls of committed tops stand, and what each of them is answered.
-use Rattle.std.specs.Prelude.{◌≡◌, ◌<◌, List, filter, Bool, true, false, ◌==◌, ◌&&◌, ◌||◌, nat_lt}
+use Rattle.std.specs.Prelude.{Bool, List, false, filter, nat_lt, true, ◌&&◌, ◌<◌, ◌==◌, ◌||◌, ◌≡◌}
 use Rattle.std.specs.List.{AllByRecursion}
 use Rattle.arj_class.specs.Table.{answer_of, writes}
 use Rattle.arj_journal.specs.declared.body.Line.{Line}
-use Rattle.arj_text.specs.Words.{answer_text}
-use Rattle.arj_model.specs.Calls.{Call, tops, committed_calls}
+use Rattle.arj_model.specs.Calls.{Call, committed_calls, tops}
 use Rattle.arj_model.specs.Serial.{Values, run, serial_less, top_place, writes_on}
+use Rattle.arj_text.specs.Words.{answer_text}
 
 -- two calls conflict where they are of one object and one of them writes
 abbrev pub is_conflict : Call → Call → Bool

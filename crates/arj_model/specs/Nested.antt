@@ -1,12 +1,12 @@
 -- The order of nested actions, as if each ran whole at its commit.
-use Rattle.std.specs.Prelude.{◌≡◌, ◌<◌, ℕ, List, [], ◌∷◌, ◌++◌, map, Bool, true, false, ◌==◌, ◌&&◌, if◌then◌else◌}
+use Rattle.std.specs.Prelude.{Bool, List, [], false, if◌then◌else◌, map, true, ℕ, ◌&&◌, ◌++◌, ◌<◌, ◌==◌, ◌∷◌, ◌≡◌}
 use Rattle.std.specs.List.{AllByRecursion}
 use Rattle.arj_journal.specs.declared.body.Line.{Line}
 use Rattle.arj_model.specs.Actions.{Placed, committed}
+use Rattle.arj_model.specs.Book.{OfEachTwo, is_conflict}
 use Rattle.arj_model.specs.Calls.{Call, committed_calls}
-use Rattle.arj_model.specs.Serial.{arrange, lex, serial_calls}
 use Rattle.arj_model.specs.Last.{is_among}
-use Rattle.arj_law.specs.Book.{is_conflict, OfEachTwo}
+use Rattle.arj_model.specs.Serial.{arrange, lex, serial_calls}
 
 -- the place of the first line that commits the action with this number
 abbrev pub commit_place : List (Placed ℕ) → ℕ → ℕ

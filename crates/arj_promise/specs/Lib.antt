@@ -1,0 +1,9 @@
+pub mod Runs
+pub mod Disks
+pub mod Held
+pub mod Excluded
+pub mod Outcome
+pub mod Waiting
+pub mod Resting
+pub mod Serial
+pub mod Promise
