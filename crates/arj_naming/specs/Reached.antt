@@ -1,7 +1,7 @@
 -- What a Confirm came to in memory.
 use Rattle.arj_naming.specs.Confirming.{IsAnswered, IsReady, Reached}
-use Rattle.arj_naming.specs.declared.memory.Ready.{Ready}
-use Rattle.arj_naming.specs.declared.memory.Ready.TheVariants as ready
+use Rattle.arj_naming.specs.declared.stage.Ready.{Ready}
+use Rattle.arj_naming.specs.declared.stage.Ready.TheVariants as ready
 use Rattle.arj_protocol.specs.Effect.{Pair, Served}
 use Rattle.arj_protocol.specs.Naming.{Naming}
 use Rattle.arj_protocol.specs.Words.{Uid, ConfirmedReply}

@@ -13,20 +13,14 @@ ghost use Rattle.arj_protocol.specs.Effect.{is_prepared};
 ghost use Rattle.arj_store.specs.declared.answer.StoreFault.{StoreFault};
 
 use crate::Naming;
-use crate::memory::Ready;
+use crate::nobody::NOBODY;
 use crate::part::asked;
+use crate::stage::Ready;
 use arj_base::{Mode, States, Uid};
 use arj_disk::Disk;
 use arj_journal::Lines;
 use arj_msg::{Confirm, Confirmed, ConfirmedReply, Head};
 use arj_store::{ObjectStore, Prep, StoreFault, known_objects};
-
-// Nobody's Uid.
-pub(crate) const NOBODY: Uid = Uid {
-    node: 0,
-    inc: 0,
-    num: 0,
-};
 
 impl<O: ObjectStore> Naming<O> {
     /// Answers a Confirm: whether all grants of a top stand, with its exclusions and inclusions prepared. None where it is

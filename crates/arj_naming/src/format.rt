@@ -17,7 +17,7 @@ ghost use Rattle.arj_store.specs.declared.answer.StoreFault.{StoreFault};
 ghost use Rattle.arj_store.specs.declared.limits.TheConstants.{MOST_ROOM};
 
 use crate::Naming;
-use crate::confirm::NOBODY;
+use crate::nobody::NOBODY;
 use crate::payload::node_list;
 use crate::recover::recovered;
 use arj_base::{Class, ObjectState, States, entry_uid};

@@ -28,17 +28,16 @@ mod locks;
 mod made;
 mod memory;
 mod naming;
+mod nobody;
 mod object;
 mod part;
 mod payload;
 mod pending;
 mod recover;
 mod show;
+mod stage;
 mod told;
 mod touched;
 mod uids;
 
 pub use naming::Naming;
-
-#[cfg(test)]
-mod tests;

@@ -17,6 +17,7 @@ use crate::checks::bare_entry;
 use crate::entries::Entries;
 use crate::lines::{NAMING_NODE, say};
 use crate::part::Part;
+use crate::stage::Ready;
 use arj_base::{End, ObjectState, States, Uid, Uids};
 use arj_journal::{Body, Lines, Role};
 use arj_msg::{Confirm, ConfirmedReply};
@@ -27,15 +28,6 @@ use std::alloc::AllocError;
 pub struct Memory {
     pub part: Part,
     pub entries: Entries,
-}
-
-/// How far a Confirm comes before the store is asked.
-#[derive(Drop)]
-pub enum Ready {
-    /// It is answered, or void.
-    Answer(Option<ConfirmedReply>),
-    /// All checks are passed, and these entries are to be prepared.
-    Prepare(States),
 }
 
 /// What an end makes naming do: what it is taken for, if it wasn't told before, and whose entries it aborts.

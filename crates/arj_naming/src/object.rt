@@ -21,11 +21,11 @@ ghost use Rattle.arj_naming.specs.Touched.{looks_apart};
 
 use crate::bindings::{is_below, is_same, next_server};
 use crate::change::Change;
-use crate::confirm::NOBODY;
 use crate::counter::Counter;
 use crate::lines::{NAMING_NODE, say};
 use crate::locks::grant;
 use crate::made::{Live, Made};
+use crate::nobody::NOBODY;
 use crate::uids::{drop_uid, is_among};
 use arj_base::{Binding, End, Mode, Path, Uid, Uids, entry_uid};
 use arj_entry::Entry;

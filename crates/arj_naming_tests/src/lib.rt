@@ -6,6 +6,8 @@
 #![tactic(auto)]
 
 #[cfg(test)]
+mod arming;
+#[cfg(test)]
 mod calls;
 #[cfg(test)]
 mod messages;

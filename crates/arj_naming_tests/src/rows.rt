@@ -31,9 +31,9 @@ const BINDINGS: &[Row] = &[
 const HELLOS: &[Row] = &[
     (Ask::Bind(1, 0), Seen::Make(1, 2), 2),
     (Ask::Record(1, 1, 1), Seen::Recorded, 3),
-    (Ask::Hello(1), Seen::Nothing, 3),
+    (Ask::Hello(2, 1), Seen::Nothing, 3),
     (Ask::Bind(1, 0), Seen::Live(1, 2), 3),
-    (Ask::Hello(2), Seen::Nothing, 3),
+    (Ask::Hello(2, 2), Seen::Nothing, 3),
     (Ask::Bind(1, 0), Seen::Make(2, 3), 5),
     (Ask::Record(1, 1, 1), Seen::Recorded, 5),
 ];
@@ -43,15 +43,37 @@ const HELLOS_AT_REST: &[Row] = &[
     (Ask::Bind(1, 0), Seen::Make(1, 2), 2),
     (Ask::Record(1, 1, 1), Seen::Recorded, 3),
     (Ask::Told(1, End::Abort), Seen::Nothing, 4),
-    (Ask::Hello(1), Seen::Nothing, 4),
+    (Ask::Hello(2, 1), Seen::Nothing, 4),
     (Ask::Bind(2, 0), Seen::Live(1, 2), 5),
     (Ask::Told(2, End::Abort), Seen::Nothing, 6),
-    (Ask::Hello(2), Seen::Nothing, 6),
+    (Ask::Hello(2, 2), Seen::Nothing, 6),
     (Ask::Bind(3, 0), Seen::Make(2, 3), 8),
     (Ask::Record(3, 2, 1), Seen::Recorded, 9),
     (Ask::Told(3, End::Abort), Seen::Nothing, 10),
-    (Ask::Hello(3), Seen::Nothing, 10),
+    (Ask::Hello(2, 3), Seen::Nothing, 10),
     (Ask::Bind(4, 0), Seen::Live(2, 3), 11),
+];
+
+// Turns go round the servers: the one that is bound next stands behind the last one, and the first follows the last. A top
+// that reads stands against another one's write, an include leaves the write lock with its top, and a binding that was made
+// for another top isn't recorded.
+const TURNS: &[Row] = &[
+    (Ask::Bind(1, 0), Seen::Make(1, 2), 2),
+    (Ask::Record(1, 1, 1), Seen::Recorded, 3),
+    (Ask::Bind(2, 0), Seen::Live(1, 2), 4),
+    (Ask::Record(2, 2, 1), Seen::Nothing, 4),
+    (Ask::Bind(1, 1), Seen::Held(2, Mode::Read), 4),
+    (Ask::Told(2, End::Abort), Seen::Nothing, 5),
+    (Ask::Bind(1, 1), Seen::Make(2, 3), 7),
+    (Ask::Record(1, 2, 1), Seen::Recorded, 8),
+    (Ask::Hello(3, 1), Seen::Nothing, 8),
+    (Ask::Bind(1, 0), Seen::Live(2, 3), 8),
+    (Ask::Hello(3, 2), Seen::Nothing, 8),
+    (Ask::Bind(1, 0), Seen::Make(3, 2), 10),
+    (Ask::Exclude(1, 1, &[]), Seen::Yes, 10),
+    (Ask::Told(1, End::Commit), Seen::Nothing, 11),
+    (Ask::Include(3), Seen::Write, 12),
+    (Ask::Bind(3, 0), Seen::Make(4, 3), 13),
 ];
 
 // An exclusion, under an exclude lock that goes with a read lock of another top.
@@ -163,6 +185,7 @@ fn rows(rt: HostRuntime) -> Result<(), Fail> {
         BINDINGS,
         HELLOS,
         HELLOS_AT_REST,
+        TURNS,
         EXCLUSION,
         INCLUSION,
         NO_STORES,

@@ -1,9 +1,10 @@
 // The naming service over a disk that writes down its calls. What holds of the two stands in their types.
-ghost use Rattle.std.specs.Prelude.{◌≡◌, ◌+◌, ◌<◌, IfOk};
+ghost use Rattle.std.specs.Prelude.{◌≡◌, IfOk};
 ghost use Rattle.arj_journal.specs.ScriptForm.{HeaderInForm};
 ghost use Rattle.arj_naming.specs.Calls.{IsSingle};
 ghost use Rattle.arj_naming.specs.Kept.{StandsOn};
 
+use crate::arming::arm_disk;
 use arj_disk::{Disk, MemDisk, Outcome};
 use arj_journal::{Header, Lines};
 use arj_msg::{Bind, Bound, Confirm, Confirmed, Hello, RecordMsg, Recorded, Told};
@@ -116,15 +117,6 @@ fn header(alloc: Global) -> Result<Header, ScriptFault>
         Item::Run(header) => Ok(header),
         _ => Err(ScriptFault::Bad),
     }
-}
-
-// Arms the disk. Its files stay.
-fn arm_disk(disk: &mut Recorder, calls: u32, outcome: Outcome)
-    requires { ⟦<Recorder as Disk>⟧.arms disk.old < 255 }
-    ensures files { ⟦<Recorder as Disk>⟧.file disk.new ≡ ⟦<Recorder as Disk>⟧.file disk.old }
-    ensures arms { ⟦<Recorder as Disk>⟧.arms disk.new ≡ ⟦<Recorder as Disk>⟧.arms disk.old + 1 }
-{
-    disk.disk.arm(calls.max(1), outcome);
 }
 
 // The entry of object 1 as the disk has it. The files stay.

@@ -7,7 +7,7 @@ use std::alloc::Global;
 
 /// What comes, about object 1: a Bind by a top that avoids the binding of this count, an include, a Record of the binding of
 /// this count with an incarnation of naming; a Confirm of a grant of this incarnation, which excludes these stores, or
-/// includes store 4; the end of a top; and a Hello of node 2 in this incarnation. Entry reads the stores.
+/// includes store 4; the end of a top; and a Hello of a node in this incarnation. Entry reads the stores.
 #[derive(Clone, Copy)]
 pub enum Ask {
     Bind(u64, u32),
@@ -16,7 +16,7 @@ pub enum Ask {
     Exclude(u64, u32, &'static [u8]),
     Add(u64, u32),
     Told(u64, End),
-    Hello(u32),
+    Hello(u8, u32),
     Entry,
 }
 
@@ -140,8 +140,8 @@ pub fn handle(alloc: Global, site: Site, asked: Ask) -> Result<Went<Seen>, Fault
         Ask::Exclude(num, inc, stores) => confirmed_so(alloc, site, num, inc, stores, false),
         Ask::Add(num, inc) => confirmed_so(alloc, site, num, inc, &[], true),
         Ask::Told(num, end) => told_so(alloc, site, num, end),
-        Ask::Hello(inc) => {
-            let hello = Hello { node: 2, inc };
+        Ask::Hello(node, inc) => {
+            let hello = Hello { node, inc };
             Ok(Went::Answered(site.hello(&hello), Seen::Nothing))
         }
         Ask::Entry => entry_so(site),

@@ -5,7 +5,7 @@ use Rattle.arj_journal.specs.declared.body.Line.{Line}
 use Rattle.arj_naming.specs.Confirming.{IsAnswered, IsReady, Reached, did_of, prepare_by}
 use Rattle.arj_naming.specs.Kept.{Kept, HasDone, IsCut, IsDoneInPart}
 use Rattle.arj_naming.specs.Reached.{IsReached}
-use Rattle.arj_naming.specs.declared.memory.Ready.TheVariants as ready
+use Rattle.arj_naming.specs.declared.stage.Ready.TheVariants as ready
 use Rattle.arj_naming.proofs.Cuts.{part_none, after_lines}
 use Rattle.arj_naming.proofs.Ready.{ready_done, ready_cut, ready_part}
 use Rattle.arj_naming.proofs.Store.{err_moves, on_err}
