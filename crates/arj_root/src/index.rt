@@ -49,9 +49,10 @@ impl Index {
         if let Some(paths) = self.paths.get_mut(&number) {
             return paths.push(Trail::new(path));
         }
-        let mut paths = Seq::new(alloc);
+        // Most lists have one path, which is long.
+        let mut paths = Vec::with_capacity(alloc, 1)?;
         paths.push(Trail::new(path))?;
-        self.paths.insert(number, paths)?;
+        self.paths.insert(number, Seq::from_vec(paths))?;
         Ok(())
     }
 
