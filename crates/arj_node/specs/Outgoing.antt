@@ -3,9 +3,16 @@ use Rattle.std.specs.Prelude.{◌≡◌, List, [], ◌∷◌, ◌++◌, map, ⊤
 use Rattle.std.specs.List.{AllByRecursion}
 use Rattle.arj_msg.specs.Sendable.{IsSendable}
 use Rattle.arj_node.specs.Ran.{IsStoppedAt}
+use Rattle.arj_node.specs.declared.outgoing.Handed.{Handed}
+use Rattle.arj_node.specs.declared.outgoing.Handed.TheVariants as handed
 use Rattle.arj_node.specs.declared.outgoing.Outgoing.{Outgoing}
 use Rattle.arj_node.specs.declared.outgoing.Outgoing.TheVariants as of
 use Rattle.arj_protocol.specs.Effect.{Disk, Effect, Say, Send, Do}
+
+-- what is kept, as contracts see it
+abbrev pub outgoing_of : Handed → Outgoing
+outgoing_of (handed.Say b) = of.Say b
+outgoing_of (handed.Send to m) = of.Send to m.value
 
 -- a line or a message, as an effect
 abbrev pub effect_of : Outgoing → Effect

@@ -24,7 +24,7 @@ mod sendable;
 pub use act::Act;
 pub use delivery::deliver;
 pub use node::NodeCore;
-pub use outgoing::{Outgoing, Outgoings};
+pub use outgoing::{Handed, Outgoing, Outgoings};
 pub use parts::Parts;
 pub use roster::Roster;
 pub use rounds::settle;

@@ -110,6 +110,15 @@ impl<P: Parts + Drop> NodeCore<P> {
         }
     }
 
+    // The node goes down by a fault, which is answered: its parts aren't used again.
+    fn fall(&mut self, fault: CoreFault) -> CoreFault
+        ensures down { self.new ≡ record self.old { parts = None } }
+        ensures fault { result ≡ fault }
+    {
+        self.parts = None;
+        fault
+    }
+
     // An action is asked to do something. At a node that is down it has ended.
     fn act<D: Disk>(&mut self, disk: &mut D, act: Act, out: &mut Outputs) -> Result<(), CoreFault>
         requires stands { IsSomeNode P.Parts self.old (D.file disk.old) }
@@ -118,12 +127,13 @@ impl<P: Parts + Drop> NodeCore<P> {
         ensures counts { CountsStep (counts D.Disk disk.old) (counts D.Disk disk.new) result CoreFault.Halted }
     {
         let class = self.class(&act);
-        let Some(mut parts) = self.parts.take() else {
+        let Some(parts) = &mut self.parts else {
             return Ok(out.push(Output::Say(Body::Refused { cause: ENDED }))?);
         };
-        acting::act(self.alloc, self.number, &mut parts, disk, act, class, out)?;
-        self.parts = Some(parts);
-        Ok(())
+        match acting::act(self.alloc, self.number, parts, disk, act, class, out) {
+            Ok(()) => Ok(()),
+            Err(fault) => Err(self.fall(fault)),
+        }
     }
 
     // A frame is delivered. At a node that is down it is void.
@@ -140,21 +150,13 @@ impl<P: Parts + Drop> NodeCore<P> {
         ensures halted { IsErrOf result CoreFault.Halted → StopsStep P.Parts (record { old = self.old; new = self.new; file = D.file disk.old; left = D.file disk.new; before = out.old; after = out.new }) (protocol.Frame k from (message_of bytes.now)) }
         ensures counts { CountsStep (counts D.Disk disk.old) (counts D.Disk disk.new) result CoreFault.Halted }
     {
-        let Some(mut parts) = self.parts.take() else {
+        let Some(parts) = &mut self.parts else {
             return Ok(out.push(Output::Say(Body::Void { frame: k }))?);
         };
-        deliver(
-            self.alloc,
-            self.number,
-            &mut parts,
-            disk,
-            k,
-            from,
-            bytes,
-            out,
-        )?;
-        self.parts = Some(parts);
-        Ok(())
+        match deliver(self.alloc, self.number, parts, disk, k, from, bytes, out) {
+            Ok(()) => Ok(()),
+            Err(fault) => Err(self.fall(fault)),
+        }
     }
 
     // What waits is asked for again.
@@ -164,12 +166,13 @@ impl<P: Parts + Drop> NodeCore<P> {
         ensures halted { IsErrOf result CoreFault.Halted → StopsStep P.Parts (record { old = self.old; new = self.new; file = D.file disk.old; left = D.file disk.new; before = out.old; after = out.new }) protocol.Tick }
         ensures counts { CountsStep (counts D.Disk disk.old) (counts D.Disk disk.new) result CoreFault.Halted }
     {
-        let Some(mut parts) = self.parts.take() else {
+        let Some(parts) = &mut self.parts else {
             return Ok(());
         };
-        acting::tick(self.alloc, self.number, &mut parts, disk, out)?;
-        self.parts = Some(parts);
-        Ok(())
+        match acting::tick(self.alloc, self.number, parts, disk, out) {
+            Ok(()) => Ok(()),
+            Err(fault) => Err(self.fall(fault)),
+        }
     }
 
     // What the disk has of an object is shown.
@@ -179,12 +182,13 @@ impl<P: Parts + Drop> NodeCore<P> {
         ensures halted { IsErrOf result CoreFault.Halted → StopsStep P.Parts (record { old = self.old; new = self.new; file = D.file disk.old; left = D.file disk.new; before = out.old; after = out.new }) (protocol.Show x) }
         ensures counts { CountsStep (counts D.Disk disk.old) (counts D.Disk disk.new) result CoreFault.Halted }
     {
-        let Some(mut parts) = self.parts.take() else {
+        let Some(parts) = &mut self.parts else {
             return Ok(());
         };
-        acting::show(self.alloc, self.number, &mut parts, disk, x, out)?;
-        self.parts = Some(parts);
-        Ok(())
+        match acting::show(self.alloc, self.number, parts, disk, x, out) {
+            Ok(()) => Ok(()),
+            Err(fault) => Err(self.fall(fault)),
+        }
     }
 
     // A node that is down comes up.

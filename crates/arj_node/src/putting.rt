@@ -3,12 +3,12 @@ ghost use Rattle.std.specs.Prelude.{◌≡◌, ◌++◌, ◌∷◌, [], OnOk, If
 ghost use Rattle.std.specs.List.{AllByRecursion};
 ghost use Rattle.arj_core.specs.Steps.{PutsOut, message_of};
 ghost use Rattle.arj_msg.specs.Sendable.{IsSendable};
-ghost use Rattle.arj_node.specs.Outgoing.{IsSpelled, effect_of, effects_of};
+ghost use Rattle.arj_node.specs.Outgoing.{IsSpelled, effect_of, effects_of, outgoing_of};
 ghost use Rattle.arj_node.specs.Ran.{inward, outward};
 ghost use Rattle.arj_protocol.specs.Ask.{frame_kind};
 ghost use Rattle.arj_protocol.specs.Effect.{Send};
 
-use crate::{Outgoing, Outgoings};
+use crate::{Handed, Outgoings};
 use arj_core::{Output, Outputs};
 use arj_journal::FrameKind;
 use arj_msg::{Message, encode};
@@ -59,20 +59,20 @@ fn send(alloc: Global, to: u8, m: &Message, out: &mut Outputs) -> Result<(), All
 fn put_one(
     alloc: Global,
     number: u8,
-    one: Outgoing,
+    one: Handed,
     out: &mut Outputs,
     queue: &mut Vec<Message>,
 ) -> Result<(), AllocError>
-    requires { IsSpelled one }
-    ensures puts { OnOk result (PutsOut (outward number (effect_of one ∷ [])) out.old out.new) }
-    ensures queue { OnOk result (queue.new.items ≡ queue.old.items ++ inward number (effect_of one ∷ [])) }
+    requires { IsSpelled (outgoing_of one) }
+    ensures puts { OnOk result (PutsOut (outward number (effect_of (outgoing_of one) ∷ [])) out.old out.new) }
+    ensures queue { OnOk result (queue.new.items ≡ queue.old.items ++ inward number (effect_of (outgoing_of one) ∷ [])) }
     ensures spelled { OnOk result (AllByRecursion IsSendable queue.old.items → AllByRecursion IsSendable queue.new.items) }
 {
     match one {
-        Outgoing::Say(body) => out.push(Output::Say(body)),
-        Outgoing::Send { to, message } => {
+        Handed::Say(body) => out.push(Output::Say(body)),
+        Handed::Send { to, message } => {
             if to == number {
-                queue.push(message)?;
+                queue.push(Box::into_inner(message))?;
                 Ok(())
             } else {
                 send(alloc, to, &message, out)

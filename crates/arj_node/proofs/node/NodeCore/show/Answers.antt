@@ -1,12 +1,28 @@
-use Rattle.std.proofs.Common.{◌≡◌, ◌∙◌, sym, ap, Err}
+use Rattle.std.proofs.Common.{◌≡◌, refl, sym, ap, subst, Err, None}
 use Rattle.arj_core.specs.declared.node.CoreFault.TheVariants.{Halted}
-use Rattle.arj_node.proofs.Cores.{up_cut}
+use Rattle.arj_core.specs.Steps.{WasCut}
+use Rattle.arj_disk.specs.FileMap.{FileMap}
+use Rattle.arj_node.specs.Lives.{IsNode}
+use Rattle.arj_node.proofs.Cores.{up_cut, up_did}
 use Rattle.arj_node.proofs.Handled.{same_fault}
 use Rattle.arj_protocol.specs.Step as protocol
+use Rattle.arj_protocol.specs.Step.{step}
 use Rattle.arj_node.proofs.node.NodeCore.show.Goals as goal
 
-pub returns-in_err-show-clause-halted : goal.returns-in_err-show-clause-halted
-returns-in_err-show-clause-halted g c = λ halted header n node.
-    let fault : c.in_err-show.field-0.0 ≡ Halted = same_fault c.from_residual.result c.in_err-show.field-0.0 Halted c.from_residual.ensures.1 halted in
-    up_cut {P = g.row.P.Denot} g.P.Parts header c.args.self.now c.in-Some.parts c.take.new.self (g.D.Disk.file c.args.disk.now) (g.D.Disk.file c.show.new.disk) (protocol.Show c.args.x) c.args.out.now c.show.new.out
-    (sym c.take.ensures.value ∙ c.in-Some.is) c.take.ensures.after (λ roster h stands. c.in_err-show.ensures.halted (ap Err fault) header h stands) n node
+pub returns-in-Err-clause-halted : goal.returns-in-Err-clause-halted
+returns-in-Err-clause-halted g c = λ halted header n node.
+    let fault : c.in-Err.fault ≡ Halted = same_fault (Err c.fall.result) c.in-Err.fault Halted c.fall.ensures.fault halted in
+    let file : FileMap = g.D.Disk.file c.args.disk.now in
+    let left : FileMap = g.D.Disk.file c.show.new.disk in
+    let input : protocol.Input = protocol.Show c.args.x in
+    subst (λ core. WasCut (IsNode g.P.Parts header core left) n (step header n input) c.args.out.now c.show.new.out) (sym c.fall.ensures.down)
+    (up_cut {P = g.row.P.Denot} g.P.Parts header c.args.self.now c.in-Some.parts None file left input c.args.out.now c.show.new.out
+    c.in-Some.is refl (λ roster h stands. c.in-Err.ensures.halted (ap Err fault) header h stands) n node)
+
+pub returns-in-Ok-clause-done : goal.returns-in-Ok-clause-done
+returns-in-Ok-clause-done g c = λ header n node.
+    let file : FileMap = g.D.Disk.file c.args.disk.now in
+    let left : FileMap = g.D.Disk.file c.show.new.disk in
+    let input : protocol.Input = protocol.Show c.args.x in
+    up_did {P = g.row.P.Denot} g.P.Parts header c.args.self.now c.in-Some.parts c.show.new.parts file left input c.args.out.now
+    c.show.new.out c.in-Some.is (λ roster h stands. c.in-Ok.ensures.done header h stands) n node
