@@ -1,3 +1,4 @@
+pub mod coordinator
 pub mod parts
 pub mod told
 pub mod moves

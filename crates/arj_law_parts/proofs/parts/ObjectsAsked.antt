@@ -1,40 +1,31 @@
 -- The objects that a coordinator asks about are of its roots.
-use Rattle.std.proofs.Common.{◌≡◌, ◌+◌, ◌==◌, arith, ℕ, zero, suc, List, [], ◌∷◌, ◌++◌, length, Bool, true, false, cond, nat_le, not, ◌&&◌, ◌||◌, map, filter, Option, Some, None, refl, sym, ◌∙◌, ap, subst, inl, inr, ⊎_elim}
-use Rattle.std.specs.Prelude.{⊤, unwrap_or}
-use Rattle.std.specs.List.{AllByRecursion, flat_map, list_any}
+use Rattle.std.proofs.Common.{◌≡◌, ◌+◌, ◌==◌, arith, ℕ, List, [], ◌∷◌, ◌++◌, length, Bool, true, false, cond, nat_le, ◌||◌, map, filter, Option, Some, None, refl, sym, ◌∙◌, ap, subst, ⊎_elim}
+use Rattle.std.specs.Prelude.{unwrap_or}
+use Rattle.std.specs.List.{AllByRecursion, list_any}
 use Rattle.std.specs.Ordering.{is_eq, match_ordering, nat_cmp}
 use Rattle.std.specs.declared.cmp.Ordering.{Ordering}
 use Rattle.std.specs.declared.cmp.Ordering.TheVariants.{Less, Equal, Greater}
 use Rattle.arj_base.proofs.Uids.{uid_cases}
-use Rattle.arj_lock.proofs.Members.{In}
-use Rattle.arj_protocol.specs.Words.{Uid, Binding, End, Kind, Path, Op, Body, Label, Ask, Asked, Head, asks, request, uids_of, uid_eq}
+use Rattle.arj_protocol.specs.Words.{Uid, Binding, End, Kind, Path, Label, Ask, Asked, Head, asks, request, uids_of}
 use Rattle.arj_protocol.specs.Words.ask
-use Rattle.arj_protocol.specs.Words.body
-use Rattle.arj_protocol.specs.Words.cause
 use Rattle.arj_protocol.specs.Words.ending
-use Rattle.arj_protocol.specs.Words.kind
-use Rattle.arj_protocol.specs.Words.voted
-use Rattle.arj_protocol.specs.Words.prepared
-use Rattle.arj_protocol.specs.Words.confirmed
 use Rattle.arj_protocol.specs.Ask.{Reply, actor, top_of}
-use Rattle.arj_protocol.specs.Asking.{begin_action, asks_node, asks_all, asks_step, goes_on, call, call_steps, renewed, include, next_req, doomed_by, root_heard, root_moved, kept_at, notes_grant, granted_by, step_call, heard_call, mark_lines, commits_in, asks_machine, step_commit, moved_commit, commit_top, commit_open, commit_action, last_req, heard_now, heard_doing, heard, heard_by, heard_none, waits_for_call, waits_for_commit, gaveup_lines, root_lost, gives_up, give_up_doing, give_up, again_now, again_all, is_invoke_ask, end_line, store_of}
-use Rattle.arj_protocol.specs.Call.{Steps, At, AtBind, AtLoad, AtActivate, AtNote, AtInvoke, CallStep, On, Ended, CallEnd, Answered, Included, Conflict, Changed, Lost, Moved, Goal, answered, given_up, next_node, next_ask, ask_at, start}
-use Rattle.arj_protocol.specs.Call as calls
-use Rattle.arj_protocol.specs.Commit.{Used, Plan, Machine, Voting, Preparing, Confirming, CommitStep, Stays, Asks, Decides, Aborts, plan_of, participants, has_record, ask_of, servers_of, nodes_given_up, begin_confirm, begin_prepare, begin_vote, stores_left, votes_left, marks_store, marks_stores, targets_of, with_states, is_at_server}
-use Rattle.arj_protocol.specs.Commit as commit
-use Rattle.arj_protocol.specs.Coord.{Coord, new_coord, Doing, Now, Idle, Calling, Committing, Root, Went, Said, Joined, Grant, doing_of, set_doing, change_doing, on_doing, on_root, root_at, no_root, keeping_of, is_free, joined_with, later_state, same_join, objects_in, plan_for, used_of, nodes_sent, servers_told, with_keeping, with_went, with_said, same_went, same_said, counts}
-use Rattle.arj_protocol.specs.Effect.{Effect, Say, Send, Do, PutIntent, Did, Intent, Served}
-use Rattle.arj_protocol.specs.Ending.{says, say_for, tell, tell_all, up_to, is_deferred, tolds_by, tolds_of_branch, tolds_of, ended, ends_with, aborts_with, all_aborted, abort_action, decided_told, decide, root_after, acked, acked_by, acked_left, tolds_let_go, let_go, is_over}
-use Rattle.arj_protocol.specs.Order.{at_number, at_uid, has, number_set, put_number, put_uid, unbound, with_number, without_number, without_uid}
-use Rattle.arj_protocol.specs.Step.{Input, acts, branch_named, on_branch, parent_of}
-use Rattle.arj_protocol.specs.Step as input
-use Rattle.arj_protocol.specs.Tree.{Tree, Branch, Family, begun_by, branch_of, is_own, at_place, doomed_branch, ended_branch, ends_of, family_of, next_uid, no_family, path_below, root_of, open_below, set_place, uses_object, doomed_at, ended_at, with_family}
+use Rattle.arj_protocol.specs.Asking.{begin_action, root_heard, root_moved, notes_grant, granted_by, last_req, heard, root_lost, again_all, is_invoke_ask, store_of}
+use Rattle.arj_protocol.specs.Call.{Steps, At, AtBind, AtLoad, AtActivate, AtNote, AtInvoke, CallStep, CallEnd, Answered, Included, Conflict, Changed, Lost, Goal, given_up, next_ask, ask_at}
+use Rattle.arj_protocol.specs.Commit.{Used, Plan, Machine, Voting, Preparing, Confirming, plan_of, participants, ask_of, is_at_server}
+use Rattle.arj_protocol.specs.Coord.{Coord, new_coord, Doing, Now, Idle, Calling, Committing, Root, Went, Said, Joined, Grant, doing_of, set_doing, change_doing, on_doing, on_root, root_at, no_root, joined_with, later_state, same_join, objects_in, plan_for, used_of, with_keeping, with_went, with_said, same_went, same_said, counts}
+use Rattle.arj_protocol.specs.Effect.{Effect, Say, Send, Do, Intent}
+use Rattle.arj_protocol.specs.Ending.{ended, root_after, acked}
+use Rattle.arj_protocol.specs.Order.{at_number, has, number_set, put_number, with_number}
+use Rattle.arj_protocol.specs.Step.{Input, acts, parent_of}
+use Rattle.arj_protocol.specs.Tree.{Tree, Branch, Family, begun_by, branch_of, is_own, at_place, doomed_branch, ended_branch, ends_of, family_of, next_uid, no_family, path_below, root_of, set_place, uses_object, doomed_at, ended_at, with_family}
 use Rattle.arj_protocol.proofs.Maps.{put_same, put_other}
 use Rattle.arj_protocol.proofs.RowSteps.{one_or_two}
 use Rattle.arj_law_parts.specs.parts.AskedObjects.{AreOfRoots, IsAskOf, IsAskedOf, IsNowOf, IsOfRoots, IsRootOf, IsUsedIn, KnowsObjects}
-use Rattle.arj_law_parts.proofs.parts.GoodCoords.{doomed_same, on_tree, uses_same}
-use Rattle.arj_law_parts.proofs.parts.GoodTrees.{get_more, placed}
-use Rattle.arj_law_parts.proofs.parts.Sends.{again_tree, asks_all_tree}
+use Rattle.arj_law_parts.proofs.coordinator.Trace.{Came, turned, kept_at_start, used_at, rested, noted, took_part, CallTurn, Answers, GivesUp, Calls, StartsCall, StartsInclude, GoesOn, CallsAgain, PlanFrom, NewPlan, OldPlan, PlanMove, Marks, Plans, plan_keeps, Commits, CommitsOn, CommitsAgain, OfCall, OfCommit, Move, Begins, Uses, Renews, Waits, Turns, Rests, Notes, Dooms, CommitsIn, EndsAt, TakesPart, KeepsAfter, SentTo, Out, AsksIt, Trace, trace_tells}
+use Rattle.arj_law_parts.proofs.coordinator.Walks.{acts_trace, heard_trace, acked_trace, again_trace}
+use Rattle.arj_law_parts.proofs.coordinator.Works.{works_begun, works_new, KeepsTree, tree_move, tree_same}
+use Rattle.arj_law_parts.proofs.parts.GoodCoords.{doomed_same, uses_same}
 use Rattle.arj_law_parts.proofs.parts.Settled.{doing_other, doing_put, end_tree_on}
 
 -- ---- the objects of a root
@@ -167,42 +158,6 @@ request_of t h (ask.Vote i ties ends) s = s
 request_of t h (ask.Prepare states) s = s
 request_of t h (ask.Confirm g e i) s = s
 
--- ---- effects
-
-module _ (t : Tree) where
-  of_both : (es fs : List Effect) → AreOfRoots t es → AreOfRoots t fs → AreOfRoots t (es ++ fs)
-  of_both [] fs a b = b
-  of_both (e ∷ es) fs a b = (a.0, of_both es fs a.1 b)
-
-  of_flat : {A : Type 0} (f : A → List Effect) (items : List A) → ((x : A) → AreOfRoots t (f x)) → AreOfRoots t (flat_map f items)
-  of_flat f [] each = tt
-  of_flat f (x ∷ xs) each = of_both (f x) (flat_map f xs) (each x) (of_flat f xs each)
-
-  of_lines : (u : Uid) (f : Label → Body) (d : Coord) → AreOfRoots t (says u f d)
-  of_lines u f d = by (doing_of u d)
-    where
-      by : (o : Option Doing) → AreOfRoots t (say_for f o)
-      by None = tt
-      by (Some x) = (tt, tt)
-
-  of_tells : (root : Uid) (ack : Bool) (ends : List (Uid × End)) (nodes : List ℕ) → AreOfRoots t (tell_all root ack ends nodes)
-  of_tells root ack ends [] = tt
-  of_tells root ack ends (n ∷ ns) = (tt, of_tells root ack ends ns)
-
-  of_tolds : (intents : List (Uid × Intent)) (c : Coord) (u : Uid) → AreOfRoots t (tolds_of intents c u)
-  of_tolds intents c u = by (branch_of u c.tree)
-    where
-      kinds : (k : Kind) (p : Path) → AreOfRoots t (tolds_by u k p intents c)
-      kinds kind.Nested p = of_tells (root_of p) false (up_to u (ends_of (root_of p) c.tree)) (servers_told u (root_at (root_of p) c) c)
-      kinds kind.Serial p = of_tells u false ((u, ending.Abort) ∷ []) (filter (λ n. not (is_deferred u intents n)) (nodes_sent u (root_at u c)))
-      kinds kind.Top p = of_tells (root_of p) false ((u, ending.Abort) ∷ []) (nodes_sent u (root_at (root_of p) c))
-      kinds kind.Independent p = of_tells (root_of p) false ((u, ending.Abort) ∷ []) (nodes_sent u (root_at (root_of p) c))
-      kinds kind.Constituent p = of_tells (root_of p) false ((u, ending.Abort) ∷ []) (nodes_sent u (root_at (root_of p) c))
-
-      by : (b : Option Branch) → AreOfRoots t (tolds_of_branch u intents c b)
-      by None = tt
-      by (Some b) = kinds b.kind b.path
-
 -- ---- from one coordinator to the next
 
 roots_on : (t v : Tree) → Grows t v → (rs : List (ℕ × Root)) → AllByRecursion (λ (e : ℕ × Root). IsRootOf t e.0 e.1) rs → AllByRecursion (λ (e : ℕ × Root). IsRootOf v e.0 e.1) rs
@@ -293,12 +248,6 @@ heard_of t k s (Conflict h m n) r its so = so
 heard_of t k s (Changed n w) r its so = so
 heard_of t k s (Lost n b) r its so = so
 
-abbrev IsKnowing : Did Coord → Type 0
-IsKnowing d = KnowsObjects d.part × AreOfRoots (let c = d.part in c.tree) d.outs
-
-obj_asks : (p : Path) (req : ℕ) (a : ℕ × Ask) (c : Coord) → KnowsObjects c → IsAskOf c.tree (let r = root_of p in r.num) a.1 → IsKnowing (asks_node p req a c)
-obj_asks p req a c k so = (obj_root (root_of p) (with_went (record { path = uids_of p; node = a.0; invoke = is_invoke_ask a.1 })) c (λ r h. went_of c.tree (let q = root_of p in q.num) (record { path = uids_of p; node = a.0; invoke = is_invoke_ask a.1 }) r h) k, (request_of c.tree (record { path = p; req = req }) a.1 so, tt))
-
 step_of : (t : Tree) (k x : ℕ) (g : Goal) (ends : List (Uid × End)) (at : At) → IsUsedIn t k x → IsAskOf t k (ask_at x g ends at)
 step_of t k x g ends (AtBind avoid) so = so
 step_of t k x g ends (AtLoad q s rest) so = so
@@ -306,139 +255,16 @@ step_of t k x g ends (AtActivate q st) so = tt
 step_of t k x g ends (AtNote q i) so = so
 step_of t k x g ends (AtInvoke q i) so = so
 
-obj_step : (s : Steps) (c : Coord) → KnowsObjects c → IsUsedIn c.tree (let r = root_of s.path in r.num) s.x → IsKnowing (asks_step s c)
-obj_step s c k so = obj_asks s.path s.req (next_node s, next_ask (ends_of (root_of s.path) c.tree) s) c k (step_of c.tree (let r = root_of s.path in r.num) s.x s.goal (ends_of (root_of s.path) c.tree) s.at so)
-
-obj_goes : (s : Steps) (c : Coord) → KnowsObjects c → IsUsedIn c.tree (let r = root_of s.path in r.num) s.x → IsKnowing (goes_on s c)
-obj_goes s c k so = obj_step s (on_doing (actor s.path) (λ (d : Doing). record d { req = s.req; now = Calling s }) c) (obj_do (actor s.path) (λ (d : Doing). record d { req = s.req; now = Calling s }) c (λ d found. so) k) (subst (λ t. IsUsedIn t (let r = root_of s.path in r.num) s.x) (sym (on_tree (actor s.path) (λ (d : Doing). record d { req = s.req; now = Calling s }) c)) so)
-
 obj_uses : (p : Path) (x : ℕ) (c : Coord) → KnowsObjects c → KnowsObjects (record c { tree = uses_object p x c.tree })
 obj_uses p x c k = let q = uses_same p x c.tree in obj_on c (record c { tree = uses_object p x c.tree }) (grows_uses p x c.tree) q.own refl refl k
-
-obj_call : (p : Path) (x : ℕ) (o : Op) (c : Coord) → KnowsObjects c → IsKnowing (call p x o c)
-obj_call p x o c k =
-    let r = root_at (root_of p) c in
-    let old = keeping_of x r in
-    let kept = renewed (is_free (root_of p) (actor p) x c) old old.kept in
-    let u : Coord = record c { tree = uses_object p x c.tree } in
-    obj_goes (call_steps p x o (next_req (actor p) c) r c kept) (on_root (root_of p) (with_keeping x kept) u) (obj_root (root_of p) (with_keeping x kept) u (λ q h. h) (obj_uses p x c k)) (uses_it p x c.tree)
-
-obj_include : (p : Path) (x s : ℕ) (c : Coord) → KnowsObjects c → IsKnowing (include p x s c)
-obj_include p x s c k = obj_goes (start p x (calls.Include s) None unbound (next_req (actor p) c)) (record c { tree = uses_object p x c.tree }) (obj_uses p x c k) (uses_it p x c.tree)
-
-obj_step_call : (s : Steps) (t : CallStep) (c : Coord) → KnowsObjects c → IsUsedIn c.tree (let r = root_of s.path in r.num) s.x → IsKnowing (step_call s t c)
-obj_step_call s (On at) c k so = obj_goes (record s { req = s.req + 1; at = at }) c k so
-obj_step_call s (Ended e) c k so = (by e, of_lines (let d = step_call s (Ended e) c in let q = d.part in q.tree) (actor s.path) (end_line s.x s.goal e) c)
-  where
-    m : Coord
-    m = on_doing (actor s.path) (λ (d : Doing). record d { now = Idle }) c
-
-    its : KnowsObjects (on_root (root_of s.path) (root_heard s e) (on_doing (actor s.path) (λ (d : Doing). record d { now = Idle }) c))
-    its = obj_root (root_of s.path) (root_heard s e) (on_doing (actor s.path) (λ (d : Doing). record d { now = Idle }) c) (λ r h. heard_of m.tree (let q = root_of s.path in q.num) s e r (subst (λ t. IsUsedIn t (let q = root_of s.path in q.num) s.x) (sym (on_tree (actor s.path) (λ (d : Doing). record d { now = Idle }) c)) so) h) (obj_idle (actor s.path) c k)
-
-    by : (g : CallEnd) → KnowsObjects (doomed_by (actor s.path) g (on_root (root_of s.path) (root_heard s e) (on_doing (actor s.path) (λ (d : Doing). record d { now = Idle }) c)))
-    by (Answered a) = its
-    by (Included st) = its
-    by (Conflict h x n) = its
-    by (Changed n w) = its
-    by (Lost n false) = its
-    by (Lost n true) = let i : Coord = on_root (root_of s.path) (root_heard s e) (on_doing (actor s.path) (λ (d : Doing). record d { now = Idle }) c) in let q = doomed_same (actor s.path) i.tree in obj_on i (record i { tree = doomed_at (actor s.path) i.tree }) (grows_doomed (actor s.path) i.tree) q.own refl refl its
-
--- ---- ends
 
 obj_ended : (u : Uid) (e : End) (c : Coord) → KnowsObjects c → KnowsObjects (ended u e c)
 obj_ended u e c k = let g = end_tree_on u e c in obj_idle u (record c { tree = ended_at u e c.tree }) (obj_on c (record c { tree = ended_at u e c.tree }) (grows_ended u e c.tree) g.own refl refl k)
 
-obj_ends : (u : Uid) (e : End) (f : Label → Body) (intents : List (Uid × Intent)) (c : Coord) → KnowsObjects c → IsKnowing (ends_with u e f intents c)
-obj_ends u e f intents c k = (obj_ended u e c k, of_both (ended u e c).tree (says u f c) (tolds_of intents (ended u e c) u) (of_lines (ended u e c).tree u f c) (of_tolds (ended u e c).tree intents (ended u e c) u))
-
-obj_all : (us : List Uid) (c : Coord) → KnowsObjects c → KnowsObjects (all_aborted us c).part
-obj_all [] c k = k
-obj_all (u ∷ us) c k = obj_all us (ended u ending.Abort c) (obj_ended u ending.Abort c k)
-
-all_lines : (t : Tree) (us : List Uid) (c : Coord) → AreOfRoots t (all_aborted us c).outs
-all_lines t [] c = tt
-all_lines t (u ∷ us) c = of_both t (says u (λ l. body.Aborted l cause.Asked) c) _ (of_lines t u (λ l. body.Aborted l cause.Asked) c) (all_lines t us (ended u ending.Abort c))
-
-obj_abort : (u : Uid) (intents : List (Uid × Intent)) (c : Coord) → KnowsObjects c → IsKnowing (abort_action u intents c)
-obj_abort u intents c k =
-    let us : List Uid = open_below u c.tree ++ u ∷ [] in
-    let t = all_aborted us c in
-    (obj_all us c k, of_both t.part.tree t.outs (flat_map (tolds_of intents t.part) us) (all_lines t.part.tree us c) (of_flat t.part.tree (tolds_of intents t.part) us (λ w. of_tolds t.part.tree intents t.part w)))
-
--- ---- commits
+-- ---- plans
 
 abbrev PlanOf : Tree → Plan → Type 0
 PlanOf t p = AllByRecursion (λ (u : Used). IsUsedIn t (let r = root_of p.path in r.num) u.x) p.used
-
-abbrev NextOf : Tree → CommitStep → Type 0
-NextOf t (Stays m) = PlanOf t (plan_of m)
-NextOf t (Asks m) = PlanOf t (plan_of m)
-NextOf t (Decides q) = PlanOf t q
-NextOf t (Aborts why q) = ⊤
-
-module _ (t : Tree) where
-  confirm_step : (us : List Used) (p q : Plan) → PlanOf t q → NextOf t (begin_confirm us q)
-  confirm_step [] p q same = same
-  confirm_step (u ∷ us) p q same = same
-
-  prepare_step : (ns : List ℕ) (p q : Plan) → PlanOf t q → NextOf t (begin_prepare ns q)
-  prepare_step [] p q same = confirm_step q.used p q same
-  prepare_step (n ∷ ns) p q same = same
-
-  vote_step : (ns : List ℕ) (p q : Plan) → PlanOf t q → NextOf t (begin_vote ns q)
-  vote_step [] p q same = prepare_step (targets_of q) p q same
-  vote_step (n ∷ ns) p q same = same
-
-  stores_step : (ns : List ℕ) (p q : Plan) → PlanOf t q → NextOf t (let m = stores_left ns q in m.step)
-  stores_step [] p q same = confirm_step q.used p q same
-  stores_step (n ∷ ns) p q same = same
-
-  votes_step : (ns : List ℕ) (p q : Plan) → PlanOf t q → NextOf t (votes_left ns q)
-  votes_step [] p q same = prepare_step (targets_of q) p q same
-  votes_step (n ∷ ns) p q same = same
-
-  marks_same : (ns : List ℕ) (p q : Plan) → PlanOf t q → PlanOf t (marks_stores ns q)
-  marks_same [] p q same = same
-  marks_same (n ∷ ns) p q same = marks_same ns p (marks_store n q) same
-
-  answer_step : (from : ℕ) (m : Machine) (r : Reply) → PlanOf t (plan_of m) → NextOf t (commit.answered from m r).step
-  answer_step from (Voting p left) (Reply.Voted (voted.Yes states)) so = votes_step (without_number from left) p (record p { changed = with_states states p.changed }) so
-  answer_step from (Voting p left) (Reply.Voted (voted.Changed w)) so = tt
-  answer_step from (Voting p left) (Reply.Bound r) so = so
-  answer_step from (Voting p left) (Reply.Loaded r) so = so
-  answer_step from (Voting p left) (Reply.Activated r) so = so
-  answer_step from (Voting p left) (Reply.Noted r) so = so
-  answer_step from (Voting p left) (Reply.Invoked r) so = so
-  answer_step from (Voting p left) (Reply.Prepared r) so = so
-  answer_step from (Voting p left) (Reply.Confirmed r) so = so
-  answer_step from (Preparing p left) (Reply.Prepared prepared.Yes) so = stores_step (without_number from left) p (record p { prepared = with_number from p.prepared }) so
-  answer_step from (Preparing p left) (Reply.Prepared (prepared.InDoubt x h)) so = stores_step (without_number from left) p (marks_store from p) so
-  answer_step from (Preparing p left) (Reply.Prepared (prepared.Old x v)) so = tt
-  answer_step from (Preparing p left) (Reply.Bound r) so = so
-  answer_step from (Preparing p left) (Reply.Loaded r) so = so
-  answer_step from (Preparing p left) (Reply.Activated r) so = so
-  answer_step from (Preparing p left) (Reply.Noted r) so = so
-  answer_step from (Preparing p left) (Reply.Invoked r) so = so
-  answer_step from (Preparing p left) (Reply.Voted r) so = so
-  answer_step from (Preparing p left) (Reply.Confirmed r) so = so
-  answer_step from (Confirming p) (Reply.Confirmed confirmed.Yes) so = so
-  answer_step from (Confirming p) (Reply.Confirmed (confirmed.Conflict h m)) so = tt
-  answer_step from (Confirming p) (Reply.Confirmed (confirmed.Changed w)) so = tt
-  answer_step from (Confirming p) (Reply.Confirmed (confirmed.NoStores x)) so = tt
-  answer_step from (Confirming p) (Reply.Confirmed (confirmed.Listed x s)) so = tt
-  answer_step from (Confirming p) (Reply.Bound r) so = so
-  answer_step from (Confirming p) (Reply.Loaded r) so = so
-  answer_step from (Confirming p) (Reply.Activated r) so = so
-  answer_step from (Confirming p) (Reply.Noted r) so = so
-  answer_step from (Confirming p) (Reply.Invoked r) so = so
-  answer_step from (Confirming p) (Reply.Voted r) so = so
-  answer_step from (Confirming p) (Reply.Prepared r) so = so
-
-  giveup_step : (m : Machine) → PlanOf t (plan_of m) → NextOf t (commit.given_up m).step
-  giveup_step (Voting p left) so = tt
-  giveup_step (Preparing p left) so = stores_step [] p (marks_stores left p) (marks_same left p p so)
-  giveup_step (Confirming p) so = tt
 
 machine_of : (t : Tree) (m : Machine) (n : ℕ) → PlanOf t (plan_of m) → IsAskOf t (let p = plan_of m in let r = root_of p.path in r.num) (ask_of m n)
 machine_of t (Voting p left) n so = by p.used so
@@ -456,75 +282,6 @@ machine_of t (Confirming p) n so = by p.used so
     by : (us : List Used) → AllByRecursion (λ (u : Used). IsUsedIn t (let r = root_of p.path in r.num) u.x) us → AllByRecursion (λ (e : ℕ × ℕ). IsUsedIn t (let r = root_of p.path in r.num) e.0) (map {A = Used} {B = ℕ × ℕ} (λ u. (u.x, u.grant)) us)
     by [] all = tt
     by (u ∷ us) all = (all.0, by us all.1)
-
-obj_asked : (p : Path) (req : ℕ) (as_asked : List (ℕ × Ask)) (c : Coord) → KnowsObjects c → AllByRecursion (λ (a : ℕ × Ask). IsAskOf c.tree (let r = root_of p in r.num) a.1) as_asked → IsKnowing (asks_all p req as_asked c)
-obj_asked p req [] c k all = (k, tt)
-obj_asked p req (a ∷ rest) c k all =
-    let one = obj_asks p req a c k all.0 in
-    let d = asks_node p req a c in
-    let r = obj_asked p req rest d.part one.0 all.1 in
-    (r.0, of_both (asks_all p req rest d.part).part.tree d.outs (asks_all p req rest d.part).outs (outs_on d.part.tree (asks_all p req rest d.part).part.tree (grows_by d.part.tree (asks_all p req rest d.part).part.tree (sym (asks_all_tree p req rest d.part))) d.outs one.1) r.1)
-
-obj_machine : (m : Machine) (c : Coord) → KnowsObjects c → PlanOf c.tree (plan_of m) → IsKnowing (asks_machine m c)
-obj_machine m c k so = obj_asked (plan_of m).path (plan_of m).req (commit.waiting m) c k (waiting (commit.left_of m))
-  where
-    waiting : (ns : List ℕ) → AllByRecursion (λ (a : ℕ × Ask). IsAskOf c.tree (let p = plan_of m in let r = root_of p.path in r.num) a.1) (map {A = ℕ} {B = ℕ × Ask} (λ n. (n, ask_of m n)) ns)
-    waiting [] = tt
-    waiting (n ∷ ns) = (machine_of c.tree m n so, waiting ns)
-
-obj_commits : (u : Uid) (m : Machine) (c : Coord) → KnowsObjects c → PlanOf c.tree (plan_of m) → KnowsObjects (commits_in u m c)
-obj_commits u m c k so = obj_do u (λ (d : Doing). record d { req = (plan_of m).req; now = Committing m }) c (λ d found. so) k
-
-obj_decide : (p : Plan) (c : Coord) → KnowsObjects c → IsKnowing (decide p c)
-obj_decide p c k = by (has_record p)
-  where
-    i : Intent
-    i = record { root = root_of p.path; nodes = participants p }
-
-    e : Coord
-    e = ended (actor p.path) ending.Commit c
-
-    r : Coord
-    r = on_root (root_of p.path) (root_after p) (on_doing (actor p.path) (λ (d : Doing). record d { took = participants p }) e)
-
-    ke : KnowsObjects (ended (actor p.path) ending.Commit c)
-    ke = obj_ended (actor p.path) ending.Commit c k
-
-    kr : KnowsObjects r
-    kr = obj_root (root_of p.path) (root_after p) (on_doing (actor p.path) (λ (d : Doing). record d { took = participants p }) e) (λ q h. h) (obj_do (actor p.path) (λ (d : Doing). record d { took = participants p }) e (λ d found. ke.works (actor p.path) d found) ke)
-
-    told : (t : Tree) (ns : List ℕ) → AreOfRoots t (map (decided_told (root_of p.path) (actor p.path) p) ns)
-    told t [] = tt
-    told t (n ∷ ns) = (one (has (participants p) n), told t ns)
-      where
-        one : (x : Bool) → IsOfRoots t (cond x (tell (root_of p.path) (has_record p) ((actor p.path, ending.Commit) ∷ []) n) (tell (root_of p.path) false ((actor p.path, ending.Abort) ∷ []) n))
-        one true = tt
-        one false = tt
-
-    work : (t : Tree) (x : Bool) → AreOfRoots t (cond x (Do (PutIntent (actor p.path) i) ∷ []) [])
-    work t true = (tt, tt)
-    work t false = tt
-
-    outs : (t : Tree) (w : Bool) → AreOfRoots t (cond w (Do (PutIntent (actor p.path) i) ∷ []) [] ++ says (actor p.path) body.Committed c ++ map (decided_told (root_of p.path) (actor p.path) p) p.sent)
-    outs t w = of_both t (cond w (Do (PutIntent (actor p.path) i) ∷ []) [] ++ says (actor p.path) body.Committed c) (map (decided_told (root_of p.path) (actor p.path) p) p.sent) (of_both t (cond w (Do (PutIntent (actor p.path) i) ∷ []) []) (says (actor p.path) body.Committed c) (work t w) (of_lines t (actor p.path) body.Committed c)) (told t p.sent)
-
-    by : (w : Bool) → IsKnowing (record { part = cond w (record r { telling = put_uid (actor p.path) i r.telling }) r; outs = cond w (Do (PutIntent (actor p.path) i) ∷ []) [] ++ says (actor p.path) body.Committed c ++ map (decided_told (root_of p.path) (actor p.path) p) p.sent })
-    by true = (record { works = kr.works; roots = kr.roots }, outs r.tree true)
-    by false = (kr, outs r.tree false)
-
-obj_step_commit : (u : Uid) (s : CommitStep) (intents : List (Uid × Intent)) (c : Coord) → KnowsObjects c → NextOf c.tree s → IsKnowing (step_commit u s intents c)
-obj_step_commit u (Stays m) intents c k so = (obj_commits u m c k so, tt)
-obj_step_commit u (Asks m) intents c k so = obj_machine m (commits_in u m c) (obj_commits u m c k so) (subst (λ t. PlanOf t (plan_of m)) (sym (on_tree u (λ (d : Doing). record d { req = (plan_of m).req; now = Committing m }) c)) so)
-obj_step_commit u (Decides p) intents c k so = obj_decide p c k
-obj_step_commit u (Aborts why p) intents c k so = obj_ends u ending.Abort (λ l. body.Aborted l why) intents c k
-
-obj_moved : (u : Uid) (m : commit.Marked) (intents : List (Uid × Intent)) (c : Coord) → KnowsObjects c → NextOf c.tree m.step → IsKnowing (moved_commit u m intents c)
-obj_moved u m intents c k so =
-    let t = step_commit u m.step intents c in
-    let w = obj_step_commit u m.step intents c k so in
-    (w.0, of_both t.part.tree (mark_lines u m.marks c) t.outs (of_flat t.part.tree (λ (x : ℕ × ℕ). says u (λ l. body.Excluded l x.0 x.1) c) m.marks (λ x. of_lines t.part.tree u (λ l. body.Excluded l x.0 x.1) c)) w.1)
-
--- ---- what a plan uses
 
 all_put : (P : ℕ → Type 0) (n : ℕ) (ns : List ℕ) → P n → AllByRecursion P ns → AllByRecursion P (with_number n ns)
 all_put P n [] its all = (its, tt)
@@ -561,118 +318,35 @@ plan_of_root p req r c t so = by (objects_in (actor p) r c) (all_set P _ (all_bo
     by [] all = tt
     by (x ∷ xs) all = (all.0, by xs all.1)
 
--- ---- what a coordinator hears, and inputs
+-- ---- small steps
 
-pub obj_heard : (from : ℕ) (a : Asked) (r : Reply) (intents : List (Uid × Intent)) (c : Coord) → KnowsObjects c → (let d = heard from a r intents c in KnowsObjects d.part × AreOfRoots (let e = d.part in e.tree) d.outs)
-obj_heard from a r intents c k = by (doing_of a.act c) refl
+turn_of : {c : Coord} {came : Came} {s : Steps} {t : CallStep} {e : Coord} → KnowsObjects c → CallTurn c came s t e → IsUsedIn e.tree (root_of s.path).num s.x
+turn_of {c} k (Answers from a r intents d s found is waits) = subst (IsNowOf c.tree) is (k.works a.act d found)
+turn_of {c} k (GivesUp l b intents d s named found is) = subst (IsNowOf c.tree) is (k.works (actor b.path) d found)
+
+calls_of : {c : Coord} {came : Came} {e : Coord} {u : Uid} {s : Steps} → KnowsObjects c → Calls c came e u s → IsUsedIn e.tree (root_of s.path).num s.x
+calls_of {c} k (StartsCall l x o b intents named) = uses_it b.path x c.tree
+calls_of {c} k (StartsInclude l x store b intents named) = uses_it b.path x c.tree
+calls_of k (GoesOn s t e at turn is) = turn_of k turn
+calls_of {c} k (CallsAgain u d s found is) = subst (IsNowOf c.tree) is (k.works u d found)
+
+plans_of : {c : Coord} {came : Came} {u : Uid} {p q : Plan} {left : List ℕ} → KnowsObjects c → PlanFrom c came u p left → Plans came p q → PlanOf c.tree q
+plans_of {c} k from plans = plan_keeps (PlanOf c.tree) move plans (before from)
   where
-    Well : Served Coord (Unit {0}) → Type 0
-    Well d = KnowsObjects d.part × AreOfRoots (let e = d.part in e.tree) d.outs
+    before : {came : Came} {u : Uid} {p : Plan} {left : List ℕ} → PlanFrom c came u p left → PlanOf c.tree p
+    before (NewPlan l b intents named) = plan_of_root b.path (last_req (doing_of (actor b.path) c)) (root_at (root_of b.path) c) c c.tree (root_found c.tree (root_of b.path).num c.roots k.roots)
+    before (OldPlan u d m found is) = subst (IsNowOf c.tree) is (k.works u d found)
 
-    now : (n : Now) → IsNowOf c.tree n → Well (heard_now from a r intents c n)
-    now Idle so = (k, tt)
-    now (Calling s) so = one (waits_for_call from a r s)
-      where
-        m : Moved
-        m = answered (is_free (root_of s.path) (actor s.path) s.x c) (kept_at s c) s.goal s.at r
+    move : {came : Came} (p q : Plan) → PlanMove came p q → PlanOf c.tree p → PlanOf c.tree q
+    move _ _ (Marks n p) so = so
+    move _ _ _ so = so
 
-        one : (w : Bool) → Well (cond {A = Served Coord (Unit {0})} w (heard_by (heard_call s r c)) (heard_none c))
-        one true = obj_step_call s m.step (on_root (root_of s.path) (root_moved s r m) c) (obj_root (root_of s.path) (root_moved s r m) c (λ q h. granted (granted_by (top_of s.path) s.x r) q h) k) so
-          where
-            granted : (o : Option Grant) (q : Root) → IsRootOf c.tree (let x = root_of s.path in x.num) q → IsRootOf c.tree (let x = root_of s.path in x.num) (notes_grant o q)
-            granted None q h = h
-            granted (Some g) q h = h
-        one false = (k, tt)
-    now (Committing m) so = one (waits_for_commit from a r m)
-      where
-        one : (w : Bool) → Well (cond {A = Served Coord (Unit {0})} w (heard_by (moved_commit a.act (commit.answered from m r) intents c)) (heard_none c))
-        one true = obj_moved a.act (commit.answered from m r) intents c k (answer_step c.tree from m r so)
-        one false = (k, tt)
+commits_of : {c : Coord} {came : Came} {u : Uid} {m : Machine} → KnowsObjects c → Commits c came u m → PlanOf c.tree (plan_of m)
+commits_of k (CommitsOn u m on) = plans_of k on.from on.plans
+commits_of {c} k (CommitsAgain u d m found is) = subst (IsNowOf c.tree) is (k.works u d found)
 
-    by : (o : Option Doing) → doing_of a.act c ≡ o → Well (heard_doing from a r intents c o)
-    by None is = (k, tt)
-    by (Some d) is = now d.now (k.works a.act d is)
-
-obj_give_up : (u : Uid) (intents : List (Uid × Intent)) (c : Coord) → KnowsObjects c → IsKnowing (give_up u intents c)
-obj_give_up u intents c k = by (doing_of u c) refl
-  where
-    with_lines : (nodes : List ℕ) (d : Did Coord) → IsKnowing d → IsKnowing (record { part = d.part; outs = gaveup_lines u nodes c ++ d.outs })
-    with_lines nodes d w = (w.0, of_both d.part.tree (gaveup_lines u nodes c) d.outs (of_flat d.part.tree (λ n. says u (λ l. body.GaveUp l n) c) nodes (λ n. of_lines d.part.tree u (λ l. body.GaveUp l n) c)) w.1)
-
-    now : (n : Now) → IsNowOf c.tree n → IsKnowing (gives_up u intents c n)
-    now Idle so = (k, tt)
-    now (Calling s) so =
-        let t : Coord = on_root (root_of s.path) (root_lost s (given_up s.at)) c in
-        with_lines (next_node s ∷ []) (step_call s (given_up s.at) t) (obj_step_call s (given_up s.at) t (obj_root (root_of s.path) (root_lost s (given_up s.at)) c (λ q h. h) k) so)
-    now (Committing m) so = with_lines (nodes_given_up m) (moved_commit u (commit.given_up m) intents c) (obj_moved u (commit.given_up m) intents c k (giveup_step c.tree m so))
-
-    by : (o : Option Doing) → doing_of u c ≡ o → IsKnowing (give_up_doing u intents c o)
-    by None is = (k, tt)
-    by (Some d) is = now d.now (k.works u d is)
-
-again_same : (es : List Doing) (e : Coord) → (let q = again_all es e in let p = q.part in p.tree) ≡ e.tree
-again_same [] e = refl
-again_same (x ∷ es) e = again_same es (again_now e x.now).part ∙ again_tree e x.now
-
-again_objs : (ds : List Doing) (c : Coord) → KnowsObjects c → AllByRecursion (λ (d : Doing). IsNowOf c.tree d.now) ds → IsKnowing (again_all ds c)
-again_objs [] c k all = (k, tt)
-again_objs (d ∷ ds) c k all =
-    let a = again_now c d.now in
-    let w = now d.now all.0 in
-    let q = again_objs ds a.part w.0 (subst (λ t. AllByRecursion (λ (x : Doing). IsNowOf t x.now) ds) (sym (again_tree c d.now)) all.1) in
-    let f = again_all ds a.part in
-    (q.0, of_both f.part.tree a.outs f.outs (outs_on a.part.tree f.part.tree (grows_by a.part.tree f.part.tree (sym (again_same ds a.part))) a.outs w.1) q.1)
-  where
-    now : (n : Now) → IsNowOf c.tree n → IsKnowing (again_now c n)
-    now Idle so = (k, tt)
-    now (Calling s) so = obj_step s c k so
-    now (Committing m) so = obj_machine m c k so
-
-pub obj_again : (c : Coord) → KnowsObjects c → IsKnowing (again_all c.doings c)
-obj_again c k = again_objs c.doings c k (all c.doings (λ d i. i))
-  where
-    same : (n : ℕ) → (n == n) ≡ true
-    same n = grind arith
-
-    found : (d : Doing) → In d c.doings → (u : Uid) × (doing_of u c ≡ Some d)
-    found d i = let p = placed d c.doings i in (record { node = c.tree.node; inc = c.tree.inc; num = p.0 }, (λ j. cond (same c.tree.node j && same c.tree.inc j) (at_place p.0 c.doings) None) ∙ p.1)
-
-    all : (ds : List Doing) → ((d : Doing) → In d ds → In d c.doings) → AllByRecursion (λ (d : Doing). IsNowOf c.tree d.now) ds
-    all [] there = tt
-    all (d ∷ ds) there = (let f = found d (there d (inl refl)) in k.works f.0 d f.1, all ds (λ e i. there e (inr i)))
-
-obj_commit : (b : Branch) (intents : List (Uid × Intent)) (c : Coord) → KnowsObjects c → IsKnowing (commit_action b intents c)
-obj_commit b intents c k = by b.doomed
-  where
-    u : Uid
-    u = actor b.path
-
-    plan : Plan
-    plan = plan_for b.path (last_req (doing_of u c)) (root_at (root_of b.path) c) c
-
-    top : IsKnowing (commit_top b.path intents c)
-    top =
-        let x = moved_commit u (commit.start plan) intents c in
-        let w = obj_moved u (commit.start plan) intents c k (vote_step c.tree (servers_of plan) plan plan (plan_of_root b.path (last_req (doing_of u c)) (root_at (root_of b.path) c) c c.tree (root_found c.tree (let r = root_of b.path in r.num) c.roots k.roots))) in
-        (w.0, of_both x.part.tree (says u body.Committing c) x.outs (of_lines x.part.tree u body.Committing c) w.1)
-
-    kinds : (q : Kind) → IsKnowing (commit_open b intents c q)
-    kinds kind.Nested = obj_ends u ending.Commit body.Committed intents c k
-    kinds kind.Serial = obj_ends u ending.Commit body.Ended intents c k
-    kinds kind.Top = top
-    kinds kind.Independent = top
-    kinds kind.Constituent = top
-
-    by : (d : Bool) → IsKnowing (cond {A = Did Coord} d (aborts_with u cause.Doomed intents c) (commit_open b intents c b.kind))
-    by true = obj_ends u ending.Abort (λ l. body.Aborted l cause.Doomed) intents c k
-    by false = kinds b.kind
-
-on_named_branch : (f : Branch → Did Coord) (c : Coord) (o : Option Branch) → KnowsObjects c → ((b : Branch) → IsKnowing (f b)) → IsKnowing (on_branch f c o)
-on_named_branch f c None k each = (k, tt)
-on_named_branch f c (Some b) k each = each b
-
-pub obj_begins : (l : Label) (q : Kind) (parent : Option Label) (c : Coord) → KnowsObjects c → IsKnowing (begin_action l q parent (parent_of parent c) c)
-obj_begins l q parent c k = (record { works = λ u d at. was (is_own u c.tree) u.num d at (λ f. now_on c.tree v g d.now (k.works u d f)); roots = roots_on c.tree v g c.roots k.roots }, (tt, tt))
+pub obj_begins : (l : Label) (q : Kind) (parent : Option Label) (c : Coord) → KnowsObjects c → let d = begin_action l q parent (parent_of parent c) c in KnowsObjects d.part × AreOfRoots d.part.tree d.outs
+obj_begins l q parent c k = (record { works = works_begun (λ u d. IsNowOf v d.now) l q parent (parent_of parent c) c (λ u. tt) (λ u d at. now_on c.tree v g d.now (k.works u d at)); roots = roots_on c.tree v g c.roots k.roots }, (tt, tt))
   where
     v : Tree
     v = begun_by q (path_below q (parent_of parent c) (next_uid c.tree)) c.tree
@@ -680,57 +354,70 @@ obj_begins l q parent c k = (record { works = λ u d at. was (is_own u c.tree) u
     g : Grows c.tree (begun_by q (path_below q (parent_of parent c) (next_uid c.tree)) c.tree)
     g = grows_begun q (path_below q (parent_of parent c) (next_uid c.tree)) c.tree
 
-    fresh : Doing
-    fresh = record { label = l; req = 0; now = Idle; took = [] }
-
-    was : (b : Bool) (j : ℕ) (d : Doing) → cond b (at_place j (c.doings ++ fresh ∷ [])) None ≡ Some d → (cond b (at_place j c.doings) None ≡ Some d → IsNowOf v d.now) → IsNowOf v d.now
-    was true zero d at f = let no_way : ◌≡◌ {A = Option Doing} None (Some d) = at in cc
-    was true (suc j) d at f = ⊎_elim (λ old. f old) (λ new. subst (λ (x : Doing). IsNowOf v x.now) new.1 tt) (get_more j fresh d c.doings at)
-    was false j d at f = let no_way : ◌≡◌ {A = Option Doing} None (Some d) = at in cc
-
-pub obj_acts : (i : Input) (intents : List (Uid × Intent)) (c : Coord) → KnowsObjects c → IsKnowing (acts i intents c)
-obj_acts (input.Begin l q parent) intents c k = obj_begins l q parent c k
-obj_acts (input.Call l x o) intents c k = on_named_branch (λ b. call b.path x o c) c (branch_named l c) k (λ b. obj_call b.path x o c k)
-obj_acts (input.Include l x s) intents c k = on_named_branch (λ b. include b.path x s c) c (branch_named l c) k (λ b. obj_include b.path x s c k)
-obj_acts (input.Commit l) intents c k = on_named_branch (λ b. commit_action b intents c) c (branch_named l c) k (λ b. obj_commit b intents c k)
-obj_acts (input.Abort l) intents c k = on_named_branch (λ b. abort_action (actor b.path) intents c) c (branch_named l c) k (λ b. obj_abort (actor b.path) intents c k)
-obj_acts (input.GiveUp l) intents c k = on_named_branch (λ b. give_up (actor b.path) intents c) c (branch_named l c) k (λ b. obj_give_up (actor b.path) intents c k)
-obj_acts (input.Frame j from m) intents c k = (k, tt)
-obj_acts input.Tick intents c k = (k, tt)
-obj_acts input.Restart intents c k = (k, tt)
-obj_acts input.Crash intents c k = (k, tt)
-obj_acts (input.Show x) intents c k = (k, tt)
-
-pub obj_acked : (from : ℕ) (u : Uid) (intents : List (Uid × Intent)) (c : Coord) → KnowsObjects c → (let d = acked from u intents c in KnowsObjects d.part × AreOfRoots (let e = d.part in e.tree) d.outs)
-obj_acked from u intents c k = by (at_uid u c.telling)
+obj_move : {c : Coord} {came : Came} → KnowsObjects c → (e f : Coord) → Move c came e f → KnowsObjects e → KnowsObjects f
+obj_move {c} k _ _ (Begins l q parent intents) h = (obj_begins l q parent c h).0
+obj_move {c} k _ _ (Uses l b x named) h = obj_uses b.path x c h
+obj_move {c} k _ _ (Renews p x) h = obj_root (root_of p) (with_keeping x (kept_at_start p x c)) (used_at p x c) (λ q so. so) h
+obj_move k _ _ (Waits s e is) h = obj_do (actor s.path) (λ (d : Doing). record d { req = s.req; now = Calling s }) e (λ d found. calls_of k is) h
+obj_move {c} k _ _ (Turns s t _ (Answers from a r intents d _ found is waits)) h = obj_root (root_of s.path) (root_moved s r (turned s r c)) c (λ q so. granted (granted_by (top_of s.path) s.x r) q so) h
   where
-    Well : Served Coord (Unit {0}) → Type 0
-    Well d = KnowsObjects d.part × AreOfRoots (let e = d.part in e.tree) d.outs
+    granted : (o : Option Grant) (q : Root) → IsRootOf c.tree (root_of s.path).num q → IsRootOf c.tree (root_of s.path).num (notes_grant o q)
+    granted None q so = so
+    granted (Some g) q so = so
+obj_move {c} k _ _ (Turns s t _ (GivesUp l b intents d _ named found is)) h = obj_root (root_of s.path) (root_lost s (given_up s.at)) c (λ q so. so) h
+obj_move k _ _ (Rests s t e g turn is) h = obj_idle (actor s.path) e h
+obj_move k _ _ (Notes s t e g turn is) h =
+    let used = subst (λ v. IsUsedIn v (root_of s.path).num s.x) (sym (tree_same (actor s.path) (λ (d : Doing). record d { now = Idle }) e)) (turn_of k turn) in
+    obj_root (root_of s.path) (root_heard s g) (rested s e) (λ r so. heard_of (rested s e).tree (root_of s.path).num s g r used so) h
+obj_move k _ _ (Dooms s t e n turn is) h = let f = noted s (Lost n true) e in obj_on f (record f { tree = doomed_at (actor s.path) f.tree }) (grows_doomed (actor s.path) f.tree) (doomed_same (actor s.path) f.tree).own refl refl h
+obj_move {c} k _ _ (CommitsIn u m on) h = obj_do u (λ (d : Doing). record d { req = (plan_of m).req; now = Committing m }) c (λ d found. plans_of k on.from on.plans) h
+obj_move k _ _ (EndsAt u how f e ends) h = obj_ended u how e h
+obj_move {c} k _ _ (TakesPart u p ends) h = obj_do (actor p.path) (λ (d : Doing). record d { took = participants p }) (ended (actor p.path) ending.Commit c) (λ d found. h.works (actor p.path) d found) h
+obj_move {c} k _ _ (KeepsAfter u p ends) h = obj_root (root_of p.path) (root_after p) (took_part p c) (λ q so. so) h
+obj_move k _ _ (SentTo p req n a e q) h =
+    let w : Went = record { path = uids_of p; node = n; invoke = is_invoke_ask a } in
+    obj_root (root_of p) (with_went w) e (λ r so. went_of e.tree (root_of p).num w r so) h
+obj_move k _ _ _ h = record { works = h.works; roots = h.roots }
 
-    gone : (o : Option Intent) → AreOfRoots c.tree (tolds_let_go u (without_uid u intents) c o)
-    gone None = tt
-    gone (Some i) = one (not (uid_eq i.root u) && is_over (branch_of i.root c.tree))
-      where
-        one : (b : Bool) → AreOfRoots c.tree (cond b (tell_all i.root false ((i.root, ending.Abort) ∷ []) (let_go i.root (without_uid u intents) c i.nodes)) [])
-        one true = of_tells c.tree i.root false ((i.root, ending.Abort) ∷ []) (let_go i.root (without_uid u intents) c i.nodes)
-        one false = tt
+effect_on : (t v : Tree) → Grows t v → (x : Effect) → IsOfRoots t x → IsOfRoots v x
+effect_on t v g (Say b) so = tt
+effect_on t v g (Do w) so = tt
+effect_on t v g (Send to m) so = asked_on t v g (asks m) so
 
-    left : (i : Intent) (ns : List ℕ) → Well (acked_left u i intents c ns)
-    left i [] = (record { works = k.works; roots = k.roots }, (tt, gone (at_uid u intents)))
-    left i (n ∷ ns) = (record { works = k.works; roots = k.roots }, tt)
+obj_later : {c : Coord} {came : Came} (e f : Coord) (x : Effect) → Move c came e f → KnowsObjects e → IsOfRoots e.tree x → IsOfRoots f.tree x
+obj_later {c} {came} e f x m h so = effect_on e.tree f.tree (tree_move (Grows e.tree) keeps e f m (λ k y u. u)) x so
+  where
+    keeps : KeepsTree (Grows e.tree) c came
+    keeps = record {
+      begins = λ l q parent intents is g k y u. grows_begun q (path_below q (parent_of parent c) (next_uid c.tree)) c.tree k y (g k y u);
+      uses = λ p z g k y u. grows_uses p z c.tree k y (g k y u);
+      dooms = λ w t g k y u. grows_doomed w t k y (g k y u);
+      ends = λ w how line t ends g k y u. grows_ended w how t k y (g k y u);
+    }
 
-    by : (o : Option Intent) → Well (acked_by from u intents c o)
-    by None = (k, tt)
-    by (Some i) = one (has i.nodes from)
-      where
-        one : (b : Bool) → Well (cond {A = Served Coord (Unit {0})} b (acked_left u i intents c (without_number from i.nodes)) (record { part = c; outs = []; reply = None }))
-        one true = left i (without_number from i.nodes)
-        one false = (k, tt)
+obj_out : {c : Coord} {came : Came} → KnowsObjects c → (e : Coord) (x : Effect) → Out c came e x → KnowsObjects e → IsOfRoots e.tree x
+obj_out k _ _ (AsksIt _ _ _ _ _ (OfCall u s f e is tree at)) h =
+    let used = subst (λ v. IsUsedIn v (root_of s.path).num s.x) (sym tree) (calls_of k is) in
+    request_of e.tree (record { path = s.path; req = s.req }) (next_ask (ends_of (root_of s.path) e.tree) s) (step_of e.tree (root_of s.path).num s.x s.goal (ends_of (root_of s.path) e.tree) s.at used)
+obj_out k _ _ (AsksIt _ _ _ _ _ (OfCommit u m n e is i tree at)) h =
+    request_of e.tree (record { path = (plan_of m).path; req = (plan_of m).req }) (ask_of m n) (machine_of e.tree m n (subst (λ v. PlanOf v (plan_of m)) (sym tree) (commits_of k is)))
+obj_out k _ _ _ h = tt
+
+-- what a coordinator did
+objects_so : {c : Coord} {came : Came} {e : Coord} {outs : List Effect} → KnowsObjects c → Trace c came c outs e → KnowsObjects e × AreOfRoots e.tree outs
+objects_so k t = trace_tells KnowsObjects (obj_move k) (λ e x. IsOfRoots e.tree x) (obj_out k) obj_later t k
+
+pub obj_heard : (from : ℕ) (a : Asked) (r : Reply) (intents : List (Uid × Intent)) (c : Coord) → KnowsObjects c → let d = heard from a r intents c in KnowsObjects d.part × AreOfRoots d.part.tree d.outs
+obj_heard from a r intents c k = objects_so k (heard_trace c from a r intents)
+
+pub obj_again : (c : Coord) → KnowsObjects c → let d = again_all c.doings c in KnowsObjects d.part × AreOfRoots d.part.tree d.outs
+obj_again c k = objects_so k (again_trace c)
+
+pub obj_acts : (i : Input) (intents : List (Uid × Intent)) (c : Coord) → KnowsObjects c → let d = acts i intents c in KnowsObjects d.part × AreOfRoots d.part.tree d.outs
+obj_acts i intents c k = objects_so k (acts_trace c i intents)
+
+pub obj_acked : (from : ℕ) (u : Uid) (intents : List (Uid × Intent)) (c : Coord) → KnowsObjects c → let d = acked from u intents c in KnowsObjects d.part × AreOfRoots d.part.tree d.outs
+obj_acked from u intents c k = objects_so k (acked_trace c from u intents)
 
 pub obj_new : (node inc : ℕ) (records : List (Uid × Intent)) → KnowsObjects (record (new_coord node inc) { telling = records })
-obj_new node inc records = record { works = λ u d at. none (is_own u (let c = new_coord node inc in c.tree)) u.num d at; roots = tt }
-  where
-    none : {P : Type 0} (b : Bool) (j : ℕ) (d : Doing) → cond b (at_place j []) None ≡ Some d → P
-    none true zero d is = let no_way : ◌≡◌ {A = Option Doing} None (Some d) = is in cc
-    none true (suc j) d is = let no_way : ◌≡◌ {A = Option Doing} None (Some d) = is in cc
-    none false j d is = let no_way : ◌≡◌ {A = Option Doing} None (Some d) = is in cc
+obj_new node inc records = record { works = works_new (λ u d. IsNowOf (new_coord node inc).tree d.now) node inc records; roots = tt }
